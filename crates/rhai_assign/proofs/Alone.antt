@@ -9,7 +9,6 @@ use Rattle.rhai_tree.specs.declared.expr.OpAssignment.{OpAssignment}
 use Rattle.rhai_tree.specs.declared.expr.Stmt.{Stmt, out-Stmt}
 use Rattle.rhai_tree.specs.Frame.{all_resolve, resolves_expr, resolves_stmt, target_resolves, tests_of}
 use Rattle.rhai_tree.specs.Layers.{StmtLayer}
-use Rattle.rhai_tree.specs.Names.{Name}
 use Rattle.rhai_tree.proofs.Walk.{resolves-stmt}
 use Rattle.rhai_state.specs.declared.scope.Scope.{Scope}
 use Rattle.rhai_state.specs.declared.scope.ScopeEntry.{ScopeEntry}
@@ -26,20 +25,21 @@ use Rattle.rhai_machine.specs.language.Values.{unit_value}
 use Rattle.rhai_steps.specs.States.{local_of, state_of}
 use Rattle.rhai_operands.proofs.Names.{both}
 use Rattle.rhai_assign.specs.InPlace.{charged_at}
+use Rattle.rhai_tree.specs.Names.{Frame as NamesFrame}
 
 -- both sides of an assignment that resolves do
-pub sides_resolve : (stmt : Stmt) (op : OpAssignment) (lhs rhs : Expr) (names : List Name) →
-    out-Stmt stmt ≡ layer.Assignment op lhs rhs → IsTrue (resolves_stmt stmt names).0 →
-    IsTrue (target_resolves (tests_of lhs) names) × IsTrue (resolves_expr rhs names)
-sides_resolve stmt op lhs rhs names is h = both (target_resolves (tests_of lhs) names) (resolves_expr rhs names)
+pub sides_resolve : (stmt : Stmt) (op : OpAssignment) (lhs rhs : Expr) (frame : NamesFrame) →
+    out-Stmt stmt ≡ layer.Assignment op lhs rhs → IsTrue (resolves_stmt stmt frame).0 →
+    IsTrue (target_resolves (tests_of lhs) frame) × IsTrue (resolves_expr rhs frame)
+sides_resolve stmt op lhs rhs frame is h = both (target_resolves (tests_of lhs) frame) (resolves_expr rhs frame)
     (rw (resolves-stmt stmt (layer.Assignment op lhs rhs) is) at h)
 
 -- those of a list's only statement do
-pub only_resolves : (stmts : List Stmt) (stmt : Stmt) (op : OpAssignment) (lhs rhs : Expr) (names : List Name) → stmts ≡ stmt ∷ [] →
-    out-Stmt stmt ≡ layer.Assignment op lhs rhs → IsTrue (all_resolve (map resolves_stmt stmts) names).0 →
-    IsTrue (target_resolves (tests_of lhs) names) × IsTrue (resolves_expr rhs names)
-only_resolves stmts stmt op lhs rhs names one is h =
-    sides_resolve stmt op lhs rhs names is (both (resolves_stmt stmt names).0 true (rw one at h)).0
+pub only_resolves : (stmts : List Stmt) (stmt : Stmt) (op : OpAssignment) (lhs rhs : Expr) (frame : NamesFrame) → stmts ≡ stmt ∷ [] →
+    out-Stmt stmt ≡ layer.Assignment op lhs rhs → IsTrue (all_resolve (map resolves_stmt stmts) frame).0 →
+    IsTrue (target_resolves (tests_of lhs) frame) × IsTrue (resolves_expr rhs frame)
+only_resolves stmts stmt op lhs rhs frame one is h =
+    sides_resolve stmt op lhs rhs frame is (both (resolves_stmt stmt frame).0 true (rw one at h)).0
 
 -- a list of one item
 pub one_item : {A : Type 0} (xs : List A) (x : A) → x ≡ get_or xs 0 x → 1 ≤ length xs → length xs < 2 → xs ≡ x ∷ []

@@ -11,7 +11,7 @@ ghost use Rattle.rhai_machine.specs.language.Places.{InCell, InFocus, focus_in_c
 ghost use Rattle.rhai_machine.specs.language.Places.{focus_target as focus_target_of};
 ghost use Rattle.rhai_machine.specs.language.Setting.{rules_of};
 ghost use Rattle.rhai_machine.specs.language.Values.{unit_value as unit};
-ghost use Rattle.rhai_steps.specs.Agreement.{KeepsSearch};
+ghost use Rattle.rhai_steps.specs.Agreement.{KeepsSight};
 ghost use Rattle.rhai_steps.specs.States.{state_of};
 ghost use Rattle.rhai_assign.specs.Chains.{AssignsAtOnce, FindsFocus, FollowsFocus, IsWritable};
 ghost use Rattle.rhai_assign.specs.Follows.{FollowsAssign};
@@ -126,7 +126,7 @@ pub(crate) fn assign_in_cell<H: Host, T: NativeTable<H>>(
 ) -> Result<Dynamic<H>, EvalAltResult<H>>
     requires { IsWritable (value_of_cell (cells_of global.old.cells) id.number) }
     ensures keeps { KeepsHeld global.old global.new }
-    ensures search { KeepsSearch global.old global.new }
+    ensures sight { KeepsSight global.old global.new }
     ensures runs { (offer : _) (scope : _) (held : _) (path : _) (name : _) (inner : _) →
         offer.fast_operators ≡ fast → value_of_cell (cells_of global.old.cells) id.number ≡ Some inner →
         FollowsAssign (rules_of limits.now H.name_of offer T.natives)
@@ -172,7 +172,7 @@ pub fn assign_focus<H: Host, T: NativeTable<H>>(
     fast: bool,
 ) -> Result<Dynamic<H>, EvalAltResult<H>>
     ensures keeps { KeepsHeld global.old global.new }
-    ensures search { KeepsSearch global.old global.new }
+    ensures sight { KeepsSight global.old global.new }
     ensures runs { (offer : _) (scope : _) (held : _) → offer.fast_operators ≡ fast →
         FollowsFocus (rules_of limits.now H.name_of offer T.natives) root.now op value
         (placed InFocus target.old (state_of (T.state table.old) global.old scope held))
@@ -211,7 +211,7 @@ pub fn assign_inserted<H: Host, T: NativeTable<H>>(
 ) -> Result<Dynamic<H>, EvalAltResult<H>>
     requires { target.old ≡ unit }
     ensures keeps { KeepsHeld global.old global.new }
-    ensures search { KeepsSearch global.old global.new }
+    ensures sight { KeepsSight global.old global.new }
     ensures runs { (offer : _) (scope : _) (held : _) → offer.fast_operators ≡ fast →
         AssignsAtOnce (rules_of limits.now H.name_of offer T.natives) root.now op value
         (placed InFocus target.old (state_of (T.state table.old) global.old scope held))

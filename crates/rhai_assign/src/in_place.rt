@@ -11,7 +11,7 @@ ghost use Rattle.rhai_machine.specs.language.Frames.{OpenStmt};
 ghost use Rattle.rhai_machine.specs.language.Runs.{Runs};
 ghost use Rattle.rhai_machine.specs.language.Setting.{rules_of};
 ghost use Rattle.rhai_machine.specs.language.Values.{unit_value as unit};
-ghost use Rattle.rhai_steps.specs.Agreement.{AgreesAt, KeepsSearch, variable_is_good};
+ghost use Rattle.rhai_steps.specs.Agreement.{AgreesAt, KeepsSight, variable_is_good};
 ghost use Rattle.rhai_steps.specs.States.{state_of};
 ghost use Rattle.rhai_context.specs.Ends.{came};
 ghost use Rattle.rhai_operands.specs.Standing.{standing};
@@ -31,7 +31,7 @@ use rhai_state::scope::Scope;
 use rhai_state::state::GlobalRuntimeState;
 use rhai_state::table::NativeTable;
 use rhai_steps::charges::{charge_all, track_operation};
-use rhai_steps::variables::{is_plain, place_by_offset};
+use rhai_steps::variables::place_by_offset;
 use rhai_tree::expr::{Expr, Namespace, OpAssignment};
 use rhai_tree::position::Position;
 use rhai_tree::token::Token;
@@ -60,7 +60,7 @@ fn prepare<H: Host>(
     pos: Position,
     operand: &Expr,
 ) -> Option<Ready<H>>
-    requires good { AgreesAt global.now scope.now (variable_is_good offset name.now) }
+    requires good { AgreesAt global.now scope.now (variable_is_good offset name.now namespace.now.path) }
     requires resolves { AgreesAt global.now scope.now (resolves_expr operand.now) }
     ensures found { is_some result ≡ is_some (assigned_by (Some token)
         (named_target (cells_of global.now.cells) namespace.now.path name.now pos (entries_of scope.now))
@@ -110,7 +110,7 @@ pub(crate) fn assign_integer<H: Host, T: NativeTable<H>>(
     ensures charged { result ≡ true → global.new ≡ record global.old
         { num_operations = global.old.num_operations + charges } }
     ensures keeps { Keeps global.old global.new scope.old scope.new }
-    ensures search { KeepsSearch global.old global.new }
+    ensures sight { KeepsSight global.old global.new }
     ensures runs { result ≡ true → (offer : _) (held : _) (restoring : _) (level : _) →
         offer.fast_operators ≡ true → Runs (rules_of limits.now H.name_of offer T.natives)
         (OpenStmt (layer.Assignment op.now lhs.now rhs.now) restoring)
@@ -126,13 +126,10 @@ pub(crate) fn assign_integer<H: Host, T: NativeTable<H>>(
     else {
         return false;
     };
-    if !is_plain(namespace) {
-        return false;
-    }
     let Some(token) = op.op else {
         return false;
     };
-    let Some(index) = place_by_offset(global, scope, *offset, name) else {
+    let Some(index) = place_by_offset(global, scope, *offset, name, namespace) else {
         return false;
     };
     let target = writable_integer(scope.value_at(index));
@@ -174,7 +171,7 @@ fn assign_prepared<H: Host, T: NativeTable<H>>(
     ensures left_global { result ≡ None → global.new ≡ global.old }
     ensures left_scope { result ≡ None → scope.new ≡ scope.old }
     ensures keeps { Keeps global.old global.new scope.old scope.new }
-    ensures search { KeepsSearch global.old global.new }
+    ensures sight { KeepsSight global.old global.new }
     ensures runs { (offer : _) (held : _) (restoring : _) → offer.fast_operators ≡ true →
         IfSome result (λ result. Runs (rules_of limits.now H.name_of offer T.natives)
         (OpenStmt (layer.Assignment op lhs.now rhs.now) restoring)
@@ -228,7 +225,7 @@ fn assign_others<H: Host, T: NativeTable<H>>(
     ensures left_global { result ≡ None → global.new ≡ global.old }
     ensures left_scope { result ≡ None → scope.new ≡ scope.old }
     ensures keeps { Keeps global.old global.new scope.old scope.new }
-    ensures search { KeepsSearch global.old global.new }
+    ensures sight { KeepsSight global.old global.new }
     ensures runs { (offer : _) (held : _) (restoring : _) → offer.fast_operators ≡ true →
         IfSome result (λ done. Runs (rules_of limits.now H.name_of offer T.natives)
         (OpenStmt (layer.Assignment op.now lhs.now rhs.now) restoring)
@@ -268,7 +265,7 @@ pub fn assign_in_place<H: Host, T: NativeTable<H>>(
     ensures left_global { result ≡ None → global.new ≡ global.old }
     ensures left_scope { result ≡ None → scope.new ≡ scope.old }
     ensures keeps { Keeps global.old global.new scope.old scope.new }
-    ensures search { KeepsSearch global.old global.new }
+    ensures sight { KeepsSight global.old global.new }
     ensures runs { (offer : _) (held : _) (restoring : _) → offer.fast_operators ≡ true →
         IfSome result (λ done. Runs (rules_of limits.now H.name_of offer T.natives)
         (OpenStmt (layer.Assignment op.now lhs.now rhs.now) restoring)

@@ -8,7 +8,7 @@ ghost use Rattle.rhai_machine.specs.language.Setting.{rules_of};
 ghost use Rattle.rhai_machine.specs.language.Frames.{Assign, AssignThis};
 ghost use Rattle.rhai_machine.specs.language.Runs.{Runs};
 ghost use Rattle.rhai_machine.specs.language.Variables.{variable_named};
-ghost use Rattle.rhai_steps.specs.Agreement.{AgreesAt, KeepsSearch, variable_is_good};
+ghost use Rattle.rhai_steps.specs.Agreement.{AgreesAt, KeepsSight, variable_is_good};
 ghost use Rattle.rhai_steps.specs.Offers.{Offers};
 ghost use Rattle.rhai_steps.specs.States.{holding, state_of};
 ghost use Rattle.rhai_context.specs.Ends.{came};
@@ -50,9 +50,9 @@ pub fn assign_left<H: Host, T: NativeTable<H>>(
     op: OpAssignment,
     fast: bool,
 ) -> bool
-    requires { AgreesAt global.old scope.old (variable_is_good offset name.now) }
+    requires { AgreesAt global.old scope.old (variable_is_good offset name.now namespace.now.path) }
     ensures counts { global.old.num_operations ≤ global.new.num_operations }
-    ensures search { KeepsSearch global.old global.new }
+    ensures sight { KeepsSight global.old global.new }
     ensures names { names_in scope.new ≡ names_in scope.old }
     ensures runs { (offer : _) (held : _) → Offers offer offered.now → offer.fast_operators ≡ fast →
         Runs (rules_of limits.now H.name_of offer T.natives)
@@ -85,7 +85,7 @@ pub fn assign_left_to_this<H: Host, T: NativeTable<H>>(
     fast: bool,
 ) -> bool
     ensures counts { global.old.num_operations ≤ global.new.num_operations }
-    ensures search { KeepsSearch global.old global.new }
+    ensures sight { KeepsSight global.old global.new }
     ensures runs { (offer : _) (scope : _) → offer.fast_operators ≡ fast →
         Runs (rules_of limits.now H.name_of offer T.natives) (AssignThis op pos out.old)
         (state_of (T.state table.old) global.old scope (holding this.old))

@@ -22,7 +22,7 @@ ghost use Rattle.rhai_machine.specs.language.Setting.{rules_of};
 ghost use Rattle.rhai_machine.specs.language.Frames.{Assign};
 ghost use Rattle.rhai_machine.specs.language.Runs.{Runs};
 ghost use Rattle.rhai_machine.specs.language.Variables.{variable_named};
-ghost use Rattle.rhai_steps.specs.Agreement.{AgreesAt, KeepsSearch, variable_is_good};
+ghost use Rattle.rhai_steps.specs.Agreement.{AgreesAt, KeepsSight, variable_is_good};
 ghost use Rattle.rhai_steps.specs.Offers.{Offers};
 ghost use Rattle.rhai_steps.specs.States.{state_of};
 
@@ -70,9 +70,9 @@ pub fn assign_variable<H: Host, T: NativeTable<H>>(
     value: Dynamic<H>,
     fast: bool,
 ) -> Result<Dynamic<H>, EvalAltResult<H>>
-    requires { AgreesAt global.old scope.old (variable_is_good offset name.now) }
+    requires { AgreesAt global.old scope.old (variable_is_good offset name.now namespace.now.path) }
     ensures counts { global.old.num_operations ≤ global.new.num_operations }
-    ensures search { KeepsSearch global.old global.new }
+    ensures sight { KeepsSight global.old global.new }
     ensures names { names_in scope.new ≡ names_in scope.old }
     ensures runs { (offer : _) (held : _) → Offers offer offered.now → offer.fast_operators ≡ fast →
         Runs (rules_of limits.now H.name_of offer T.natives)

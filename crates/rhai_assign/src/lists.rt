@@ -8,7 +8,7 @@ ghost use Rattle.rhai_machine.specs.language.Runs.{Runs};
 ghost use Rattle.rhai_machine.specs.language.Setting.{rules_of};
 ghost use Rattle.rhai_machine.specs.language.Statements.{deeper};
 ghost use Rattle.rhai_machine.specs.language.Values.{unit_value as unit};
-ghost use Rattle.rhai_steps.specs.Agreement.{AgreesAt, KeepsSearch, passes};
+ghost use Rattle.rhai_steps.specs.Agreement.{AgreesAt, KeepsSight, passes};
 ghost use Rattle.rhai_steps.specs.Saves.{left_global, saved_in, saved_now};
 ghost use Rattle.rhai_steps.specs.States.{state_of};
 
@@ -37,7 +37,7 @@ fn assign_alone<H: Host, T: NativeTable<H>>(
     ensures left_global { result ≡ false → global.new ≡ global.old }
     ensures left_scope { result ≡ false → scope.new ≡ scope.old }
     ensures counts { global.old.num_operations ≤ global.new.num_operations }
-    ensures search { KeepsSearch global.old global.new }
+    ensures sight { KeepsSight global.old global.new }
     ensures names { names_in scope.new ≡ names_in scope.old }
     ensures runs { result ≡ true → (offer : _) (held : _) → offer.fast_operators ≡ is_fast →
         Runs (rules_of limits.now H.name_of offer T.natives) (Enter statements.now true)
@@ -75,7 +75,7 @@ pub fn open_list<H: Host, T: NativeTable<H>>(
         ≡ record global.old { scope_level = deeper global.old.scope_level }) }
     ensures scope { IfSome result (λ _. scope.new ≡ scope.old) }
     ensures counts { global.old.num_operations ≤ global.new.num_operations }
-    ensures search { KeepsSearch global.old global.new }
+    ensures sight { KeepsSight global.old global.new }
     ensures names { names_in scope.new ≡ names_in scope.old }
     ensures done { result ≡ None → (offer : _) (held : _) → offer.fast_operators ≡ is_fast →
         Runs (rules_of limits.now H.name_of offer T.natives) (Enter statements.now true)

@@ -9,7 +9,7 @@ ghost use Rattle.rhai_machine.specs.language.Calls.{replied as replied_at};
 ghost use Rattle.rhai_machine.specs.language.Frames.{AskUpdate, Fail, InPlace};
 ghost use Rattle.rhai_machine.specs.language.Assignment.{native_of, says_missing as missing_said};
 ghost use Rattle.rhai_machine.specs.language.Runs.{Steps};
-ghost use Rattle.rhai_steps.specs.Agreement.{KeepsSearch};
+ghost use Rattle.rhai_steps.specs.Agreement.{KeepsSight};
 ghost use Rattle.rhai_steps.specs.States.{state_of};
 ghost use Rattle.rhai_assign.specs.Follows.{Asked};
 ghost use Rattle.rhai_assign.specs.Keeps.{Charges};
@@ -112,7 +112,7 @@ pub(crate) fn ask_native<H: Host, T: NativeTable<H>>(
     requires own { IsOwnCell update.cell (cells_of global.old.cells) }
     requires free { IsFree target.old }
     ensures charges { Charges global.old global.new }
-    ensures search { KeepsSearch global.old global.new }
+    ensures sight { KeepsSight global.old global.new }
     ensures left { IfOk result (λ _. IsNoHandle target.new.value) }
     ensures refused { IfErr result (λ e. (offer : _) (scope : _) (held : _) (place : _) (attempt : _)
         (operand : _) → name.now ≡ native_of attempt update.token →

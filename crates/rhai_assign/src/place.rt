@@ -135,7 +135,7 @@ pub(crate) fn find_named<H: Host>(
     namespace: &Namespace,
     pos: Position,
 ) -> Option<Place>
-    requires { AgreesAt global.now scope.now (variable_is_good offset name.now) }
+    requires { AgreesAt global.now scope.now (variable_is_good offset name.now namespace.now.path) }
     ensures { FindsNamed result (entries_of scope.now) (cells_of global.now.cells)
         (named_target (cells_of global.now.cells) namespace.now.path name.now pos (entries_of scope.now)) }
 {
@@ -186,7 +186,7 @@ pub(crate) fn find_target<H: Host>(
     namespace: &Namespace,
     pos: Position,
 ) -> Result<Place, EvalAltResult<H>>
-    requires { AgreesAt global.now scope.now (variable_is_good offset name.now) }
+    requires { AgreesAt global.now scope.now (variable_is_good offset name.now namespace.now.path) }
     ensures { Finds result (entries_of scope.now) (cells_of global.now.cells)
         (target_of (globals_in offered.now) (surroundings_of global.now) (entries_of scope.now)
         (variable_named name.now namespace.now pos)) }

@@ -4,7 +4,7 @@ ghost use Rattle.std.specs.Prelude.{◌≡◌, ◌≤◌, [], Some, false};
 ghost use Rattle.rhai_values.specs.Cells.{cells_of, value_of_cell};
 ghost use Rattle.rhai_machine.specs.language.Places.{focus_in_cell, this_target as this_target_of};
 ghost use Rattle.rhai_machine.specs.language.Setting.{rules_of};
-ghost use Rattle.rhai_steps.specs.Agreement.{KeepsSearch};
+ghost use Rattle.rhai_steps.specs.Agreement.{KeepsSight};
 ghost use Rattle.rhai_steps.specs.States.{state_of};
 ghost use Rattle.rhai_assign.specs.Chains.{FindsThis, FollowsThis};
 ghost use Rattle.rhai_assign.specs.Keeps.{KeepsHeld};
@@ -96,7 +96,7 @@ pub fn assign_this<H: Host, T: NativeTable<H>>(
     fast: bool,
 ) -> Result<Dynamic<H>, EvalAltResult<H>>
     ensures keeps { KeepsHeld global.old global.new }
-    ensures search { KeepsSearch global.old global.new }
+    ensures sight { KeepsSight global.old global.new }
     ensures runs { (offer : _) (scope : _) (focus : _) → offer.fast_operators ≡ fast →
         FollowsThis (rules_of limits.now H.name_of offer T.natives) op pos value
         (state_of (T.state table.old) global.old scope (record { this = Some this.old; focus = focus }))

@@ -7,7 +7,7 @@ ghost use Rattle.rhai_machine.specs.language.Setting.{rules_of};
 ghost use Rattle.rhai_machine.specs.language.Places.{is_constant, target as target_in};
 ghost use Rattle.rhai_machine.specs.language.Frames.{AskUpdate, AsValue, InPlace};
 ghost use Rattle.rhai_machine.specs.language.Runs.{Runs};
-ghost use Rattle.rhai_steps.specs.Agreement.{KeepsSearch};
+ghost use Rattle.rhai_steps.specs.Agreement.{KeepsSight};
 ghost use Rattle.rhai_steps.specs.States.{state_of};
 ghost use Rattle.rhai_assign.specs.Follows.{FollowsAssign, FollowsTry, FollowsUpdate};
 ghost use Rattle.rhai_assign.specs.Keeps.{Charges, Keeps};
@@ -46,7 +46,7 @@ fn update_by_value<H: Host, T: NativeTable<H>>(
     requires own { IsOwnCell update.cell (cells_of global.old.cells) }
     requires plain { IsNoHandle target.old.value }
     ensures keeps { Charges global.old global.new }
-    ensures search { KeepsSearch global.old global.new }
+    ensures sight { KeepsSight global.old global.new }
     ensures runs { (offer : _) (scope : _) (held : _) (place : _) (operand : _) →
         IsLentFrom place update.cell → rest.now ≡ operand ∷ [] →
         Runs (rules_of limits.now H.name_of offer T.natives)
@@ -78,7 +78,7 @@ fn update_again<H: Host, T: NativeTable<H>>(
     requires plain { IsNoHandle target.old.value }
     requires one { length rest.now ≡ 1 }
     ensures keeps { Charges global.old global.new }
-    ensures search { KeepsSearch global.old global.new }
+    ensures sight { KeepsSight global.old global.new }
     ensures runs { (offer : _) (scope : _) (held : _) (place : _) (operand : _) →
         IsLentFrom place update.cell → rest.now ≡ operand ∷ [] →
         FollowsUpdate (rules_of limits.now H.name_of offer T.natives)
@@ -107,7 +107,7 @@ fn update_in_place<H: Host, T: NativeTable<H>>(
     requires free { IsFree target.old }
     requires one { length rest.now ≡ 1 }
     ensures keeps { Charges global.old global.new }
-    ensures search { KeepsSearch global.old global.new }
+    ensures sight { KeepsSight global.old global.new }
     ensures runs { (offer : _) (scope : _) (held : _) (place : _) (operand : _) →
         IsLentFrom place update.cell → rest.now ≡ operand ∷ [] →
         Runs (rules_of limits.now H.name_of offer T.natives)
@@ -142,7 +142,7 @@ pub(crate) fn update_by_natives<H: Host, T: NativeTable<H>>(
     requires own { IsOwnCell update.cell (cells_of global.old.cells) }
     requires free { IsFree target.old }
     ensures keeps { Charges global.old global.new }
-    ensures search { KeepsSearch global.old global.new }
+    ensures sight { KeepsSight global.old global.new }
     ensures runs { (offer : _) (scope : _) (held : _) (place : _) → IsLentFrom place update.cell →
         Runs (rules_of limits.now H.name_of offer T.natives)
         (AskUpdate (update_of update InPlace place target.old operand))
@@ -174,7 +174,7 @@ fn update_by_builtin<H: Host, T: NativeTable<H>>(
     requires own { IsOwnCell update.cell (cells_of global.old.cells) }
     requires free { IsFree target.old }
     ensures keeps { Charges global.old global.new }
-    ensures search { KeepsSearch global.old global.new }
+    ensures sight { KeepsSight global.old global.new }
     ensures runs { (offer : _) (scope : _) (held : _) (place : _) → IsLentFrom place update.cell →
         FollowsUpdate (rules_of limits.now H.name_of offer T.natives)
         (update_of update InPlace place target.old operand)
@@ -204,7 +204,7 @@ fn update<H: Host, T: NativeTable<H>>(
     requires own { IsOwnCell update.cell (cells_of global.old.cells) }
     requires free { IsFree target.old }
     ensures keeps { Charges global.old global.new }
-    ensures search { KeepsSearch global.old global.new }
+    ensures sight { KeepsSight global.old global.new }
     ensures runs { (offer : _) (scope : _) (held : _) (place : _) → offer.fast_operators ≡ fast →
         IsLentFrom place update.cell → FollowsTry (rules_of limits.now H.name_of offer T.natives)
         (update_of update InPlace place target.old operand)
@@ -235,7 +235,7 @@ pub(crate) fn assign_lent<H: Host, T: NativeTable<H>>(
     requires own { IsOwnCell cell (cells_of global.old.cells) }
     requires free { IsFree target.old }
     ensures keeps { Charges global.old global.new }
-    ensures search { KeepsSearch global.old global.new }
+    ensures sight { KeepsSight global.old global.new }
     ensures runs { (offer : _) (scope : _) (held : _) (path : _) (name : _) (place : _) →
         offer.fast_operators ≡ fast → IsLentFrom place cell →
         FollowsAssign (rules_of limits.now H.name_of offer T.natives)
@@ -278,7 +278,7 @@ fn update_at<H: Host, T: NativeTable<H>>(
     requires writable { is_constant (standing_at place scope.old global.old.cells).mode ≡ false }
     requires lent { by.cell ≡ own_cell place }
     ensures keeps { Keeps global.old global.new scope.old scope.new }
-    ensures search { KeepsSearch global.old global.new }
+    ensures sight { KeepsSight global.old global.new }
     ensures runs { (offer : _) (held : _) → offer.fast_operators ≡ fast →
         FollowsTry (rules_of limits.now H.name_of offer T.natives)
         (update_of by InPlace (place_in place) (standing_at place scope.old global.old.cells) operand)
@@ -307,7 +307,7 @@ pub(crate) fn store<H: Host, T: NativeTable<H>>(
     requires stands { stands_at place scope.old global.old.cells ≡ true }
     requires writable { is_constant (standing_at place scope.old global.old.cells).mode ≡ false }
     ensures keeps { Keeps global.old global.new scope.old scope.new }
-    ensures search { KeepsSearch global.old global.new }
+    ensures sight { KeepsSight global.old global.new }
     ensures runs { (offer : _) (held : _) (path : _) (name : _) → offer.fast_operators ≡ fast →
         FollowsAssign (rules_of limits.now H.name_of offer T.natives)
         (record { path = path; name = name; at = pos; op = op })

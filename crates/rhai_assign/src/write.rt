@@ -6,7 +6,7 @@ ghost use Rattle.rhai_machine.specs.language.State.{Answers};
 ghost use Rattle.rhai_machine.specs.language.Calls.{applied as applied_at, sized as sized_at};
 ghost use Rattle.rhai_machine.specs.language.Places.{put as put_at};
 ghost use Rattle.rhai_machine.specs.language.Assignment.{written_core};
-ghost use Rattle.rhai_steps.specs.Agreement.{KeepsSearch};
+ghost use Rattle.rhai_steps.specs.Agreement.{KeepsSight};
 ghost use Rattle.rhai_steps.specs.States.{local_of};
 ghost use Rattle.rhai_assign.specs.Targets.{place_in, stands_at};
 ghost use Rattle.rhai_assign.specs.Updates.{Becomes, changed_of, finished};
@@ -71,7 +71,7 @@ pub(crate) fn write_outcome<H: Host>(
 ) -> Result<Dynamic<H>, EvalAltResult<H>>
     requires { stands_at place scope.old global.old.cells ≡ true }
     ensures counts { global.new.num_operations ≡ global.old.num_operations }
-    ensures search { KeepsSearch global.old global.new }
+    ensures sight { KeepsSight global.old global.new }
     ensures names { names_in scope.new ≡ names_in scope.old }
     ensures written { (held : _) →
         Becomes (written_core (applied_at limits.now outcome at) (place_in place))

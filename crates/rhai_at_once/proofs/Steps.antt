@@ -13,7 +13,6 @@ use Rattle.rhai_tree.specs.declared.expr.Namespace.{Namespace}
 use Rattle.rhai_tree.specs.declared.position.Position.{Position}
 use Rattle.rhai_tree.specs.declared.token.Token.{Token}
 use Rattle.rhai_tree.specs.Frame.{all_resolve_exprs, resolves_call, resolves_expr, tests_of}
-use Rattle.rhai_tree.specs.Names.{Name}
 use Rattle.rhai_values.specs.declared.base.value.Dynamic.{Dynamic}
 use Rattle.rhai_values.specs.declared.base.value.Union.{Union}
 use Rattle.rhai_values.specs.declared.base.value.Union.TheVariants as value
@@ -63,6 +62,7 @@ use Rattle.rhai_dispatch.specs.Variables.{is_lendable}
 use Rattle.rhai_dispatch.proofs.Going.{on_called}
 use Rattle.rhai_dispatch.proofs.Passing.{on_lent}
 use Rattle.rhai_at_once.specs.AtOnce.{IsLone}
+use Rattle.rhai_tree.specs.Names.{Frame as NamesFrame}
 
 -- ---- the native
 
@@ -161,11 +161,11 @@ number_told H limits host z left rest operation cells = integer_sized H limits z
 -- ---- the call
 
 -- the argument resolves
-pub argument_resolves : (call : FnCallExpr) (arg : Expr) (pos : Position) (names : List Name) → IsLone call arg →
-    IsTrue (resolves_call call pos names) → IsTrue (resolves_expr arg names)
-argument_resolves call arg pos names lone h =
-    (both (resolves_expr arg names) true
-    (subst (λ (args : List Expr). IsTrue (all_resolve_exprs (map tests_of args) names)) lone.alone (operands_of_call call pos names h))).0
+pub argument_resolves : (call : FnCallExpr) (arg : Expr) (pos : Position) (frame : NamesFrame) → IsLone call arg →
+    IsTrue (resolves_call call pos frame) → IsTrue (resolves_expr arg frame)
+argument_resolves call arg pos frame lone h =
+    (both (resolves_expr arg frame) true
+    (subst (λ (args : List Expr). IsTrue (all_resolve_exprs (map tests_of args) frame)) lone.alone (operands_of_call call pos frame h))).0
 
 -- it is no operator's
 no_operator : (fast : Bool) (op : Option Token) (args : List Expr) → op ≡ None → is_operator_form fast op args ≡ false

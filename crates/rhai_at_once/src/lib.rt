@@ -18,7 +18,7 @@ ghost use Rattle.rhai_machine.specs.language.Calls.{replied as replied_at};
 ghost use Rattle.rhai_machine.specs.language.Runs.{Runs};
 ghost use Rattle.rhai_machine.specs.language.Setting.{rules_of};
 ghost use Rattle.rhai_machine.specs.language.State.{Answers, HasMemory};
-ghost use Rattle.rhai_steps.specs.Agreement.{AgreesAt, KeepsSearch};
+ghost use Rattle.rhai_steps.specs.Agreement.{AgreesAt, KeepsSight};
 ghost use Rattle.rhai_steps.specs.States.{state_of, surroundings_of};
 ghost use Rattle.rhai_context.specs.Ends.{came};
 ghost use Rattle.rhai_calls.specs.Dispatch.{plain_found};
@@ -215,7 +215,7 @@ fn call_entry<H: Host, T: NativeTable<H>>(
     requires lendable { IfSome (option_map value_of (slice_get (entries_of scope.old) index))
         (λ v. is_lent v ≡ true) }
     ensures counts { global.old.num_operations ≤ global.new.num_operations }
-    ensures search { KeepsSearch global.old global.new }
+    ensures sight { KeepsSight global.old global.new }
     ensures names { names_in scope.new ≡ names_in scope.old }
     ensures runs { (offer : _) (held : _) (v : _) → value_in (entries_of scope.old) (Some index) ≡ Some v →
         Runs (rules_of limits.now H.name_of offer T.natives)
@@ -263,7 +263,7 @@ pub fn call_at_once<H: Host, T: NativeTable<H>>(
     ensures left_scope { result ≡ None → scope.new ≡ scope.old }
     ensures left_table { result ≡ None → T.state table.new ≡ T.state table.old }
     ensures counts { global.old.num_operations ≤ global.new.num_operations }
-    ensures search { KeepsSearch global.old global.new }
+    ensures sight { KeepsSight global.old global.new }
     ensures names { names_in scope.new ≡ names_in scope.old }
     ensures runs { (offer : _) (held : _) → Offers offer offered.now → IfSome result (λ done.
         Runs (rules_of limits.now H.name_of offer T.natives) (OpenExpr (layer.Expr::FnCall call.now pos))

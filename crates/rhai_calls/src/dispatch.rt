@@ -14,7 +14,7 @@ ghost use Rattle.rhai_machine.specs.language.Frames.{Ask};
 ghost use Rattle.rhai_machine.specs.language.Setting.{rules_of};
 ghost use Rattle.rhai_machine.specs.language.State.{Answers};
 ghost use Rattle.rhai_machine.specs.language.Values.{through};
-ghost use Rattle.rhai_steps.specs.Agreement.{KeepsSearch};
+ghost use Rattle.rhai_steps.specs.Agreement.{KeepsSight};
 ghost use Rattle.rhai_steps.specs.States.{local_of, state_of, surroundings_of};
 ghost use Rattle.rhai_calls.specs.Called.{Calls, with_args};
 ghost use Rattle.rhai_calls.specs.Dispatch.{knows, meant, meant_of, meant_of_two, method_found, plain_found};
@@ -410,7 +410,7 @@ pub fn pass_call<H: Host, T: NativeTable<H>>(
     pos: Position,
 ) -> Dispatched<H>
     ensures counts { global.old.num_operations ≤ global.new.num_operations }
-    ensures search { KeepsSearch global.old global.new }
+    ensures sight { KeepsSight global.old global.new }
     ensures runs { (offer : _) (scope : _) (held : _) (lender : _) (on_scope : _) → Offers offer offered.now →
         Stands lender first.old (local_of global.old scope held) →
         Dispatches (rules_of limits.now H.name_of offer T.natives) (how_of seeks on_scope)
@@ -495,7 +495,7 @@ fn native_all<H: Host, T: NativeTable<H>>(
     pos: Position,
 ) -> Result<(Dynamic<H>, bool), EvalAltResult<H>>
     ensures counts { global.old.num_operations ≤ global.new.num_operations }
-    ensures search { KeepsSearch global.old global.new }
+    ensures sight { KeepsSight global.old global.new }
     ensures runs { (offer : _) (scope : _) (held : _) →
         MarkedRuns (rules_of limits.now H.name_of offer T.natives)
         (Ask (passed_call (record { name = name.now; token = token; at = pos }) None false marks args.old))
@@ -534,7 +534,7 @@ pub fn pass_all<H: Host, T: NativeTable<H>>(
     pos: Position,
 ) -> Dispatched<H>
     ensures counts { global.old.num_operations ≤ global.new.num_operations }
-    ensures search { KeepsSearch global.old global.new }
+    ensures sight { KeepsSight global.old global.new }
     ensures runs { (offer : _) (scope : _) (held : _) (on_scope : _) → Offers offer offered.now →
         Dispatches (rules_of limits.now H.name_of offer T.natives) (plainly natives_alone on_scope)
         (passed_call (record { name = name.now; token = token; at = pos }) None false marks args.old)
@@ -580,7 +580,7 @@ pub fn call_all<H: Host, T: NativeTable<H>>(
     pos: Position,
 ) -> Called<H>
     ensures counts { global.old.num_operations ≤ global.new.num_operations }
-    ensures search { KeepsSearch global.old global.new }
+    ensures sight { KeepsSight global.old global.new }
     ensures runs { (offer : _) (scope : _) (held : _) (on_scope : _) → Offers offer offered.now →
         Calls (rules_of limits.now H.name_of offer T.natives) (plainly natives_alone on_scope)
         (call_of (record { name = name.now; token = token; at = pos }) args.old)

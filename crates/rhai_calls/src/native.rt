@@ -8,7 +8,7 @@ ghost use Rattle.rhai_machine.specs.language.Calls.{call_of};
 ghost use Rattle.rhai_machine.specs.language.Frames.{Ask, Question};
 ghost use Rattle.rhai_machine.specs.language.Runs.{Runs};
 ghost use Rattle.rhai_machine.specs.language.Setting.{rules_of};
-ghost use Rattle.rhai_steps.specs.Agreement.{KeepsSearch};
+ghost use Rattle.rhai_steps.specs.Agreement.{KeepsSight};
 ghost use Rattle.rhai_steps.specs.States.{local_of, state_of};
 ghost use Rattle.rhai_calls.specs.Lending.{back_in, lent_call, passed_call, Stands};
 ghost use Rattle.rhai_calls.specs.Marks.{gives, with_mark, without_mark, MarkedRuns};
@@ -331,7 +331,7 @@ fn call_first<H: Host, T: NativeTable<H>>(
     pos: Position,
 ) -> Result<(Dynamic<H>, bool), EvalAltResult<H>>
     ensures counts { global.new.num_operations ≡ global.old.num_operations }
-    ensures search { KeepsSearch global.old global.new }
+    ensures sight { KeepsSight global.old global.new }
     ensures runs { (offer : _) (scope : _) (held : _) (lender : _) →
         Stands lender first.old (local_of global.old scope held) →
         MarkedRuns (rules_of limits.now H.name_of offer T.natives)
@@ -418,7 +418,7 @@ pub fn pass_native<H: Host, T: NativeTable<H>>(
     pos: Position,
 ) -> Result<(Dynamic<H>, bool), EvalAltResult<H>>
     ensures counts { global.old.num_operations ≤ global.new.num_operations }
-    ensures search { KeepsSearch global.old global.new }
+    ensures sight { KeepsSight global.old global.new }
     ensures runs { (offer : _) (scope : _) (held : _) (lender : _) →
         Stands lender first.old (local_of global.old scope held) →
         MarkedRuns (rules_of limits.now H.name_of offer T.natives)
@@ -449,7 +449,7 @@ pub fn pass_native_alone<H: Host, T: NativeTable<H>>(
     pos: Position,
 ) -> Result<(Dynamic<H>, bool), EvalAltResult<H>>
     ensures counts { global.old.num_operations ≤ global.new.num_operations }
-    ensures search { KeepsSearch global.old global.new }
+    ensures sight { KeepsSight global.old global.new }
     ensures runs { (offer : _) (scope : _) (held : _) →
         MarkedRuns (rules_of limits.now H.name_of offer T.natives)
         (Ask (passed_call (record { name = name.now; token = token; at = pos }) None false marks []))
@@ -479,7 +479,7 @@ pub fn call_native<H: Host, T: NativeTable<H>>(
     pos: Position,
 ) -> Result<Dynamic<H>, EvalAltResult<H>>
     ensures counts { global.old.num_operations ≤ global.new.num_operations }
-    ensures search { KeepsSearch global.old global.new }
+    ensures sight { KeepsSight global.old global.new }
     ensures runs { (offer : _) (scope : _) (held : _) (lender : _) →
         Stands lender first.old (local_of global.old scope held) →
         Runs (rules_of limits.now H.name_of offer T.natives)
@@ -514,7 +514,7 @@ pub fn call_number<H: Host, T: NativeTable<H>>(
     pos: Position,
 ) -> Result<Dynamic<H>, EvalAltResult<H>>
     ensures counts { global.old.num_operations ≤ global.new.num_operations }
-    ensures search { KeepsSearch global.old global.new }
+    ensures sight { KeepsSight global.old global.new }
     ensures runs { (offer : _) (scope : _) (held : _) → Runs (rules_of limits.now H.name_of offer T.natives)
         (Question (record (call_of (record { name = name.now; token = None; at = pos })
         (first.old ∷ rest.now)) { number = Some id.number }))
@@ -557,7 +557,7 @@ pub fn call_number_on<H: Host, T: NativeTable<H>>(
     pos: Position,
 ) -> Result<(Dynamic<H>, bool), EvalAltResult<H>>
     ensures counts { global.old.num_operations ≤ global.new.num_operations }
-    ensures search { KeepsSearch global.old global.new }
+    ensures sight { KeepsSight global.old global.new }
     ensures runs { (offer : _) (scope : _) (held : _) (lender : _) →
         Stands lender first.old (local_of global.old scope held) →
         MarkedRuns (rules_of limits.now H.name_of offer T.natives)
@@ -599,7 +599,7 @@ pub fn call_number_alone<H: Host, T: NativeTable<H>>(
     pos: Position,
 ) -> Result<Dynamic<H>, EvalAltResult<H>>
     ensures counts { global.old.num_operations ≤ global.new.num_operations }
-    ensures search { KeepsSearch global.old global.new }
+    ensures sight { KeepsSight global.old global.new }
     ensures runs { (offer : _) (scope : _) (held : _) → Runs (rules_of limits.now H.name_of offer T.natives)
         (Question (record (call_of (record { name = name.now; token = None; at = pos }) [])
         { number = Some id.number }))

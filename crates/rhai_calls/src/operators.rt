@@ -4,7 +4,7 @@
 ghost use Rattle.std.specs.Prelude.{◌≡◌, ◌≤◌, ◌∷◌, [], IsTrue, false};
 ghost use Rattle.rhai_machine.specs.language.Calls.{call_at, plainly};
 ghost use Rattle.rhai_machine.specs.language.Setting.{rules_of};
-ghost use Rattle.rhai_steps.specs.Agreement.{KeepsSearch};
+ghost use Rattle.rhai_steps.specs.Agreement.{KeepsSight};
 ghost use Rattle.rhai_steps.specs.States.{state_of};
 ghost use Rattle.rhai_calls.specs.Called.{Calls, with_args};
 ghost use Rattle.rhai_steps.specs.Offers.{Offers};
@@ -61,7 +61,7 @@ fn call_listed<H: Host, T: NativeTable<H>>(
     pos: Position,
 ) -> Called<H>
     ensures counts { global.old.num_operations ≤ global.new.num_operations }
-    ensures search { KeepsSearch global.old global.new }
+    ensures sight { KeepsSight global.old global.new }
     ensures runs { (offer : _) (scope : _) (held : _) (values : _) → Offers offer offered.now →
         (IsTrue are_there → operands.old ≡ values) →
         Calls (rules_of limits.now H.name_of offer T.natives) (plainly false false)
@@ -98,7 +98,7 @@ pub fn operate_one<H: Host, T: NativeTable<H>>(
 ) -> Called<H>
     requires { operands.old ≡ [] }
     ensures counts { global.old.num_operations ≤ global.new.num_operations }
-    ensures search { KeepsSearch global.old global.new }
+    ensures sight { KeepsSight global.old global.new }
     ensures runs { (offer : _) (scope : _) (held : _) → Offers offer offered.now → Operates
         (rules_of limits.now H.name_of offer T.natives)
         (call_at call.now.name token pos (out.old ∷ []))
@@ -137,7 +137,7 @@ pub fn operate_two<H: Host, T: NativeTable<H>>(
 ) -> Called<H>
     requires { operands.old ≡ [] }
     ensures counts { global.old.num_operations ≤ global.new.num_operations }
-    ensures search { KeepsSearch global.old global.new }
+    ensures sight { KeepsSight global.old global.new }
     ensures runs { (offer : _) (scope : _) (held : _) → Offers offer offered.now → Operates
         (rules_of limits.now H.name_of offer T.natives)
         (call_at call.now.name token pos (left ∷ out.old ∷ []))

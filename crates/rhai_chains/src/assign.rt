@@ -21,7 +21,7 @@ ghost use Rattle.rhai_machine.specs.language.Setting.{rules_of};
 ghost use Rattle.rhai_machine.specs.language.State.{Answers};
 ghost use Rattle.rhai_machine.specs.language.Unwinding.{looked_at};
 ghost use Rattle.rhai_machine.specs.language.Values.{unit_value as unit};
-ghost use Rattle.rhai_steps.specs.Agreement.{KeepsSearch};
+ghost use Rattle.rhai_steps.specs.Agreement.{KeepsSight};
 ghost use Rattle.rhai_steps.specs.States.{state_of};
 ghost use Rattle.rhai_calls.specs.Marks.{with_mark};
 ghost use Rattle.rhai_steps.specs.Marked.{lending, RunsFrom};
@@ -169,7 +169,7 @@ fn assign_to<H: Host, T: NativeTable<H>>(
     new: NewValue<H>,
 ) -> Result<Dynamic<H>, EvalAltResult<H>>
     ensures counts { global.old.num_operations ≤ global.new.num_operations }
-    ensures search { KeepsSearch global.old global.new }
+    ensures sight { KeepsSight global.old global.new }
     ensures runs { (offer : _) (scope : _) (held : _) → offer.fast_operators ≡ fast →
         let rules = rules_of limits.now H.name_of offer T.natives in
         FollowsUnless (target.old ≡ unit) rules (assign_focus_core rules.setting root.now (new_value new))
@@ -197,7 +197,7 @@ fn assign_item<H: Host, T: NativeTable<H>>(
 ) -> Result<(Dynamic<H>, bool), EvalAltResult<H>>
     requires { IsPlace (layer_of source.old) spot }
     ensures counts { global.old.num_operations ≤ global.new.num_operations }
-    ensures search { KeepsSearch global.old global.new }
+    ensures sight { KeepsSight global.old global.new }
     ensures runs { (offer : _) (scope : _) (held : _) → offer.fast_operators ≡ fast →
         let rules = rules_of limits.now H.name_of offer T.natives in
         FollowsUnless (value_at source.old spot ≡ Some unit) rules
@@ -225,7 +225,7 @@ fn assign_property<H: Host, T: NativeTable<H>>(
 ) -> Result<(Dynamic<H>, bool), EvalAltResult<H>>
     requires { IsPlace (layer_of source.old) spot }
     ensures counts { global.old.num_operations ≤ global.new.num_operations }
-    ensures search { KeepsSearch global.old global.new }
+    ensures sight { KeepsSight global.old global.new }
     ensures runs { (offer : _) (scope : _) (held : _) → offer.fast_operators ≡ fast →
         let rules = rules_of limits.now H.name_of offer T.natives in
         FollowsUnless (value_at source.old spot ≡ Some unit) rules
@@ -273,7 +273,7 @@ fn assign_read<H: Host, T: NativeTable<H>>(
     requires there { IsPart (layer_of source.old) spot }
     requires read { part ≡ part_of source.old spot }
     ensures counts { global.old.num_operations ≤ global.new.num_operations }
-    ensures search { KeepsSearch global.old global.new }
+    ensures sight { KeepsSight global.old global.new }
     ensures runs { (offer : _) (scope : _) (held : _) (link : _) → offer.fast_operators ≡ fast →
         let rules = rules_of limits.now H.name_of offer T.natives in
         FollowsFrom rules (assign_spot_core rules.setting false spot link root.now (new_value new) source.old)
@@ -308,7 +308,7 @@ fn assign_part<H: Host, T: NativeTable<H>>(
 ) -> Result<(Dynamic<H>, bool), EvalAltResult<H>>
     requires { IsPart (layer_of source.old) spot }
     ensures counts { global.old.num_operations ≤ global.new.num_operations }
-    ensures search { KeepsSearch global.old global.new }
+    ensures sight { KeepsSight global.old global.new }
     ensures runs { (offer : _) (scope : _) (held : _) (link : _) → offer.fast_operators ≡ fast →
         let rules = rules_of limits.now H.name_of offer T.natives in
         FollowsFrom rules (assign_spot_core rules.setting false spot link root.now (new_value new) source.old)
@@ -342,7 +342,7 @@ fn assign_place<H: Host, T: NativeTable<H>>(
 ) -> Result<(Dynamic<H>, bool), EvalAltResult<H>>
     requires { IsPlace (layer_of source.old) spot }
     ensures counts { global.old.num_operations ≤ global.new.num_operations }
-    ensures search { KeepsSearch global.old global.new }
+    ensures sight { KeepsSight global.old global.new }
     ensures runs { (offer : _) (scope : _) (held : _) → offer.fast_operators ≡ fast →
         let rules = rules_of limits.now H.name_of offer T.natives in
         FollowsUnless (value_at source.old spot ≡ Some unit) rules
@@ -385,7 +385,7 @@ fn assign_spot<H: Host, T: NativeTable<H>>(
 ) -> Result<(Dynamic<H>, bool), EvalAltResult<H>>
     requires { IsKept (layer_of source.old) spot }
     ensures counts { global.old.num_operations ≤ global.new.num_operations }
-    ensures search { KeepsSearch global.old global.new }
+    ensures sight { KeepsSight global.old global.new }
     ensures runs { (offer : _) (scope : _) (held : _) → offer.fast_operators ≡ fast →
         let rules = rules_of limits.now H.name_of offer T.natives in
         FollowsUnless (value_at source.old spot ≡ Some unit) rules
@@ -423,7 +423,7 @@ pub fn assign_at<H: Host, T: NativeTable<H>>(
     new: NewValue<H>,
 ) -> Result<(Dynamic<H>, bool), EvalAltResult<H>>
     ensures counts { global.old.num_operations ≤ global.new.num_operations }
-    ensures search { KeepsSearch global.old global.new }
+    ensures sight { KeepsSight global.old global.new }
     ensures runs { (offer : _) (scope : _) (held : _) (rest : _) (args : _) (in_place : _) →
         HasSwitches offer switches →
         let rules = rules_of limits.now H.name_of offer T.natives in
@@ -481,7 +481,7 @@ fn set_assigned<H: Host, T: NativeTable<H>>(
     value: Dynamic<H>,
 ) -> Result<(Dynamic<H>, bool), EvalAltResult<H>>
     ensures counts { global.old.num_operations ≤ global.new.num_operations }
-    ensures search { KeepsSearch global.old global.new }
+    ensures sight { KeepsSight global.old global.new }
     ensures runs { (offer : _) (scope : _) (held : _) →
         RunsFrom (rules_of limits.now H.name_of offer T.natives) (set_last (access_of access.old) value)
         (state_of (T.state table.old) global.old scope (lending held focus.old))
@@ -508,7 +508,7 @@ fn set_operated<H: Host, T: NativeTable<H>>(
     pos: Position,
 ) -> Result<(Dynamic<H>, bool), EvalAltResult<H>>
     ensures counts { global.old.num_operations ≤ global.new.num_operations }
-    ensures search { KeepsSearch global.old global.new }
+    ensures sight { KeepsSight global.old global.new }
     ensures runs { (offer : _) (scope : _) (held : _) (answer : _) →
         RunsFrom (rules_of limits.now H.name_of offer T.natives)
         (value_operated (access_of access.old) value pos answer)
@@ -538,7 +538,7 @@ fn operate<H: Host, T: NativeTable<H>>(
     new: NewValue<H>,
 ) -> Result<(Dynamic<H>, bool), EvalAltResult<H>>
     ensures counts { global.old.num_operations ≤ global.new.num_operations }
-    ensures search { KeepsSearch global.old global.new }
+    ensures sight { KeepsSight global.old global.new }
     ensures runs { (offer : _) (scope : _) (held : _) → offer.fast_operators ≡ fast →
         RunsFrom (rules_of limits.now H.name_of offer T.natives)
         (value_got (access_of access.old) root.now (new_value new) value)
@@ -582,7 +582,7 @@ fn set_ungot<H: Host, T: NativeTable<H>>(
     new: NewValue<H>,
 ) -> Result<(Dynamic<H>, bool), EvalAltResult<H>>
     ensures counts { global.old.num_operations ≤ global.new.num_operations }
-    ensures search { KeepsSearch global.old global.new }
+    ensures sight { KeepsSight global.old global.new }
     ensures runs { (offer : _) (scope : _) (held : _) (root : _) →
         RunsFrom (rules_of limits.now H.name_of offer T.natives)
         (none_got (access_of access.old) root (new_value new) error)
@@ -615,7 +615,7 @@ pub fn assign_member<H: Host, T: NativeTable<H>>(
     new: NewValue<H>,
 ) -> Result<(Dynamic<H>, bool), EvalAltResult<H>>
     ensures counts { global.old.num_operations ≤ global.new.num_operations }
-    ensures search { KeepsSearch global.old global.new }
+    ensures sight { KeepsSight global.old global.new }
     ensures runs { (offer : _) (scope : _) (held : _) → HasSwitches offer switches →
         let rules = rules_of limits.now H.name_of offer T.natives in
         RunsFrom rules (assign_member_core rules.setting new.op.op (access_of access.old) root.now

@@ -12,7 +12,7 @@ ghost use Rattle.rhai_machine.specs.language.Members.{set_property as property_s
 ghost use Rattle.rhai_machine.specs.language.Members.{lacks_indexer as lacks_indexer_in};
 ghost use Rattle.rhai_machine.specs.language.Members.{lacks_property as lacks_property_in};
 ghost use Rattle.rhai_machine.specs.language.Setting.{rules_of};
-ghost use Rattle.rhai_steps.specs.Agreement.{KeepsSearch};
+ghost use Rattle.rhai_steps.specs.Agreement.{KeepsSight};
 ghost use Rattle.rhai_steps.specs.States.{state_of};
 ghost use Rattle.rhai_calls.specs.Marks.{MarkedRuns};
 ghost use Rattle.rhai_steps.specs.Marked.{lending, RunsFrom};
@@ -109,7 +109,7 @@ fn ask_property<H: Host, T: NativeTable<H>>(
     pos: Position,
 ) -> Result<(Dynamic<H>, bool), EvalAltResult<H>>
     ensures counts { global.old.num_operations ≤ global.new.num_operations }
-    ensures search { KeepsSearch global.old global.new }
+    ensures sight { KeepsSight global.old global.new }
     ensures runs { (offer : _) (scope : _) (held : _) →
         MarkedRuns (rules_of limits.now H.name_of offer T.natives)
         (Ask (lent_call (operation_named (prefix.now ++ name.now) pos) passing.guarded passing.marks
@@ -138,7 +138,7 @@ fn ask_item<H: Host, T: NativeTable<H>>(
     at: Position,
 ) -> Result<(Dynamic<H>, bool), EvalAltResult<H>>
     ensures counts { global.old.num_operations ≤ global.new.num_operations }
-    ensures search { KeepsSearch global.old global.new }
+    ensures sight { KeepsSight global.old global.new }
     ensures runs { (offer : _) (scope : _) (held : _) →
         MarkedRuns (rules_of limits.now H.name_of offer T.natives) (Ask (item_got at focus.old index.old))
         (state_of (T.state table.old) global.old scope (lending held focus.old))
@@ -190,7 +190,7 @@ fn ask_setter<H: Host, T: NativeTable<H>>(
     pos: Position,
 ) -> Result<(Dynamic<H>, bool), EvalAltResult<H>>
     ensures counts { global.old.num_operations ≤ global.new.num_operations }
-    ensures search { KeepsSearch global.old global.new }
+    ensures sight { KeepsSight global.old global.new }
     ensures runs { (offer : _) (scope : _) (held : _) →
         MarkedRuns (rules_of limits.now H.name_of offer T.natives)
         (Ask (property_set name.now pos guarded focus.old value.old))
@@ -233,7 +233,7 @@ fn ask_to_set<H: Host, T: NativeTable<H>>(
     at: Position,
 ) -> Result<(Dynamic<H>, bool), EvalAltResult<H>>
     ensures counts { global.old.num_operations ≤ global.new.num_operations }
-    ensures search { KeepsSearch global.old global.new }
+    ensures sight { KeepsSight global.old global.new }
     ensures runs { (offer : _) (scope : _) (held : _) →
         MarkedRuns (rules_of limits.now H.name_of offer T.natives)
         (Ask (item_set at guarded focus.old index value))
@@ -301,7 +301,7 @@ fn get_named<H: Host, T: NativeTable<H>>(
     missing: EvalAltResult<H>,
 ) -> Result<(Dynamic<H>, bool), EvalAltResult<H>>
     ensures counts { global.old.num_operations ≤ global.new.num_operations }
-    ensures search { KeepsSearch global.old global.new }
+    ensures sight { KeepsSight global.old global.new }
     ensures runs { (offer : _) (scope : _) (held : _) →
         RunsFrom (rules_of limits.now H.name_of offer T.natives)
         (λ k l. core (Ask (item_got at (focus_of l) (named name.now))) (IndexerTried (Err missing) ∷ k) l)
@@ -336,7 +336,7 @@ fn get_property<H: Host, T: NativeTable<H>>(
     guarded: bool,
 ) -> Result<(Dynamic<H>, bool), EvalAltResult<H>>
     ensures counts { global.old.num_operations ≤ global.new.num_operations }
-    ensures search { KeepsSearch global.old global.new }
+    ensures sight { KeepsSight global.old global.new }
     ensures runs { (offer : _) (scope : _) (held : _) (member : _) →
         RunsFrom (rules_of limits.now H.name_of offer T.natives)
         (got_by (Property name.now pos) (record { member = member; at = at; guarded = guarded }))
@@ -378,7 +378,7 @@ pub fn get_member<H: Host, T: NativeTable<H>>(
     access: &mut MemberAccess<'_, H>,
 ) -> Result<(Dynamic<H>, bool), EvalAltResult<H>>
     ensures counts { global.old.num_operations ≤ global.new.num_operations }
-    ensures search { KeepsSearch global.old global.new }
+    ensures sight { KeepsSight global.old global.new }
     ensures runs { (offer : _) (scope : _) (held : _) →
         RunsFrom (rules_of limits.now H.name_of offer T.natives) (get_core (access_of access.old))
         (state_of (T.state table.old) global.old scope (lending held focus.old))
@@ -410,7 +410,7 @@ fn set_named<H: Host, T: NativeTable<H>>(
     otherwise: Result<Dynamic<H>, EvalAltResult<H>>,
 ) -> Result<(Dynamic<H>, bool), EvalAltResult<H>>
     ensures counts { global.old.num_operations ≤ global.new.num_operations }
-    ensures search { KeepsSearch global.old global.new }
+    ensures sight { KeepsSight global.old global.new }
     ensures runs { (offer : _) (scope : _) (held : _) →
         RunsFrom (rules_of limits.now H.name_of offer T.natives)
         (λ k l. core (Ask (item_set at guarded (focus_of l) (named name.now) value))
@@ -460,7 +460,7 @@ fn set_property<H: Host, T: NativeTable<H>>(
     ignores: bool,
 ) -> Result<(Dynamic<H>, bool), EvalAltResult<H>>
     ensures counts { global.old.num_operations ≤ global.new.num_operations }
-    ensures search { KeepsSearch global.old global.new }
+    ensures sight { KeepsSight global.old global.new }
     ensures runs { (offer : _) (scope : _) (held : _) (member : _) →
         RunsFrom (rules_of limits.now H.name_of offer T.natives)
         (set_by (Property name.now pos) ignores
@@ -504,7 +504,7 @@ fn set_item<H: Host, T: NativeTable<H>>(
     ignores: bool,
 ) -> Result<(Dynamic<H>, bool), EvalAltResult<H>>
     ensures counts { global.old.num_operations ≤ global.new.num_operations }
-    ensures search { KeepsSearch global.old global.new }
+    ensures sight { KeepsSight global.old global.new }
     ensures runs { (offer : _) (scope : _) (held : _) (member : _) →
         RunsFrom (rules_of limits.now H.name_of offer T.natives)
         (set_by (Item index) ignores (record { member = member; at = at; guarded = guarded }) value)
@@ -539,7 +539,7 @@ pub fn set_member<H: Host, T: NativeTable<H>>(
     ignores: bool,
 ) -> Result<(Dynamic<H>, bool), EvalAltResult<H>>
     ensures counts { global.old.num_operations ≤ global.new.num_operations }
-    ensures search { KeepsSearch global.old global.new }
+    ensures sight { KeepsSight global.old global.new }
     ensures runs { (offer : _) (scope : _) (held : _) →
         RunsFrom (rules_of limits.now H.name_of offer T.natives)
         (set_core ignores (access_of access.old) value)

@@ -1,5 +1,5 @@
 -- What is found behind an operator of a chain.
-use Rattle.std.proofs.Common.{◌≡◌, ap, refl, sym, ◌∙◌, subst, Bool, true, false, ◌||◌, ◌&&◌, IsTrue, List, [], ◌∷◌, ◌++◌, Result}
+use Rattle.std.proofs.Common.{◌≡◌, ap, refl, sym, ◌∙◌, subst, Bool, true, false, ◌||◌, ◌&&◌, IsTrue, List, [], ◌∷◌, Result}
 use Rattle.std.proofs.lemmas.List.{append-nil}
 use Rattle.std.specs.Prelude.{Option, Some, None}
 use Rattle.std.specs.Result.{IfErr, OnOk}
@@ -21,7 +21,7 @@ use Rattle.rhai_tree.specs.Context.{Context}
 use Rattle.rhai_check.specs.Declares as declares
 use Rattle.rhai_check.specs.Declares.{declares_expr}
 use Rattle.rhai_tree.specs.Frame.{tests_of, resolves_expr, dot_resolves, name_resolves, bracket_resolves}
-use Rattle.rhai_tree.specs.Names.{Name}
+use Rattle.rhai_tree.specs.Names.{Frame}
 use Rattle.rhai_tree.specs.Reading as walk
 use Rattle.rhai_tree.specs.Reading.{faulty, sound}
 use Rattle.rhai_check.specs.Refusals.{IsFirst, Refuses}
@@ -29,6 +29,8 @@ use Rattle.rhai_tree.specs.WellFormed.{seen_expr, dot_faults, name_faults}
 use Rattle.rhai_check.proofs.Outcome.{ok_then}
 use Rattle.rhai_check.proofs.Refused.{refuses_more, refuses_first, refuses_later}
 use Rattle.rhai_check.proofs.Walk.{expr_declares, declares-expr}
+use Rattle.rhai_check.specs.Around.{above}
+use Rattle.rhai_check.specs.declared.check.declared.Declared.{Declared}
 
 module _ (r : walk.Reading) where
   -- what is seen of the parts of one level
@@ -172,9 +174,9 @@ and_true false = refl
 pub passes_as : {A : Type 0} (r : Result A CheckFault) (fs gs : List CheckFault) → gs ≡ fs → OnOk r (fs ≡ []) → OnOk r (gs ≡ [])
 passes_as r fs gs is h = ok_then r (λ none. is ∙ none) h
 
-pub runs_as : {A : Type 0} (r : Result A CheckFault) (f g : walk.Finds sound) (names : List Name) → ((ns : List Name) → g ns ≡ f ns)
-    → OnOk r ((base : List Name) → IsTrue (f (base ++ names))) → OnOk r ((base : List Name) → IsTrue (g (base ++ names)))
-runs_as r f g names is h = ok_then r (λ runs base. is (base ++ names) ∙ runs base) h
+pub runs_as : {A : Type 0} (r : Result A CheckFault) (f g : walk.Finds sound) (d : Declared) → ((frame : Frame) → g frame ≡ f frame)
+    → OnOk r ((base : Frame) → IsTrue (f (above base d))) → OnOk r ((base : Frame) → IsTrue (g (above base d)))
+runs_as r f g d is h = ok_then r (λ runs base. is (above base d) ∙ runs base) h
 
 pub refused_as : {A : Type 0} (r : Result A CheckFault) (fs gs : List CheckFault) (declares : Bool) → gs ≡ fs
     → IfErr r (λ fault. Refuses fs declares fault) → IfErr r (λ fault. Refuses gs declares fault)
@@ -191,11 +193,11 @@ both_true : (a b : Bool) → IsTrue (a && true) → IsTrue b → IsTrue (a && b)
 both_true true b one other = other
 both_true false b one other = one
 
-name_runs : (named : Option (walk.Finds sound)) (behind : walk.Finds sound) (pos : Position) (names : List Name)
-    → IsTrue (walk.found_from_name sound named (walk.nothing sound) pos names) → IsTrue (behind names)
-    → IsTrue (walk.found_from_name sound named behind pos names)
-name_runs (Some value) behind pos names one other = both_true (value names) (behind names) one other
-name_runs None behind pos names one other = one
+name_runs : (named : Option (walk.Finds sound)) (behind : walk.Finds sound) (pos : Position) (frame : Frame)
+    → IsTrue (walk.found_from_name sound named (walk.nothing sound) pos frame) → IsTrue (behind frame)
+    → IsTrue (walk.found_from_name sound named behind pos frame)
+name_runs (Some value) behind pos frame one other = both_true (value frame) (behind frame) one other
+name_runs None behind pos frame one other = one
 
 name_refused : (named : Option (walk.Finds faulty)) (behind : walk.Finds faulty) (pos : Position) (c : Context) (a b : Bool)
     → (fault : CheckFault) → Refuses (walk.found_from_name faulty named (walk.nothing faulty) pos c) a fault
@@ -246,22 +248,22 @@ module _ (e first rest : Expr) (l : ExprLayer) (ends : Bool) (behind : walk.Find
 
 -- such a chain may run
 pub chain_runs : {A : Type 0} (r : Result A CheckFault) (e first : Expr) (l : ExprLayer) (ends : Bool) (behind : walk.Finds sound)
-    → (method : Bool) (pos : Position) (names : List Name) → ends ≡ false → out-Expr e ≡ l
+    → (method : Bool) (pos : Position) (d : Declared) → ends ≡ false → out-Expr e ≡ l
     → (level sound l).link ≡ walk.GoesOn (tests_of first).value (walk.named_in sound (tests_of first).link) behind method
-    → ((base : List Name) → IsTrue (name_resolves (tests_of first).link pos (base ++ names)))
-    → OnOk r ((base : List Name) → IsTrue (behind (base ++ names)))
-    → OnOk r ((base : List Name) → IsTrue (dot_resolves ends (tests_of e).link pos (base ++ names)))
-chain_runs r e first l ends behind method pos names goes is linked one h =
-    ok_then r (λ other base. goes_on sound e l ends (tests_of first) behind method pos (base ++ names) goes is linked
-    ∙ name_runs (walk.named_in sound (tests_of first).link) behind pos (base ++ names) (one base) (other base)) h
+    → ((base : Frame) → IsTrue (name_resolves (tests_of first).link pos (above base d)))
+    → OnOk r ((base : Frame) → IsTrue (behind (above base d)))
+    → OnOk r ((base : Frame) → IsTrue (dot_resolves ends (tests_of e).link pos (above base d)))
+chain_runs r e first l ends behind method pos d goes is linked one h =
+    ok_then r (λ other base. goes_on sound e l ends (tests_of first) behind method pos (above base d) goes is linked
+    ∙ name_runs (walk.named_in sound (tests_of first).link) behind pos (above base d) (one base) (other base)) h
 
 -- a chain that goes on behind a bracket may run where its index and what is behind that may
 pub bracket_runs : {A : Type 0} (r : Result A CheckFault) (e first : Expr) (l : ExprLayer) (ends : Bool) (behind : walk.Finds sound)
-    → (method : Bool) (names : List Name) → ends ≡ false → out-Expr e ≡ l
+    → (method : Bool) (d : Declared) → ends ≡ false → out-Expr e ≡ l
     → (level sound l).link ≡ walk.GoesOn (tests_of first).value (walk.named_in sound (tests_of first).link) behind method
-    → ((base : List Name) → IsTrue (resolves_expr first (base ++ names)))
-    → OnOk r ((base : List Name) → IsTrue (behind (base ++ names)))
-    → OnOk r ((base : List Name) → IsTrue (bracket_resolves ends (tests_of e) (base ++ names)))
-bracket_runs r e first l ends behind method names goes is linked one h =
-    ok_then r (λ other base. bracket_on sound e l ends (tests_of first) behind method (base ++ names) goes is linked
-    ∙ both_true (resolves_expr first (base ++ names)) (behind (base ++ names)) (and_true _ ∙ one base) (other base)) h
+    → ((base : Frame) → IsTrue (resolves_expr first (above base d)))
+    → OnOk r ((base : Frame) → IsTrue (behind (above base d)))
+    → OnOk r ((base : Frame) → IsTrue (bracket_resolves ends (tests_of e) (above base d)))
+bracket_runs r e first l ends behind method d goes is linked one h =
+    ok_then r (λ other base. bracket_on sound e l ends (tests_of first) behind method (above base d) goes is linked
+    ∙ both_true (resolves_expr first (above base d)) (behind (above base d)) (and_true _ ∙ one base) (other base)) h

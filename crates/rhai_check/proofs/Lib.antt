@@ -1,3 +1,4 @@
+mod Calls
 pub mod Chains
 pub mod Counted
 pub mod MapKeys

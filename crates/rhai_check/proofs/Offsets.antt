@@ -8,8 +8,12 @@ use Rattle.std.specs.Prelude.{Option, Some, None, if◌then◌else◌, is_some, 
 use Rattle.std.specs.Int.NonZero.{non_zero_usize_get}
 use Rattle.std.specs.declared.num.NonZeroUsize.{NonZeroUsize}
 use Rattle.rhai_tree.specs.Forms.{is_unqualified}
-use Rattle.rhai_tree.specs.Names.{Name, further, offset_of, stands, is_good}
+use Rattle.rhai_tree.specs.Names.{Frame, Name, further, offset_of, stands, is_good, is_good_root}
 use Rattle.rhai_tree.specs.Frame.{variable_resolves}
+use Rattle.rhai_tree.specs.Reading as walk
+use Rattle.rhai_tree.specs.Reading.{sound}
+use Rattle.rhai_check.specs.Around.{above}
+use Rattle.rhai_check.specs.declared.check.declared.Declared.{Declared}
 use Rattle.rhai_tree.specs.declared.expr.Namespace.{Namespace}
 use Rattle.rhai_tree.specs.declared.position.Position.{Position}
 
@@ -57,14 +61,14 @@ kept : (o k at : ℕ) (test : Bool) → o ≡ suc k → further o test at ≡ su
 kept (suc o) k at test e = e
 kept zero k at test e = cc
 
-above : (base : List Name) (name : Name) (names : List Name) (k : ℕ) → offset_of name names ≡ suc k → offset_of name (base ++ names) ≡ suc k
-above [] name names k e = e
-above (n ∷ base) name names k e = kept _ k _ (bytes_eq n name) (above base name names k e)
+found_above : (base : List Name) (name : Name) (names : List Name) (k : ℕ) → offset_of name names ≡ suc k → offset_of name (base ++ names) ≡ suc k
+found_above [] name names k e = e
+found_above (n ∷ base) name names k e = kept _ k _ (bytes_eq n name) (found_above base name names k e)
 
 pub stands_above : (base : List Name) (name : Name) (k : ℕ) (names : List Name) → IsTrue (stands name k names) →
     IsTrue (stands name k (base ++ names))
 stands_above base name zero names e = cc
-stands_above base name (suc k) names e = eq-eqb _ _ (above base name names k (eqb-true _ _ e))
+stands_above base name (suc k) names e = eq-eqb _ _ (found_above base name names k (eqb-true _ _ e))
 
 pub good_above : (base : List Name) (offset : Option NonZeroUsize) (name : Name) (names : List Name) → is_good offset name names ≡ true →
     is_good offset name (base ++ names) ≡ true
@@ -78,11 +82,23 @@ among_above : (base : List Name) (offset : Option NonZeroUsize) (name : Name) (p
 among_above base offset name [] names e = good_above base offset name names e
 among_above base offset name (root ∷ path) names e = e
 
--- a variable that may run above some names may run above more
-pub variable_above : (base : List Name) (offset : Option NonZeroUsize) (name : Name) (namespace : Namespace) (pos : Position)
-    (names : List Name) → is_good offset name (if is_unqualified namespace.path then names else []) ≡ true
-    → variable_resolves offset name namespace pos (base ++ names) ≡ true
-variable_above base offset name namespace pos names e = rw (among_above base offset name namespace.path names e) refl
+-- so is the index of a path
+root_above : (base : List Name) (index : Option NonZeroUsize) (path imports : List Name) → is_good_root index path imports ≡ true
+    → is_good_root index path (base ++ imports) ≡ true
+root_above base index [] imports e = refl
+root_above base index (root ∷ path) imports e = good_above base index root imports e
+
+-- a path and a variable that may run above some frame may run above more
+module _ (base : Frame) (namespace : Namespace) (d : Declared) (good : is_good_root namespace.index namespace.path d.imports ≡ true) where
+  pub namespace_above : walk.found_in_namespace sound namespace (above base d) ≡ true
+  namespace_above = rw (root_above base.imports namespace.index namespace.path d.imports good) refl
+
+  pub variable_above : (offset : Option NonZeroUsize) (name : Name) (pos : Position)
+      → is_good offset name (if is_unqualified namespace.path then d.names else []) ≡ true
+      → variable_resolves offset name namespace pos (above base d) ≡ true
+  variable_above offset name pos e =
+      rw (root_above base.imports namespace.index namespace.path d.imports good, among_above base.names offset name namespace.path d.names e)
+      refl
 
 -- behind a path an offset is good where there is none
 apart : (k : ℕ) → zero ≡ suc k → ⊥

@@ -15,17 +15,17 @@ use Rattle.rhai_tree.specs.declared.flags.ASTFlags.{ASTFlags}
 use Rattle.rhai_tree.specs.declared.position.Position.{Position}
 use Rattle.rhai_tree.specs.Layers.{ExprLayer, StmtLayer}
 use Rattle.rhai_tree.specs.Context.{Context, importing}
-use Rattle.rhai_check.specs.Around.{around}
+use Rattle.rhai_check.specs.Around.{above, around}
 use Rattle.rhai_check.specs.Declares as declares
-use Rattle.rhai_check.specs.Declares.{declares_expr, declares_stmt}
+use Rattle.rhai_check.specs.Declares.{declares_expr}
 use Rattle.rhai_tree.specs.Reading as walk
 use Rattle.rhai_tree.specs.Reading.{faulty, sound}
 use Rattle.rhai_tree.specs.Frame.{tests_of, resolves_stmt, var_names}
-use Rattle.rhai_tree.specs.Names.{Name}
+use Rattle.rhai_tree.specs.Names.{Frame, Name, with_import}
 use Rattle.rhai_check.specs.Refusals.{IsFirst, Refuses}
 use Rattle.rhai_tree.specs.WellFormed.{seen_expr, seen_stmt, target_faults, control_faults, var_faults}
 use Rattle.rhai_check.proofs.Refused.{refuses_more}
-use Rattle.rhai_check.proofs.Scopes.{around_var, above_var}
+use Rattle.rhai_check.proofs.Scopes.{around_var, above_var, imported_above}
 use Rattle.rhai_check.proofs.Walk.{expr_faults, stmt_faults, expr_declares, seen-expr, seen-stmt}
 use Rattle.rhai_check.proofs.Walk.{Seen, SeenStmt, refuses_expr_at}
 use Rattle.rhai_tree.proofs.Walk.{Tests, expr_tests, stmt_tests, resolves-expr, resolves-stmt}
@@ -54,39 +54,39 @@ pub exact_stmt_at : {A : Type 0} (r : Result A CheckFault) (s : Stmt) (l : StmtL
     → OnOk r (walk.stmt_step faulty (stmt_faults l) c ≡ ([], d)) → OnOk r (seen_stmt s c ≡ ([], d))
 exact_stmt_at r s l c d is h = subst (λ (f : SeenStmt). OnOk r (f c ≡ ([], d))) (sym (seen-stmt s l is)) h
 
-pub resolved_expr_at : {A : Type 0} (r : Result A CheckFault) (e : Expr) (l : ExprLayer) (names : List Name) → out-Expr e ≡ l
-    → OnOk r ((base : List Name) → IsTrue ((walk.expr_step sound (expr_tests l)).value (base ++ names)))
-    → OnOk r ((base : List Name) → IsTrue ((tests_of e).value (base ++ names)))
-resolved_expr_at r e l names is h =
-    subst (λ (s : Tests). OnOk r ((base : List Name) → IsTrue (s.value (base ++ names)))) (sym (resolves-expr e l is)) h
+pub resolved_expr_at : {A : Type 0} (r : Result A CheckFault) (e : Expr) (l : ExprLayer) (d : Declared) → out-Expr e ≡ l
+    → OnOk r ((base : Frame) → IsTrue ((walk.expr_step sound (expr_tests l)).value (above base d)))
+    → OnOk r ((base : Frame) → IsTrue ((tests_of e).value (above base d)))
+resolved_expr_at r e l d is h =
+    subst (λ (s : Tests). OnOk r ((base : Frame) → IsTrue (s.value (above base d)))) (sym (resolves-expr e l is)) h
 
-pub resolved_stmt_at : {A : Type 0} (r : Result A CheckFault) (s : Stmt) (l : StmtLayer) (names new : List Name) → out-Stmt s ≡ l
-    → OnOk r ((base : List Name) → walk.stmt_step sound (stmt_tests l) (base ++ names) ≡ (true, base ++ new))
-    → OnOk r ((base : List Name) → resolves_stmt s (base ++ names) ≡ (true, base ++ new))
-resolved_stmt_at r s l names new is h = subst
-    (λ (f : walk.SeenStmt sound). OnOk r ((base : List Name) → f (base ++ names) ≡ (true, base ++ new))) (sym (resolves-stmt s l is)) h
+pub resolved_stmt_at : {A : Type 0} (r : Result A CheckFault) (s : Stmt) (l : StmtLayer) (d new : Declared) → out-Stmt s ≡ l
+    → OnOk r ((base : Frame) → walk.stmt_step sound (stmt_tests l) (above base d) ≡ (true, above base new))
+    → OnOk r ((base : Frame) → resolves_stmt s (above base d) ≡ (true, above base new))
+resolved_stmt_at r s l d new is h = subst
+    (λ (f : walk.SeenStmt sound). OnOk r ((base : Frame) → f (above base d) ≡ (true, above base new))) (sym (resolves-stmt s l is)) h
 
 -- a statement that declares nothing may run where what it stands on may
 pub runs_stmt_at : {A : Type 0} (r : Result A CheckFault) (s : Stmt) (l : StmtLayer) (value : walk.Finds sound) (d new : Declared)
-    → out-Stmt s ≡ l → ((ns : List Name) → walk.stmt_step sound (stmt_tests l) ns ≡ (value ns, ns))
-    → OnOk r ((base : List Name) → IsTrue (value (base ++ d.names))) → OnOk r (new ≡ d)
-    → OnOk r ((base : List Name) → resolves_stmt s (base ++ d.names) ≡ (true, base ++ new.names))
+    → out-Stmt s ≡ l → ((frame : Frame) → walk.stmt_step sound (stmt_tests l) frame ≡ (value frame, frame))
+    → OnOk r ((base : Frame) → IsTrue (value (above base d))) → OnOk r (new ≡ d)
+    → OnOk r ((base : Frame) → resolves_stmt s (above base d) ≡ (true, above base new))
 runs_stmt_at (Ok x) s l value d new is whole h same = λ base.
-    ap (λ (f : walk.SeenStmt sound). f (base ++ d.names)) (resolves-stmt s l is) ∙ whole (base ++ d.names)
-    ∙ (λ i. (h base i, base ++ sym (ap (λ (e : Declared). e.names) same) i))
+    ap (λ (f : walk.SeenStmt sound). f (above base d)) (resolves-stmt s l is) ∙ whole (above base d)
+    ∙ (λ i. (h base i, above base (sym same i)))
 runs_stmt_at (Err e) s l value d new is whole h same = tt
 
 -- two parts that may run
-pub both_run : {A : Type 0} (r : Result A CheckFault) (f g : walk.Finds sound) (names : List Name)
-    → ((base : List Name) → IsTrue (f (base ++ names))) → OnOk r ((base : List Name) → IsTrue (g (base ++ names)))
-    → OnOk r ((base : List Name) → IsTrue (f (base ++ names) && g (base ++ names)))
-both_run (Ok x) f g names one other = λ base. ap (λ (b : Bool). b && g (base ++ names)) (one base) ∙ other base
-both_run (Err e) f g names one other = tt
+pub both_run : {A : Type 0} (r : Result A CheckFault) (f g : walk.Finds sound) (d : Declared)
+    → ((base : Frame) → IsTrue (f (above base d))) → OnOk r ((base : Frame) → IsTrue (g (above base d)))
+    → OnOk r ((base : Frame) → IsTrue (f (above base d) && g (above base d)))
+both_run (Ok x) f g d one other = λ base. ap (λ (b : Bool). b && g (above base d)) (one base) ∙ other base
+both_run (Err e) f g d one other = tt
 
 -- a form that may always run
-pub runs_at : (e : Expr) (l : ExprLayer) (names : List Name) → out-Expr e ≡ l → IsTrue ((walk.expr_step sound (expr_tests l)).value names)
-    → IsTrue ((tests_of e).value names)
-runs_at e l names is h = ap (λ (s : Tests). s.value names) (resolves-expr e l is) ∙ h
+pub runs_at : (e : Expr) (l : ExprLayer) (frame : Frame) → out-Expr e ≡ l → IsTrue ((walk.expr_step sound (expr_tests l)).value frame)
+    → IsTrue ((tests_of e).value frame)
+runs_at e l frame is h = ap (λ (s : Tests). s.value frame) (resolves-expr e l is) ∙ h
 
 pub refused_expr_at : {A : Type 0} (r : Result A CheckFault) (e : Expr) (l : ExprLayer) (c : Context) → out-Expr e ≡ l
     → IfErr r (λ fault. Refuses ((walk.expr_step faulty (expr_faults l)).value c) (declares.form_step (expr_declares l)) fault)
@@ -113,10 +113,10 @@ var_passes (Ok x) faults index name place d new none is = rw (none, around_var i
 var_passes (Err e) faults index name place d new none is = tt
 
 pub var_runs : {A : Type 0} (r : Result A CheckFault) (value : walk.Finds sound) (index : Option NonZeroUsize) (name : Name)
-    (d new : Declared) → OnOk r ((base : List Name) → IsTrue (value (base ++ d.names))) → OnOk r (new ≡ record d { names = var_names index name d.names })
-    → OnOk r ((base : List Name) →
-    ◌≡◌ {A = Bool × List Name} (value (base ++ d.names), var_names index name (base ++ d.names)) (true, base ++ new.names))
-var_runs (Ok x) value index name d new h is = λ base. rw (h base, above_var index name base d.names, is) refl
+    (d new : Declared) → OnOk r ((base : Frame) → IsTrue (value (above base d))) → OnOk r (new ≡ record d { names = var_names index name d.names })
+    → OnOk r ((base : Frame) →
+    ◌≡◌ {A = Bool × Frame} (value (above base d), walk.after_var sound index name (above base d)) (true, above base new))
+var_runs (Ok x) value index name d new h is = λ base. rw (h base, above_var index name base d, is) refl
 var_runs (Err e) value index name d new h is = tt
 
 -- an import, with what surrounds the next statement
@@ -127,9 +127,9 @@ import_passes (Ok x) faults name place d new none is = rw (none, is) refl
 import_passes (Err e) faults name place d new none is = tt
 
 pub import_runs : {A : Type 0} (r : Result A CheckFault) (value : walk.Finds sound) (name : Name) (d new : Declared)
-    → ((base : List Name) → IsTrue (value (base ++ d.names))) → OnOk r (new ≡ record d { imports = d.imports ++ name ∷ [] })
-    → OnOk r ((base : List Name) → ◌≡◌ {A = Bool × List Name} (value (base ++ d.names), base ++ d.names) (true, base ++ new.names))
-import_runs (Ok x) value name d new h is = λ base. rw (h base, is) refl
+    → ((base : Frame) → IsTrue (value (above base d))) → OnOk r (new ≡ record d { imports = d.imports ++ name ∷ [] })
+    → OnOk r ((base : Frame) → ◌≡◌ {A = Bool × Frame} (value (above base d), with_import name (above base d)) (true, above base new))
+import_runs (Ok x) value name d new h is = λ base. rw (h base, imported_above base d name, is) refl
 import_runs (Err e) value name d new h is = tt
 
 -- a `break` or a `continue` in a loop

@@ -16,11 +16,11 @@ use Rattle.rhai_tree.specs.declared.position.Position.{Position}
 use Rattle.rhai_tree.specs.Layers.{ExprLayer}
 use Rattle.rhai_tree.specs.Positions.{position_of}
 use Rattle.rhai_tree.specs.Context.{Context, looping, declaring}
-use Rattle.rhai_check.specs.Around.{around, cut, marked, Continues}
+use Rattle.rhai_check.specs.Around.{above, around, cut, marked, Continues}
 use Rattle.rhai_check.specs.Declares.{declares_block, declares_catch, names_a_catch, needs_of}
 use Rattle.rhai_tree.specs.Forms.{catch_name, catch_of}
 use Rattle.rhai_tree.specs.Frame.{with_name, turn_names, var_names, resolves_block, turns_resolve, catch_resolves}
-use Rattle.rhai_tree.specs.Names.{Name, Begins}
+use Rattle.rhai_tree.specs.Names.{Frame, Name, Begins, naming, with_import, with_variable}
 use Rattle.rhai_tree.specs.Reading as walk
 use Rattle.rhai_tree.specs.Reading.{faulty, sound}
 use Rattle.rhai_check.specs.Refusals.{IsFirst, Refuses}
@@ -57,6 +57,20 @@ pub continues_import : (d new : Declared) (name : Name) → new ≡ record d { i
 continues_import d new name is =
     (([], ap (λ (e : Declared). e.names) is ∙ sym (append-nil d.names)), (name ∷ [], ap (λ (e : Declared). e.imports) is))
 
+-- ---- what is declared, above a frame
+
+pub above_none : (base : Frame) → above base (record { names = []; imports = [] }) ≡ base
+above_none base = λ i. record { names = append-nil base.names i; imports = append-nil base.imports i }
+
+named_above : (base : Frame) (d : Declared) (more : List Name) →
+    naming (λ names. names ++ more) (above base d) ≡ above base (record d { names = d.names ++ more })
+named_above base d more = ap (λ (names : List Name). record (above base d) { names = names }) (append_assoc base.names d.names more)
+
+pub imported_above : (base : Frame) (d : Declared) (name : Name) →
+    with_import name (above base d) ≡ above base (record d { imports = d.imports ++ name ∷ [] })
+imported_above base d name =
+    ap (λ (imports : List Name). record (above base d) { imports = imports }) (append_assoc base.imports d.imports (name ∷ []))
+
 -- ---- a variable, which declares its name where it overwrites no other
 
 module _ (index : Option NonZeroUsize) (name : Name) where
@@ -68,11 +82,13 @@ module _ (index : Option NonZeroUsize) (name : Name) where
         | Some offset ↦ refl
       ]
 
-  pub above_var : (base names : List Name) → var_names index name (base ++ names) ≡ base ++ var_names index name names
-  above_var base names = elim index as (λ i. var_names i name (base ++ names) ≡ base ++ var_names i name names) [
-    | None ↦ append_assoc base names (name ∷ [])
-    | Some offset ↦ refl
-  ]
+  pub above_var : (base : Frame) (d : Declared) →
+      walk.after_var sound index name (above base d) ≡ above base (record d { names = var_names index name d.names })
+  above_var base d = elim index as
+      (λ i. walk.after_var sound i name (above base d) ≡ above base (record d { names = var_names i name d.names })) [
+        | None ↦ named_above base d (name ∷ [])
+        | Some offset ↦ refl
+      ]
 
   begins_var : (names : List Name) → Begins names (var_names index name names)
   begins_var names = elim index as (λ i. Begins names (var_names i name names)) [
@@ -98,12 +114,15 @@ module _ (variable : Ident) (counter : Option Ident) (d : Declared) where
       looping (declaring variable.name (walk.after faulty (option_map (walk.name_in faulty) o) (around d place)))
       ≡ around (record d { names = turn_names variable o d.names }) (in_loop place)) [ None ↦ refl | Some ident ↦ refl ]
 
-  -- its names stand above the names before it
-  above_turn : (base : List Name) → turn_names variable counter (base ++ d.names) ≡ base ++ turn_names variable counter d.names
-  above_turn base = elim counter as
-      (λ (o : Option Ident). turn_names variable o (base ++ d.names) ≡ base ++ turn_names variable o d.names) [
-        | None ↦ append_assoc base d.names (variable.name ∷ [])
-        | Some ident ↦ simp append_assoc
+  -- its names stand above the frame before it
+  above_turn : (base : Frame) →
+      with_variable variable.name (walk.after sound (option_map (walk.name_in sound) counter) (above base d)) ≡ above base turned
+  above_turn base = elim counter as (λ (o : Option Ident).
+      with_variable variable.name (walk.after sound (option_map (walk.name_in sound) o) (above base d))
+      ≡ above base (record d { names = turn_names variable o d.names })) [
+        | None ↦ named_above base d (variable.name ∷ [])
+        | Some ident ↦ ap (with_variable variable.name) (named_above base d (ident.name ∷ []))
+            ∙ named_above base (record d { names = d.names ++ ident.name ∷ [] }) (variable.name ∷ [])
       ]
 
   begins_turn : Begins d.names (turn_names variable counter d.names)
@@ -125,8 +144,8 @@ module _ (variable : Ident) (counter : Option Ident) (d : Declared) where
         turn_faults variable counter body (around d place) ≡ []
     turn_passes place h = turn_body place ∙ h
 
-    pub turn_runs : ((base : List Name) → IsTrue (resolves_block body (base ++ turned.names))) →
-        (base : List Name) → IsTrue (turns_resolve variable counter body (base ++ d.names))
+    pub turn_runs : ((base : Frame) → IsTrue (resolves_block body (above base turned))) →
+        (base : Frame) → IsTrue (turns_resolve variable counter body (above base d))
     turn_runs h base = ap (resolves_block body) (above_turn base) ∙ h base
 
     pub turn_refused : (place : Place) (declares : Bool) (fault : CheckFault) →
@@ -143,9 +162,10 @@ around_name : (name : Option Name) (d : Declared) (place : Place) →
 around_name None d place = refl
 around_name (Some name) d place = refl
 
-above_name : (name : Option Name) (base names : List Name) → with_name name (base ++ names) ≡ base ++ with_name name names
-above_name None base names = refl
-above_name (Some name) base names = append_assoc base names (name ∷ [])
+above_name : (name : Option Name) (base : Frame) (d : Declared) →
+    walk.after sound name (above base d) ≡ above base (record d { names = with_name name d.names })
+above_name None base d = refl
+above_name (Some name) base d = named_above base d (name ∷ [])
 
 begins_name : (name : Option Name) (names : List Name) → Begins names (with_name name names)
 begins_name None names = ([], sym (append-nil names))
@@ -168,10 +188,10 @@ caught (Some name) pos branch d new place is =
 caught None pos branch d new place is = absurd is
 
 caught_runs : (catch : Option (Option Name)) (pos : Position) (branch : walk.Finds sound) (d new : Declared) →
-    Caught catch d new → ((base : List Name) → IsTrue (branch (base ++ new.names))) →
-    (base : List Name) → IsTrue (walk.found_in_catch sound catch pos branch (base ++ d.names))
+    Caught catch d new → ((base : Frame) → IsTrue (branch (above base new))) →
+    (base : Frame) → IsTrue (walk.found_in_catch sound catch pos branch (above base d))
 caught_runs (Some name) pos branch d new is h base =
-    ap branch (above_name name base d.names ∙ ap (λ (e : Declared). base ++ e.names) (sym is)) ∙ h base
+    ap branch (above_name name base d ∙ ap (above base) (sym is)) ∙ h base
 caught_runs None pos branch d new is h base = absurd is
 
 module _ (variable : Expr) (branch : StmtBlock) (d new : Declared) (is : Caught (catch_of variable) d new) where
@@ -179,8 +199,8 @@ module _ (variable : Expr) (branch : StmtBlock) (d new : Declared) (is : Caught 
       catch_faults variable branch (around d place) ≡ []
   branch_passes place h = caught (catch_of variable) (position_of variable) (seen_block branch).value d new place is ∙ h
 
-  pub branch_runs : ((base : List Name) → IsTrue (resolves_block branch (base ++ new.names))) →
-      (base : List Name) → IsTrue (catch_resolves variable branch (base ++ d.names))
+  pub branch_runs : ((base : Frame) → IsTrue (resolves_block branch (above base new))) →
+      (base : Frame) → IsTrue (catch_resolves variable branch (above base d))
   branch_runs h base = caught_runs (catch_of variable) (position_of variable) (resolves_block branch) d new is h base
 
   pub branch_refused : (place : Place) (fault : CheckFault) →

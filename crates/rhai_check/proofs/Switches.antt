@@ -17,11 +17,11 @@ use Rattle.rhai_tree.specs.declared.position.Position.{Position}
 use Rattle.rhai_tree.specs.Layers.{StmtLayer}
 use Rattle.rhai_check.specs.declared.check.declared.Declared.{Declared}
 use Rattle.rhai_check.specs.declared.check.place.Place.{Place}
-use Rattle.rhai_check.specs.Around.{around}
+use Rattle.rhai_check.specs.Around.{above, around}
 use Rattle.rhai_tree.specs.Cases.{is_switch}
 use Rattle.rhai_tree.specs.Context.{Context}
 use Rattle.rhai_tree.specs.Frame.{resolves_expr, resolves_stmt, resolves_conditional, conditionals_resolve}
-use Rattle.rhai_tree.specs.Names.{Name}
+use Rattle.rhai_tree.specs.Names.{Frame}
 use Rattle.rhai_tree.specs.Forms.{any_of}
 use Rattle.rhai_check.specs.Declares.{declares_expr, declares_conditional, declares_stmt}
 use Rattle.rhai_tree.specs.Reading as walk
@@ -98,9 +98,9 @@ module _ (s : Stmt) (expr : Expr) (parts : List ConditionalExpr) (cases : List S
             fs ++ faults_in_conditionals (map seen_conditional parts) (around d place)) none ∙ rest) h) same)
 
       pub switch_runs : {A : Type 0} (r : Result A CheckFault) (new : Declared) →
-          ((base : List Name) → IsTrue (resolves_expr expr (base ++ d.names))) →
-          OnOk r ((base : List Name) → IsTrue (conditionals_resolve (map resolves_conditional parts) (base ++ d.names))) →
-          OnOk r (new ≡ d) → OnOk r ((base : List Name) → resolves_stmt s (base ++ d.names) ≡ (true, base ++ new.names))
+          ((base : Frame) → IsTrue (resolves_expr expr (above base d))) →
+          OnOk r ((base : Frame) → IsTrue (conditionals_resolve (map resolves_conditional parts) (above base d))) →
+          OnOk r (new ≡ d) → OnOk r ((base : Frame) → resolves_stmt s (above base d) ≡ (true, above base new))
       switch_runs r new one h same = runs_stmt_at r s form
           (λ ns. resolves_expr expr ns && conditionals_resolve (map resolves_conditional parts) ns) d new is
           (λ ns i. (
@@ -108,4 +108,4 @@ module _ (s : Stmt) (expr : Expr) (parts : List ConditionalExpr) (cases : List S
                 && (resolves_expr expr ns && conditionals_resolve (map resolves_conditional parts) ns),
             ns,
           ))
-          (both_run r (resolves_expr expr) (conditionals_resolve (map resolves_conditional parts)) d.names one h) same
+          (both_run r (resolves_expr expr) (conditionals_resolve (map resolves_conditional parts)) d one h) same

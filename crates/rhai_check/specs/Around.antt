@@ -1,10 +1,10 @@
 -- What surrounds a form at the place where the checker stands.
-use Rattle.std.specs.Prelude.{length, take}
+use Rattle.std.specs.Prelude.{◌++◌, length, take}
 use Rattle.rhai_check.specs.declared.check.declared.Declared.{Declared}
 use Rattle.rhai_check.specs.declared.check.declared.Mark.{Mark}
 use Rattle.rhai_check.specs.declared.check.place.Place.{Place}
 use Rattle.rhai_tree.specs.Context.{Context}
-use Rattle.rhai_tree.specs.Names.{Begins}
+use Rattle.rhai_tree.specs.Names.{Begins, Frame}
 
 -- what surrounds a form at a place after what is declared
 abbrev pub around : Declared → Place → Context
@@ -21,3 +21,7 @@ cut mark d = record { names = take mark.names d.names; imports = take mark.impor
 -- what is declared later begins with what is declared
 abbrev pub Continues : Declared → Declared → Type 0
 Continues old new = Begins old.names new.names × Begins old.imports new.imports
+
+-- the frame that it makes above another
+abbrev pub above : Frame → Declared → Frame
+above base d = record { names = base.names ++ d.names; imports = base.imports ++ d.imports }

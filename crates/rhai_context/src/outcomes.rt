@@ -6,7 +6,7 @@ ghost use Rattle.rhai_values.specs.Cells.{cells_of};
 ghost use Rattle.rhai_state.specs.declared.error.EvalAltResult.TheVariants as error;
 ghost use Rattle.rhai_machine.specs.language.State.{Answers};
 ghost use Rattle.rhai_machine.specs.language.Values.{flat, is_handle, is_truth, through, truth};
-ghost use Rattle.rhai_steps.specs.Agreement.{KeepsSearch};
+ghost use Rattle.rhai_steps.specs.Agreement.{KeepsSight};
 ghost use Rattle.rhai_steps.specs.Loops.{after_body, turn_in};
 ghost use Rattle.rhai_steps.specs.Values.{unit_seen};
 ghost use Rattle.rhai_context.specs.Ends.{came, came_test, came_turn, error_in};
@@ -39,7 +39,7 @@ pub fn charge<H: Host>(
     ensures full { result ≡ false → limits.now.max_operations ≤ global.old.num_operations }
     ensures refused { result ≡ false → error_in place.new ≡ error.ErrorTooManyOperations pos }
     ensures same { result ≡ false → global.new ≡ global.old }
-    ensures search { KeepsSearch global.old global.new }
+    ensures sight { KeepsSight global.old global.new }
 {
     if charge_one(limits, global) {
         return true;
@@ -62,7 +62,7 @@ pub fn charge_stmt<H: Host>(
     ensures refused { result ≡ false → error_in place.new ≡
         error.ErrorTooManyOperations (stmt_position_of stmt.now) }
     ensures same { result ≡ false → global.new ≡ global.old }
-    ensures search { KeepsSearch global.old global.new }
+    ensures sight { KeepsSight global.old global.new }
 {
     if charge_one(limits, global) {
         return true;
@@ -85,7 +85,7 @@ pub fn charge_expr<H: Host>(
     ensures refused { result ≡ false → error_in place.new ≡
         error.ErrorTooManyOperations (position_of expr.now) }
     ensures same { result ≡ false → global.new ≡ global.old }
-    ensures search { KeepsSearch global.old global.new }
+    ensures sight { KeepsSight global.old global.new }
 {
     if charge_one(limits, global) {
         return true;

@@ -5,11 +5,8 @@ use Rattle.std.proofs.Math.Seq.{take-append_seam, take-length}
 use Rattle.std.proofs.lemmas.Bool.{cases_lt, true≢false}
 use Rattle.std.proofs.lemmas.List.{append-nil, length-append, map-append}
 use Rattle.rhai_tree.specs.Frame.{all_resolve, resolves_body, resolves_stmt, ResolvesFunction}
-use Rattle.rhai_tree.specs.Names.{Name}
+use Rattle.rhai_tree.specs.Names.{Frame as NamesFrame, Name}
 use Rattle.rhai_tree.specs.Reading as walk
-use Rattle.rhai_tree.specs.Reading.{sound}
-use Rattle.rhai_tree.specs.declared.expr.Expr.TheFolds.{fold_out-StmtBlock}
-use Rattle.rhai_tree.specs.declared.expr.StmtBlock.{StmtBlock}
 use Rattle.rhai_tree.specs.declared.function.ScriptFuncDef.{ScriptFuncDef}
 use Rattle.rhai_tree.specs.declared.function.ScriptFuncPayload.{ScriptFuncPayload}
 use Rattle.rhai_tree.specs.declared.function.ScriptFuncPayload.TheVariants.{Statements}
@@ -76,9 +73,9 @@ nothing_behind xs n = dropped_all xs (length xs + n) (omega arith)
 dropped : {A : Type 0} (xs ys : List A) (n : ℕ) → length ys ≤ n → drop (length xs + n) (xs ++ ys) ≡ []
 dropped xs ys n few = dropped_all (xs ++ ys) (length xs + n) (omega (arith, few, length-append xs ys))
 
-body_value : (body : ScriptFuncPayload) (names : List Name) → IsTrue (resolves_body body names) →
-    IsTrue (all_resolve (map resolves_stmt (statements_of body)) names).0
-body_value (Statements block) names h = subst IsTrue (block_value block names) h
+body_value : (body : ScriptFuncPayload) (frame : NamesFrame) → IsTrue (resolves_body body frame) →
+    IsTrue (all_resolve (map resolves_stmt (statements_of body)) frame).0
+body_value (Statements block) frame h = subst IsTrue (block_value block frame) h
 
 module _ {H : Type 0} where
   -- the names above which a body runs end with its parameters
@@ -89,11 +86,12 @@ module _ {H : Type 0} where
       ∙ ap (λ (names : List Name). map name_of old ++ names) (parameter_names params args)
 
   -- so that its statements may run
-  pub body_resolves : (def : ScriptFuncDef) (args : List (Dynamic H)) (old new : List (ScopeEntry H)) → ResolvesFunction def →
-      new ≡ old ++ parameters def.params args → IsTrue (all_resolve (map resolves_stmt (statements_of def.body)) (map name_of new)).0
-  body_resolves def args old new resolves is = body_value def.body (map name_of new)
-      (subst (λ (names : List Name). IsTrue (resolves_body def.body names)) (sym (names_entered def.params args old new is))
-      (resolves (map name_of old)))
+  pub body_resolves : (def : ScriptFuncDef) (args : List (Dynamic H)) (old new : List (ScopeEntry H)) (imports : List Name) →
+      ResolvesFunction def → new ≡ old ++ parameters def.params args →
+      IsTrue (all_resolve (map resolves_stmt (statements_of def.body)) (record { names = map name_of new; imports = imports })).0
+  body_resolves def args old new imports resolves is = body_value def.body (record { names = map name_of new; imports = imports })
+      (subst (λ (names : List Name). IsTrue (resolves_body def.body (record { names = names; imports = imports })))
+      (sym (names_entered def.params args old new is)) (resolves (record { names = map name_of old; imports = imports })))
 
   -- what is brought does not change where errors come from
   brings_no_source : (environ : Option (EncapsulatedEnviron H)) (level : ℕ) (old new : GlobalRuntimeState H) →

@@ -30,7 +30,7 @@ use Rattle.rhai_machine.specs.language.Frames.{Operation, Control, Frame, Core, 
 use Rattle.rhai_machine.specs.language.Frames.{CallArgument, KeywordArgument, Keyword, CallPointer, Curry, IsDefinedVariable, MakePointer}
 use Rattle.rhai_machine.specs.language.Frames.{Purpose, ToCallFunction, ToCallNumber, ToCurry, ended}
 use Rattle.rhai_machine.specs.language.Arguments.{arguments_core, flattens, function_core, keyword_of, linked_core, natives_alone, operation_named}
-use Rattle.rhai_machine.specs.language.Arguments.{pointer_core, taken, pointer_of as pointer_named_by, pointer_wanted, text_wanted, unlinked_core}
+use Rattle.rhai_machine.specs.language.Arguments.{pointer_core, taken, pointer_wanted, text_wanted, unlinked_core}
 use Rattle.rhai_machine.specs.language.Functions.{Function}
 use Rattle.rhai_machine.specs.language.Values.{bool_value}
 use Rattle.rhai_state.specs.Scope.{index_of}
@@ -50,6 +50,7 @@ use Rattle.rhai_cycle.specs.declared.call.PointerUse.{PointerUse}
 use Rattle.rhai_cycle.specs.declared.call.PointerUse.TheVariants as code
 use Rattle.rhai_cycle.specs.Calls.{called, pointer_called, purpose_of}
 use Rattle.rhai_cycle.proofs.Chain.{fails_on}
+use Rattle.rhai_machine.specs.language.Arguments.{pointer_of as pointer_named_by}
 
 -- a first argument is one more than the others
 one_more : (n : ℕ) → suc n ≡ 1 + n

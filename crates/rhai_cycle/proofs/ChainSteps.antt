@@ -1,7 +1,7 @@
 -- How a chain is entered, its arguments and its root, and how an assignment to it begins.
-use Rattle.std.proofs.Common.{◌≡◌, ◌≤◌, ◌<◌, ◌+◌, ℕ, Bool, true, false, IsTrue, List, [], ◌∷◌, ◌++◌, length}
+use Rattle.std.proofs.Common.{◌≡◌, ◌+◌, ℕ, Bool, true, false, IsTrue, List, [], ◌∷◌, length}
 use Rattle.std.proofs.Common.{Option, Some, None, Result, Ok, Err, is_none, is_some, refl, sym, ap, subst, ◌∙◌, arith, length-append, zero-add}
-use Rattle.std.specs.Prelude.{OnOk, IfOk, IfErr}
+use Rattle.std.specs.Prelude.{OnOk, IfOk}
 use Rattle.std.specs.Option.{option_map}
 use Rattle.std.specs.declared.num.NonZeroUsize.{NonZeroUsize}
 use Rattle.rhai_tree.specs.declared.expr.Expr.{Expr, out-Expr}
@@ -12,7 +12,7 @@ use Rattle.rhai_tree.specs.declared.position.Position.{Position}
 use Rattle.rhai_tree.specs.Layers.{ExprLayer}
 use Rattle.rhai_tree.specs.Positions.{position_of}
 use Rattle.rhai_tree.specs.Frame.{resolves_expr}
-use Rattle.rhai_tree.specs.Names.{Name}
+use Rattle.rhai_tree.specs.Names.{Frame as NamesFrame, Name}
 use Rattle.rhai_tree.specs.Reading as walk
 use Rattle.rhai_tree.specs.Reading.{sound}
 use Rattle.rhai_tree.proofs.Walk.{expr_tests, resolves-expr}
@@ -21,7 +21,6 @@ use Rattle.rhai_state.specs.declared.error.EvalAltResult.{EvalAltResult}
 use Rattle.rhai_state.specs.Errors.{is_out_of_memory}
 use Rattle.rhai_machine.specs.machine.Machine.{Go, Charge}
 use Rattle.rhai_machine.specs.machine.Memory.{here}
-use Rattle.rhai_machine.specs.machine.Point.{Point}
 use Rattle.rhai_machine.specs.language.Setting.{Rules}
 use Rattle.rhai_machine.specs.language.State.{Answers, Local, State}
 use Rattle.rhai_machine.specs.language.Links.{Link, LinkForm, AtIndex, AtProperty, AtMethod, asked_by, first_in, link_of}
@@ -43,7 +42,7 @@ use Rattle.rhai_chains.specs.declared.arguments.Ready.{Ready}
 use Rattle.rhai_chains.specs.declared.arguments.Ready.TheVariants as code
 use Rattle.rhai_chains.specs.Ready.{alone, at_once, IsReady}
 use Rattle.rhai_chains.proofs.LinkLemmas.{walks_behind}
-use Rattle.rhai_cycle.specs.Chains.{gathered, HasAsked, IsGiven, MayWalk, StartsFrom}
+use Rattle.rhai_cycle.specs.Chains.{HasAsked, IsGiven, MayWalk, StartsFrom}
 use Rattle.rhai_cycle.proofs.ChainLemmas.{IsNoName}
 
 -- what is none of the things that might stand there is nothing
@@ -232,22 +231,22 @@ module _ {S H : Type 0} (rules : Rules S H) where
 module _ {H : Type 0} where
   -- ---- a root that is no variable and not `this`
 
-  root_at : (l : ExprLayer) (names : List Name) → IsNoName l → IsTrue ((walk.expr_step sound (expr_tests l)).value names) →
+  root_at : (l : ExprLayer) (frame : NamesFrame) → IsNoName l → IsTrue ((walk.expr_step sound (expr_tests l)).value frame) →
       (chain : Chain H) (k : List (Frame H)) (s : Local H) → is_none chain.new ≡ true →
       root_move l chain k s ≡ Go (core (Eval chain.root) (RootValue chain ∷ k) s)
-  root_at (layer.Variable offset name namespace pos) names other h chain k s none = absurd other
-  root_at (layer.ThisPtr pos) names other h chain k s none = absurd other
-  root_at _ names other h chain k s none = rw none refl
+  root_at (layer.Variable offset name namespace pos) frame other h chain k s none = absurd other
+  root_at (layer.ThisPtr pos) frame other h chain k s none = absurd other
+  root_at _ frame other h chain k s none = rw none refl
 
 module _ {S H : Type 0} (rules : Rules S H) where
   -- it is evaluated
-  pub evaluates_root : (root : Expr) (names : List Name) → IsNoName (out-Expr root) → IsTrue (resolves_expr root names) →
+  pub evaluates_root : (root : Expr) (frame : NamesFrame) → IsNoName (out-Expr root) → IsTrue (resolves_expr root frame) →
       (chain : Chain H) → chain.root ≡ root → is_none chain.new ≡ true → (k : List (Frame H)) (s : State S H) →
       Goes rules (at (ChainRoot chain) k s) (at (Eval root) (RootValue chain ∷ k) s)
-  evaluates_root root names other h chain same none k s = step_by rules _ _ (Go (core (Eval root) (RootValue chain ∷ k) s.local))
+  evaluates_root root frame other h chain same none k s = step_by rules _ _ (Go (core (Eval root) (RootValue chain ∷ k) s.local))
       (ap (λ (x : Expr). root_move (out-Expr x) chain k s.local) same
-      ∙ root_at (out-Expr root) names other
-      (subst (λ (x : walk.Seen sound). IsTrue (x.value names)) (resolves-expr root (out-Expr root) refl) h)
+      ∙ root_at (out-Expr root) frame other
+      (subst (λ (x : walk.Seen sound). IsTrue (x.value frame)) (resolves-expr root (out-Expr root) refl) h)
       chain k s.local none
       ∙ ap (λ (x : Expr). Go (core (Eval x) (RootValue chain ∷ k) s.local)) same) here
 

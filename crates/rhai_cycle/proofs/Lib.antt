@@ -18,6 +18,7 @@ pub mod NameLemmas
 mod PlainLemmas
 mod QualifiedLemmas
 mod RootLemmas
+mod SightLemmas
 mod SwitchSteps
 mod ThisSteps
 mod TrySteps

@@ -54,6 +54,7 @@ use Rattle.rhai_cycle.specs.Calls.{Collects, Fills, StartsAs}
 use Rattle.rhai_cycle.specs.States.{state_in}
 use Rattle.rhai_cycle.proofs.BodyLemmas.{body_resolves, fresh_ends}
 use Rattle.rhai_cycle.proofs.CallSteps.{begins_call, taken_fails, taken_on}
+use Rattle.rhai_tree.specs.Names.{Name}
 
 -- ---- an operator on two integers
 
@@ -186,10 +187,11 @@ module _ {S H : Type 0} (rules : Rules S H) where
 
   -- above the variables that they are a body's statements resolve
   pub entered_resolves : (args : List Expr) (entries : List (ScopeEntry H)) (old new : State S H) (error : Option (EvalAltResult H))
-      (own : ScriptFuncDef) → ResolvesFunction own → Fills rules own.params args true entries old error new →
-      IsTrue (all_resolve (map resolves_stmt (statements_of own.body)) (map name_of entries)).0
+      (own : ScriptFuncDef) (imports : List Name) → ResolvesFunction own → Fills rules own.params args true entries old error new →
+      IsTrue (all_resolve (map resolves_stmt (statements_of own.body)) (record { names = map name_of entries; imports = imports })).0
   unfolding Fills
-  entered_resolves args entries old new error own resolves fills = body_resolves own fills.0 [] entries resolves (fills.2 refl)
+  entered_resolves args entries old new error own imports resolves fills =
+      body_resolves own fills.0 [] entries imports resolves (fills.2 refl)
 
   -- ---- a call of a function that is known
 

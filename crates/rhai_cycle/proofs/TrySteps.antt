@@ -1,8 +1,7 @@
 -- How a `try` leads on.
-use Rattle.std.proofs.Common.{◌≡◌, ◌≤◌, ℕ, Bool, true, false, List, [], ◌∷◌, ◌++◌, Option, Some, None, Result, Ok, Err, ap, length, refl, sym}
-use Rattle.std.proofs.Common.{append-nil, take, ◌∙◌}
-use Rattle.std.proofs.lemmas.Bool.{true≢false}
-use Rattle.std.specs.Prelude.{OnErr, OnOk, nat_le}
+use Rattle.std.proofs.Common.{◌≡◌, ℕ, Bool, true, false, List, [], ◌∷◌, ◌++◌, Option, Some, None, Result, Ok, Err, length, refl}
+use Rattle.std.proofs.Common.{append-nil, take}
+use Rattle.std.specs.Prelude.{nat_le}
 use Rattle.std.proofs.Math.Seq.{take-append_seam}
 use Rattle.rhai_tree.specs.declared.expr.Expr.{Expr, out-Expr}
 use Rattle.rhai_tree.specs.declared.expr.Ident.{Ident}
@@ -11,7 +10,6 @@ use Rattle.rhai_values.specs.declared.base.value.Dynamic.{Dynamic}
 use Rattle.rhai_state.specs.declared.error.EvalAltResult.{EvalAltResult}
 use Rattle.rhai_state.specs.declared.error.EvalAltResult.TheVariants as error
 use Rattle.rhai_state.specs.declared.scope.Scope.{Scope}
-use Rattle.rhai_state.specs.declared.scope.ScopeEntry.{ScopeEntry}
 use Rattle.rhai_state.specs.declared.state.GlobalRuntimeState.{GlobalRuntimeState}
 use Rattle.rhai_state.specs.Scope.{entries_of, new_entry}
 use Rattle.rhai_values.specs.declared.base.value.AccessMode.TheVariants.{ReadWrite}
@@ -19,12 +17,11 @@ use Rattle.rhai_state.specs.Errors.{is_catchable, is_out_of_memory}
 use Rattle.rhai_machine.specs.machine.Machine.{Go}
 use Rattle.rhai_machine.specs.machine.Point.{after}
 use Rattle.rhai_machine.specs.machine.Memory.{here, next, wanting}
-use Rattle.rhai_machine.specs.language.Frames.{Back, CatchBranch, Core, core, ended, Enter, Fail, Frame, RestoreScope, TryBody}
+use Rattle.rhai_machine.specs.language.Frames.{Back, CatchBranch, core, ended, Enter, Fail, Frame, RestoreScope, TryBody}
 use Rattle.rhai_machine.specs.language.Runs.{at, with_core, Goes}
 use Rattle.rhai_machine.specs.language.Setting.{Rules}
-use Rattle.rhai_machine.specs.language.State.{HasMemory, Held, State}
+use Rattle.rhai_machine.specs.language.State.{Held, State}
 use Rattle.rhai_machine.specs.language.Tries.{branch_core, branch_with, catch_variable}
-use Rattle.rhai_machine.specs.language.Values.{unit_value}
 use Rattle.rhai_steps.specs.States.{local_of, state_of}
 use Rattle.rhai_steps.proofs.Pieces.{faulted, step_by}
 use Rattle.rhai_catches.specs.Branches.{bound, left_by, unbound}

@@ -10,7 +10,7 @@ ghost use Rattle.rhai_machine.specs.language.Arguments.{arguments_core, is_captu
 ghost use Rattle.rhai_machine.specs.language.Calls.{plainly};
 ghost use Rattle.rhai_machine.specs.language.Frames.{CallNamed, ToCall, ToCallOn, ToCallOnThis};
 ghost use Rattle.rhai_machine.specs.language.Runs.{Runs};
-ghost use Rattle.rhai_steps.specs.Agreement.{KeepsSearch, variable_is_good};
+ghost use Rattle.rhai_steps.specs.Agreement.{KeepsSight, variable_is_good};
 ghost use Rattle.rhai_calls.specs.Called.{with_args};
 ghost use Rattle.rhai_pointers.specs.Leading.{all_args, seen, variable_read};
 ghost use Rattle.rhai_dispatch.specs.Going.{GoesOut};
@@ -155,7 +155,8 @@ impl<'e, H: Host> Evaluator<'e, H> {
         natives_alone: bool,
         pos: Position,
     ) -> Called<H>
-        requires { SuitsNames run.old (variable_is_good variable.offset variable.name.now) }
+        requires { SuitsNames run.old (variable_is_good variable.offset variable.name.now
+            variable.namespace.now.path) }
         ensures counts { run.old.global.num_operations ≤ run.new.global.num_operations }
         ensures names { KeepsNames run.old run.new }
         ensures runs { GoesOut (under H.name_of self.now T.natives)
@@ -196,7 +197,7 @@ impl<'e, H: Host> Evaluator<'e, H> {
         pos: Position,
     ) -> Called<H>
         ensures counts { run.old.global.num_operations ≤ run.new.global.num_operations }
-        ensures search { KeepsSearch run.old.global run.new.global }
+        ensures sight { KeepsSight run.old.global run.new.global }
         ensures scope { run.new.scope ≡ run.old.scope }
         ensures runs { GoesOut (under H.name_of self.now T.natives)
             (ToCallOnThis (record { name = name.now; token = token; at = pos }) this_at
@@ -232,7 +233,7 @@ impl<'e, H: Host> Evaluator<'e, H> {
         pos: Position,
     ) -> Called<H>
         ensures counts { run.old.global.num_operations ≤ run.new.global.num_operations }
-        ensures search { KeepsSearch run.old.global run.new.global }
+        ensures sight { KeepsSight run.old.global run.new.global }
         ensures scope { run.new.scope ≡ run.old.scope }
         ensures runs { (on_scope : _) → GoesOut (under H.name_of self.now T.natives)
             (ToCall (record { name = name.now; token = token; at = pos }) curried

@@ -11,7 +11,7 @@ ghost use Rattle.rhai_machine.specs.language.Frames.{EnterFunction, EnterOnFocus
 ghost use Rattle.rhai_machine.specs.language.Methods.{method_core};
 ghost use Rattle.rhai_machine.specs.language.Runs.{Runs};
 ghost use Rattle.rhai_machine.specs.language.State.{HasMemory};
-ghost use Rattle.rhai_steps.specs.Agreement.{KeepsSearch};
+ghost use Rattle.rhai_steps.specs.Agreement.{KeepsSight};
 ghost use Rattle.rhai_steps.specs.States.{local_of, state_of};
 ghost use Rattle.rhai_calls.specs.Called.{came_out, with_args};
 ghost use Rattle.rhai_context.specs.Ends.{came, came_marked};
@@ -57,7 +57,7 @@ impl<'e, H: Host> Evaluator<'e, H> {
         pos: Position,
     ) -> bool
         ensures charges { IsTrue result → run.old.global.num_operations < run.new.global.num_operations }
-        ensures search { IsTrue restores → KeepsSearch run.old.global run.new.global }
+        ensures sight { IsTrue restores → KeepsSight run.old.global run.new.global }
         ensures args { HasMemory (came result run.new.value run.new.error) → args.new ≡ args_left
             (is_entered self.now.limits.now run.old.global.num_operations level
             (length (entries_of run.old.scope)) def.now)
@@ -108,7 +108,7 @@ impl<'e, H: Host> Evaluator<'e, H> {
         pos: Position,
     ) -> bool
         ensures counts { run.old.global.num_operations ≤ run.new.global.num_operations }
-        ensures search { KeepsSearch run.old.global run.new.global }
+        ensures sight { KeepsSight run.old.global run.new.global }
         ensures scope { run.new.scope ≡ run.old.scope }
         ensures this { run.new.this ≡ run.old.this }
         ensures runs { (scope : _) (held : _) → let caller = local_of run.old.global scope held in
@@ -198,7 +198,7 @@ impl<'e, H: Host> Evaluator<'e, H> {
         pos: Position,
     ) -> bool
         ensures counts { run.old.global.num_operations ≤ run.new.global.num_operations }
-        ensures search { KeepsSearch run.old.global run.new.global }
+        ensures sight { KeepsSight run.old.global run.new.global }
         ensures scope { run.new.scope ≡ run.old.scope }
         ensures this { run.new.this ≡ run.old.this }
         ensures runs { (scope : _) (held : _) → Runs (under H.name_of self.now T.natives)
@@ -236,7 +236,7 @@ impl<'e, H: Host> Evaluator<'e, H> {
         was_handle: bool,
     ) -> Option<bool>
         ensures counts { run.old.global.num_operations ≤ run.new.global.num_operations }
-        ensures search { KeepsSearch run.old.global run.new.global }
+        ensures sight { KeepsSight run.old.global run.new.global }
         ensures scope { run.new.scope ≡ run.old.scope }
         ensures this { run.new.this ≡ run.old.this }
         ensures runs { (scope : _) (held : _) → let rules = under H.name_of self.now T.natives in

@@ -12,7 +12,7 @@ ghost use Rattle.rhai_machine.specs.language.Frames.{Argument, KeywordArgument, 
 ghost use Rattle.rhai_values.specs.declared.base.value.FnPtr.{out-FnPtr};
 ghost use Rattle.rhai_machine.specs.language.Arguments.{arguments_core, linked_to};
 ghost use Rattle.rhai_machine.specs.language.Runs.{Runs};
-ghost use Rattle.rhai_steps.specs.Agreement.{KeepsSearch};
+ghost use Rattle.rhai_steps.specs.Agreement.{KeepsSight};
 ghost use Rattle.rhai_calls.specs.Called.{with_args};
 ghost use Rattle.rhai_calls.specs.Operates.{Operates};
 ghost use Rattle.rhai_pointers.specs.Forms.{IsForm};
@@ -381,7 +381,7 @@ impl<'e, H: Host> Evaluator<'e, H> {
         pos: Position,
     ) -> Called<H>
         ensures counts { run.old.global.num_operations ≤ run.new.global.num_operations }
-        ensures search { KeepsSearch run.old.global run.new.global }
+        ensures sight { KeepsSight run.old.global run.new.global }
         ensures scope { run.new.scope ≡ run.old.scope }
         ensures runs { GoesOut (under H.name_of self.now T.natives)
             (purpose_of pointer pos) values.old true pos
@@ -451,7 +451,7 @@ impl<'e, H: Host> Evaluator<'e, H> {
     ) -> Called<H>
         requires { operands.old ≡ [] }
         ensures counts { run.old.global.num_operations ≤ run.new.global.num_operations }
-        ensures search { KeepsSearch run.old.global run.new.global }
+        ensures sight { KeepsSight run.old.global run.new.global }
         ensures scope { run.new.scope ≡ run.old.scope }
         ensures runs { Operates (under H.name_of self.now T.natives)
             (call_at call.now.name token pos (run.old.value ∷ [])) (state_in (T.state table.old) run.old)
@@ -487,7 +487,7 @@ impl<'e, H: Host> Evaluator<'e, H> {
     ) -> Called<H>
         requires { operands.old ≡ [] }
         ensures counts { run.old.global.num_operations ≤ run.new.global.num_operations }
-        ensures search { KeepsSearch run.old.global run.new.global }
+        ensures sight { KeepsSight run.old.global run.new.global }
         ensures scope { run.new.scope ≡ run.old.scope }
         ensures runs { Operates (under H.name_of self.now T.natives)
             (call_at call.now.name token pos (left ∷ run.old.value ∷ []))

@@ -8,7 +8,7 @@ ghost use Rattle.rhai_tree.specs.declared.expr.Expr.TheOpen as layer;
 ghost use Rattle.rhai_tree.specs.Frame.{resolves_expr, target_resolves, tests_of};
 ghost use Rattle.rhai_state.specs.Errors.{is_out_of_memory};
 ghost use Rattle.rhai_machine.specs.language.Frames.{ChainRoot, OpenChain, OpenStmt, chain_on};
-ghost use Rattle.rhai_machine.specs.language.Links.{first_in, link_of as link_in};
+ghost use Rattle.rhai_machine.specs.language.Links.{first_in};
 ghost use Rattle.rhai_machine.specs.language.Runs.{Runs};
 ghost use Rattle.rhai_chains.specs.Chains.{Walks, chain_at, new_of};
 ghost use Rattle.rhai_chains.specs.Ready.{at_once, IsReady};
@@ -17,6 +17,7 @@ ghost use Rattle.rhai_cycle.specs.Agreement.{KeepsNames, SuitsNames};
 ghost use Rattle.rhai_cycle.specs.Chains.{Gathers, HasAsked, IsGiven, MayWalk, StartsFrom, AsksFirst};
 ghost use Rattle.rhai_cycle.specs.Chains.{behind_resolves};
 ghost use Rattle.rhai_cycle.specs.States.{state_in, under};
+ghost use Rattle.rhai_machine.specs.language.Links.{link_of as link_in};
 
 use crate::evaluator::Evaluator;
 use crate::roots::take_flat;

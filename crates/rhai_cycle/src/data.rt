@@ -1,6 +1,6 @@
 //! Expressions that make data of their parts. Ports upstream's `eval/expr.rs`.
 
-ghost use Rattle.std.specs.Prelude.{◌≡◌, ◌≤◌, IsTrue, map};
+ghost use Rattle.std.specs.Prelude.{◌≤◌, IsTrue, map};
 ghost use Rattle.rhai_tree.specs.Frame.{all_resolve_exprs, entries_resolve, tests_of, tests_of_entry};
 ghost use Rattle.rhai_tree.specs.declared.expr.Expr.TheOpen as layer;
 ghost use Rattle.rhai_machine.specs.language.Frames.{OpenExpr};

@@ -9,7 +9,7 @@ ghost use Rattle.rhai_machine.specs.language.Values.{is_handle, is_truth};
 ghost use Rattle.rhai_machine.specs.language.Frames.{Eval};
 ghost use Rattle.rhai_machine.specs.language.Runs.{Runs};
 ghost use Rattle.rhai_machine.specs.language.Setting.{rules_of};
-ghost use Rattle.rhai_steps.specs.Agreement.{AgreesAt, KeepsSearch};
+ghost use Rattle.rhai_steps.specs.Agreement.{AgreesAt, KeepsSight};
 ghost use Rattle.rhai_steps.specs.States.{state_of};
 ghost use Rattle.rhai_operands.specs.Standing.{said};
 ghost use Rattle.rhai_operands.specs.Tests.{Tests};
@@ -55,7 +55,7 @@ fn holds_at_once<H: Host, T: NativeTable<H>>(
     ensures charges { IfSome result (λ told. IfSome told (λ _.
         global.old.num_operations < global.new.num_operations)) }
     ensures memory { IfSome result (λ told. told ≡ None → is_out_of_memory (error_in place.new) ≡ false) }
-    ensures search { KeepsSearch global.old global.new }
+    ensures sight { KeepsSight global.old global.new }
     ensures runs { (offer : _) (held : _) → offer.fast_operators ≡ is_fast →
         IfSome result (λ told. Tests (rules_of limits.now H.name_of offer T.natives) test.now
         (state_of (T.state table.now) global.old scope.now held)

@@ -2,21 +2,20 @@
 //! what upstream's `eval_dot_index_chain` does with the root. The contracts speak of the machine's runs and cite
 //! specs/Calls.antt.
 
-ghost use Rattle.std.specs.Prelude.{◌≡◌, ◌≤◌, ◌<◌, IsTrue, IfSome, Some, None, [], true, false, is_some, length};
+ghost use Rattle.std.specs.Prelude.{◌≡◌, ◌≤◌, ◌<◌, IfSome, Some, None, [], true, false, is_some, length};
 ghost use Rattle.rhai_tree.specs.declared.expr.Expr.{out-Expr};
 ghost use Rattle.rhai_tree.specs.Positions.{position_of};
 ghost use Rattle.rhai_values.specs.Cells.{cells_of};
 ghost use Rattle.rhai_state.specs.Errors.{is_out_of_memory};
 ghost use Rattle.rhai_state.specs.Scope.{entries_of};
 ghost use Rattle.rhai_state.specs.declared.error.EvalAltResult.TheVariants as error;
-ghost use Rattle.rhai_machine.specs.language.Calls.{is_held as is_anothers};
 ghost use Rattle.rhai_machine.specs.language.Chains.{this_root_core};
 ghost use Rattle.rhai_machine.specs.language.Frames.{Back, ReadRoot, RootValue};
 ghost use Rattle.rhai_machine.specs.language.Runs.{Runs};
 ghost use Rattle.rhai_machine.specs.language.State.{Answers};
 ghost use Rattle.rhai_machine.specs.language.Values.{flat};
 ghost use Rattle.rhai_machine.specs.language.Variables.{variable_named};
-ghost use Rattle.rhai_steps.specs.Agreement.{AgreesAt, KeepsSearch, variable_is_good};
+ghost use Rattle.rhai_steps.specs.Agreement.{AgreesAt, KeepsSight, variable_is_good};
 ghost use Rattle.rhai_steps.specs.Offers.{globals_in};
 ghost use Rattle.rhai_steps.specs.States.{state_of};
 ghost use Rattle.rhai_chains.specs.Chains.{chain_at, Walks};
@@ -25,6 +24,7 @@ ghost use Rattle.rhai_cycle.specs.Calls.{RunsUnder, StartsAs};
 ghost use Rattle.rhai_context.specs.Ends.{came, came_some, error_in};
 ghost use Rattle.rhai_cycle.specs.Roots.{GoesBack, LendsVariable, RefusesThis};
 ghost use Rattle.rhai_cycle.specs.States.{under};
+ghost use Rattle.rhai_machine.specs.language.Calls.{is_held as is_anothers};
 
 use crate::evaluator::Evaluator;
 use rhai_calls::dispatch::is_held;
@@ -85,7 +85,7 @@ fn lend_variable<H: Host>(
     namespace: &Namespace,
     pos: Position,
 ) -> Option<(Option<usize>, Dynamic<H>)>
-    requires { AgreesAt global.now scope.old (variable_is_good offset name.now) }
+    requires { AgreesAt global.now scope.old (variable_is_good offset name.now namespace.now.path) }
     ensures lends { LendsVariable (globals_in offered.now) global.now
         (variable_named name.now namespace.now pos) (entries_of scope.old) (came_some result place.new)
         (entries_of scope.new) }
@@ -219,7 +219,7 @@ impl<'e, H: Host> Evaluator<'e, H> {
         args: &mut [Dynamic<H>],
         new: Option<NewValue<H>>,
     ) -> bool
-        requires good { SuitsNames run.old (variable_is_good offset name.now) }
+        requires good { SuitsNames run.old (variable_is_good offset name.now namespace.now.path) }
         requires walks { Walks (is_some new) (out-Expr rest.now) (length args.old) }
         ensures counts { run.old.global.num_operations ≤ run.new.global.num_operations }
         ensures names { KeepsNames run.old run.new }
@@ -272,7 +272,7 @@ impl<'e, H: Host> Evaluator<'e, H> {
     ) -> bool
         requires walks { Walks (is_some new) (out-Expr rest.now) (length args.old) }
         ensures counts { run.old.global.num_operations ≤ run.new.global.num_operations }
-        ensures search { KeepsSearch run.old.global run.new.global }
+        ensures sight { KeepsSight run.old.global run.new.global }
         ensures scope { run.new.scope ≡ run.old.scope }
         ensures runs { (scope : _) (focus : _) (in_place : _) →
             StartsAs (under H.name_of self.now T.natives)
@@ -310,7 +310,7 @@ impl<'e, H: Host> Evaluator<'e, H> {
     ) -> bool
         requires walks { Walks false (out-Expr rest.now) (length args.old) }
         ensures counts { run.old.global.num_operations ≤ run.new.global.num_operations }
-        ensures search { KeepsSearch run.old.global run.new.global }
+        ensures sight { KeepsSight run.old.global run.new.global }
         ensures scope { run.new.scope ≡ run.old.scope }
         ensures this { run.new.this ≡ run.old.this }
         ensures runs { (scope : _) (held : _) (in_place : _) →

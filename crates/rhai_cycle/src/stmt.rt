@@ -1,24 +1,25 @@
 //! Statements. Ports upstream's `eval/stmt.rs`; the contracts speak of the machine's runs.
 
-ghost use Rattle.std.specs.Prelude.{◌≡◌, ◌<◌, ◌≤◌, ◌++◌, ◌∷◌, [], IfErr, IfSome, IsTrue, true, false};
+ghost use Rattle.std.specs.Prelude.{◌≡◌, ◌<◌, ◌≤◌, IfErr, IfSome, IsTrue, true, false};
 ghost use Rattle.std.specs.Prelude.{None, length, map};
 ghost use Rattle.rhai_tree.specs.Frame.{tests_of, target_resolves, resolves_expr, resolves_stmt};
 ghost use Rattle.rhai_tree.specs.Frame.{all_resolve, resolves_block, var_names, var_resolves};
-ghost use Rattle.rhai_tree.specs.declared.expr.Expr.{out-Expr};
 ghost use Rattle.rhai_tree.specs.declared.expr.Stmt.{out-Stmt};
 ghost use Rattle.rhai_tree.specs.declared.expr.Expr.TheOpen as layer;
 ghost use Rattle.rhai_state.specs.Errors.{is_out_of_memory};
-ghost use Rattle.rhai_machine.specs.language.Values.{unit_value as unit};
 ghost use Rattle.rhai_machine.specs.language.Frames.{Exec, OpenStmt, Enter, Run};
 ghost use Rattle.rhai_machine.specs.language.Runs.{Runs};
 ghost use Rattle.rhai_machine.specs.language.Setting.{rules_of};
-ghost use Rattle.rhai_steps.specs.Agreement.{AgreesAt, KeepsSearch, changes, passes};
+ghost use Rattle.rhai_steps.specs.Agreement.{AgreesAt, KeepsSight, changes, passes};
 ghost use Rattle.rhai_steps.specs.States.{state_of};
 ghost use Rattle.rhai_assign.specs.Keeps.{Keeps};
 ghost use Rattle.rhai_context.specs.Ends.{came};
 ghost use Rattle.rhai_cycle.specs.Agreement.{ChangesNames, Declared, KeepsNames, RestoresNames, SuitsNames};
 ghost use Rattle.rhai_cycle.specs.Memory.{asks_if, asks_stmt, may_ask};
 ghost use Rattle.rhai_cycle.specs.States.{names, state_in, under};
+ghost use Rattle.rhai_tree.specs.Names.{naming, with_import};
+ghost use Rattle.rhai_tree.specs.Forms.{name_asked};
+ghost use Rattle.rhai_machine.specs.language.Values.{unit_value as unit};
 
 use crate::evaluator::Evaluator;
 use rhai_assign::in_place::assign_in_place;
@@ -71,7 +72,7 @@ fn assign_at_once<H: Host, T: NativeTable<H>>(
     ensures left_global { result ≡ None → global.new ≡ global.old }
     ensures left_scope { result ≡ None → scope.new ≡ scope.old }
     ensures keeps { Keeps global.old global.new scope.old scope.new }
-    ensures search { KeepsSearch global.old global.new }
+    ensures sight { KeepsSight global.old global.new }
     ensures runs { (offer : _) (held : _) (restoring : _) → offer.fast_operators ≡ is_fast →
         IfSome result (λ done. Runs (rules_of limits.now H.name_of offer T.natives)
         (OpenStmt (layer.Assignment op.now lhs.now rhs.now) restoring)
@@ -366,7 +367,7 @@ impl<'e, H: Host> Evaluator<'e, H> {
         requires resolves { SuitsNames run.old
             (var_resolves index ident.now (tests_of value.now) options pos) }
         ensures counts { IsTrue result → run.old.global.num_operations ≤ run.new.global.num_operations }
-        ensures names { IsTrue result → ChangesNames run.old (var_names index ident.now.name) run.new }
+        ensures names { IsTrue result → ChangesNames run.old (naming (var_names index ident.now.name)) run.new }
         ensures declared { IsTrue result → names run.new ≡ var_names index ident.now.name (names run.old) }
         ensures runs { Runs (under H.name_of self.now T.natives)
             (OpenStmt (layer.Var ident.now value.now index options pos) restoring)
@@ -423,7 +424,7 @@ impl<'e, H: Host> Evaluator<'e, H> {
     ) -> bool
         requires resolves { SuitsNames run.old (resolves_expr path.now) }
         ensures counts { IsTrue result → run.old.global.num_operations ≤ run.new.global.num_operations }
-        ensures names { IsTrue result → KeepsNames run.old run.new }
+        ensures names { IsTrue result → ChangesNames run.old (with_import (name_asked alias.now)) run.new }
         ensures runs { (restoring : _) → Runs (under H.name_of self.now T.natives)
             (OpenStmt (layer.Import path.now alias.now pos) restoring)
             (state_in (T.state table.old) run.old) (came result run.new.value run.new.error)

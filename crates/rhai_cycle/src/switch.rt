@@ -1,6 +1,6 @@
 //! `switch`. Ports this form of upstream's `eval/stmt.rs`; the contracts speak of the machine's runs.
 
-ghost use Rattle.std.specs.Prelude.{◌≡◌, ◌≤◌, IsTrue, map};
+ghost use Rattle.std.specs.Prelude.{◌≤◌, IsTrue, map};
 ghost use Rattle.rhai_tree.specs.Frame.{conditionals_resolve, resolves_conditional, resolves_expr};
 ghost use Rattle.rhai_tree.specs.declared.expr.Expr.TheOpen as layer;
 ghost use Rattle.rhai_machine.specs.language.Frames.{OpenStmt};

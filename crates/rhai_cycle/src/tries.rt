@@ -1,6 +1,6 @@
 //! `try`. Ports this form of upstream's `eval/stmt.rs`; the contracts speak of the machine's runs.
 
-ghost use Rattle.std.specs.Prelude.{◌≡◌, ◌≤◌, IsSomeAnd, IsTrue};
+ghost use Rattle.std.specs.Prelude.{◌≤◌, IsSomeAnd, IsTrue};
 ghost use Rattle.rhai_tree.specs.Forms.{catch_of};
 ghost use Rattle.rhai_tree.specs.Frame.{resolves_block, with_name};
 ghost use Rattle.rhai_tree.specs.declared.expr.Expr.{out-Expr};
@@ -12,6 +12,7 @@ ghost use Rattle.rhai_steps.specs.Agreement.{above};
 ghost use Rattle.rhai_context.specs.Ends.{came};
 ghost use Rattle.rhai_cycle.specs.Agreement.{KeepsNames, SuitsNames};
 ghost use Rattle.rhai_cycle.specs.States.{state_in, under};
+ghost use Rattle.rhai_tree.specs.Names.{naming};
 
 use crate::evaluator::Evaluator;
 use rhai_catches::branches::{bind_caught, leave_branch};
@@ -37,7 +38,7 @@ impl<'e, H: Host> Evaluator<'e, H> {
     ) -> bool
         requires resolves_body { SuitsNames run.old (resolves_block body.now) }
         requires resolves_branch { IsSomeAnd (catch_of variable.now) (λ name.
-            SuitsNames run.old (above (with_name name) (resolves_block branch.now))) }
+            SuitsNames run.old (above (naming (with_name name)) (resolves_block branch.now))) }
         ensures counts { IsTrue result → run.old.global.num_operations ≤ run.new.global.num_operations }
         ensures names { IsTrue result → KeepsNames run.old run.new }
         ensures runs { (pos : _) (restoring : _) → Runs (under H.name_of self.now T.natives)
@@ -67,7 +68,7 @@ impl<'e, H: Host> Evaluator<'e, H> {
         branch: &StmtBlock,
     ) -> bool
         requires resolves { IsSomeAnd (catch_of variable.now) (λ name.
-            SuitsNames run.old (above (with_name name) (resolves_block branch.now))) }
+            SuitsNames run.old (above (naming (with_name name)) (resolves_block branch.now))) }
         ensures counts { IsTrue result → run.old.global.num_operations ≤ run.new.global.num_operations }
         ensures names { IsTrue result → KeepsNames run.old run.new }
         ensures runs { let rules = under H.name_of self.now T.natives in

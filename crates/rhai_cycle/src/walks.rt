@@ -13,6 +13,7 @@ ghost use Rattle.rhai_walks.specs.Loops.{loop_in};
 ghost use Rattle.rhai_context.specs.Ends.{came, came_turn};
 ghost use Rattle.rhai_cycle.specs.Agreement.{KeepsNames, RestoresNames, SuitsNames};
 ghost use Rattle.rhai_cycle.specs.States.{names, state_in, under};
+ghost use Rattle.rhai_tree.specs.Names.{naming};
 
 use crate::evaluator::Evaluator;
 use rhai_context::Context;
@@ -49,7 +50,7 @@ impl<'e, H: Host> Evaluator<'e, H> {
     ) -> bool
         requires resolves_items { SuitsNames run.old (resolves_expr items.now) }
         requires resolves_body { SuitsNames run.old
-            (above (turn_names variable.now counter.now) (resolves_block body.now)) }
+            (above (naming (turn_names variable.now counter.now)) (resolves_block body.now)) }
         ensures counts { IsTrue result → run.old.global.num_operations ≤ run.new.global.num_operations }
         ensures names { IsTrue result → KeepsNames run.old run.new }
         ensures runs { (pos : _) (restoring : _) → Runs (under H.name_of self.now T.natives)

@@ -11,7 +11,7 @@ ghost use Rattle.rhai_state.specs.Errors.{is_out_of_memory};
 ghost use Rattle.rhai_machine.specs.language.Data.{text_of, with_part};
 ghost use Rattle.rhai_machine.specs.language.Setting.{rules_of};
 ghost use Rattle.rhai_machine.specs.language.State.{Answers};
-ghost use Rattle.rhai_steps.specs.Agreement.{KeepsSearch};
+ghost use Rattle.rhai_steps.specs.Agreement.{KeepsSight};
 ghost use Rattle.rhai_steps.specs.States.{state_of};
 ghost use Rattle.rhai_context.specs.Ends.{came};
 ghost use Rattle.rhai_data.specs.Texts.{text_in as text_of_value, print_of, Prints, PrintsAndJoins};
@@ -116,7 +116,7 @@ fn print<H: Host, T: NativeTable<H>>(
     pos: Position,
 ) -> Result<Option<Shared<Text>>, EvalAltResult<H>>
     ensures counts { global.old.num_operations ≤ global.new.num_operations }
-    ensures search { KeepsSearch global.old global.new }
+    ensures sight { KeepsSight global.old global.new }
     ensures runs { (offer : _) (scope : _) (held : _) → Prints (rules_of limits.now H.name_of offer T.natives)
         value.now pos (state_of (T.state table.old) global.old scope held)
         result (state_of (T.state table.new) global.new scope held) }
@@ -153,7 +153,7 @@ fn join_typed<H: Host, T: NativeTable<H>>(
 ) -> Result<(), EvalAltResult<H>>
     requires { type_name.now ≡ type_name_of H.name_of (cells_of global.old.cells) value.now }
     ensures counts { global.old.num_operations ≤ global.new.num_operations }
-    ensures search { KeepsSearch global.old global.new }
+    ensures sight { KeepsSight global.old global.new }
     ensures runs { (offer : _) (scope : _) (held : _) →
         PrintsAndJoins (rules_of limits.now H.name_of offer T.natives) (string_bytes text.old) value.now pos
         (state_of (T.state table.old) global.old scope held) result (string_bytes text.new)
@@ -176,7 +176,7 @@ fn join_handle<H: Host, T: NativeTable<H>>(
     pos: Position,
 ) -> Result<(), EvalAltResult<H>>
     ensures counts { global.old.num_operations ≤ global.new.num_operations }
-    ensures search { KeepsSearch global.old global.new }
+    ensures sight { KeepsSight global.old global.new }
     ensures runs { (offer : _) (scope : _) (held : _) →
         PrintsAndJoins (rules_of limits.now H.name_of offer T.natives) (string_bytes text.old) value.now pos
         (state_of (T.state table.old) global.old scope held) result (string_bytes text.new)
@@ -202,7 +202,7 @@ fn join_printed<H: Host, T: NativeTable<H>>(
     pos: Position,
 ) -> Result<(), EvalAltResult<H>>
     ensures counts { global.old.num_operations ≤ global.new.num_operations }
-    ensures search { KeepsSearch global.old global.new }
+    ensures sight { KeepsSight global.old global.new }
     ensures runs { (offer : _) (scope : _) (held : _) →
         PrintsAndJoins (rules_of limits.now H.name_of offer T.natives) (string_bytes text.old) value.now pos
         (state_of (T.state table.old) global.old scope held) result (string_bytes text.new)
@@ -236,7 +236,7 @@ fn join_flat<H: Host, T: NativeTable<H>>(
     pos: Position,
 ) -> Result<(), EvalAltResult<H>>
     ensures counts { global.old.num_operations ≤ global.new.num_operations }
-    ensures search { KeepsSearch global.old global.new }
+    ensures sight { KeepsSight global.old global.new }
     ensures runs { (offer : _) (scope : _) (held : _) →
         JoinsFlat (rules_of limits.now H.name_of offer T.natives) (string_bytes text.old) value.now pos
         (state_of (T.state table.old) global.old scope held) result (string_bytes text.new)
@@ -265,7 +265,7 @@ pub fn join<H: Host, T: NativeTable<H>>(
     part: &Expr,
 ) -> bool
     ensures counts { global.old.num_operations ≤ global.new.num_operations }
-    ensures search { KeepsSearch global.old global.new }
+    ensures sight { KeepsSight global.old global.new }
     ensures runs { (offer : _) (scope : _) (held : _) →
         Joins (rules_of limits.now H.name_of offer T.natives) (string_bytes text.old) out.old (position_of part.now)
         (state_of (T.state table.old) global.old scope held) (came result (string_bytes text.new) place.new)

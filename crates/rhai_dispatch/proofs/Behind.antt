@@ -11,7 +11,7 @@ use Rattle.rhai_tree.specs.declared.position.Position.{Position}
 use Rattle.rhai_tree.specs.Forms.{is_unqualified}
 use Rattle.rhai_tree.specs.Frame.{all_resolve_exprs, resolves_expr, tests_of}
 use Rattle.rhai_tree.specs.Layers.{ExprLayer}
-use Rattle.rhai_tree.specs.Names.{Name, is_good}
+use Rattle.rhai_tree.specs.Names.{Frame as NamesFrame, Name}
 use Rattle.rhai_tree.specs.Positions.{position_at, position_of}
 use Rattle.rhai_values.specs.declared.base.value.AccessMode.{AccessMode}
 use Rattle.rhai_values.specs.declared.base.value.Dynamic.{Dynamic}
@@ -57,6 +57,7 @@ use Rattle.rhai_dispatch.specs.Going.{GoesOut}
 use Rattle.rhai_dispatch.specs.Linked.{Comes}
 use Rattle.rhai_dispatch.specs.Variables.{meaning_passed}
 use Rattle.rhai_dispatch.proofs.Going.{came_told}
+use Rattle.rhai_steps.specs.Agreement.{variable_is_good}
 
 -- ---- how such a call begins
 
@@ -158,36 +159,36 @@ first_true : (a b : Bool) → IsTrue (a && b) → IsTrue a
 first_true true b h = refl
 first_true false b h = cc
 
-module _ (names : List Name) where
-  chosen_resolve : (is_last : Bool) (arg : Expr) (args : List Expr) → IsTrue (all_resolve_exprs (map tests_of (arg ∷ args)) names) →
-      IsTrue (all_resolve_exprs (map tests_of (if is_last then args else arg ∷ args)) names)
-  chosen_resolve true arg args h = after (resolves_expr arg names) (all_resolve_exprs (map tests_of args) names) h
+module _ (frame : NamesFrame) where
+  chosen_resolve : (is_last : Bool) (arg : Expr) (args : List Expr) → IsTrue (all_resolve_exprs (map tests_of (arg ∷ args)) frame) →
+      IsTrue (all_resolve_exprs (map tests_of (if is_last then args else arg ∷ args)) frame)
+  chosen_resolve true arg args h = after (resolves_expr arg frame) (all_resolve_exprs (map tests_of args) frame) h
   chosen_resolve false arg args h = h
 
   -- those do that are evaluated before what is read last
-  pub before_resolves : {H : Type 0} (args : List Expr) (this : Option (Dynamic H)) → IsTrue (all_resolve_exprs (map tests_of args) names) →
-      IsTrue (all_resolve_exprs (map tests_of (before_last args this)) names)
+  pub before_resolves : {H : Type 0} (args : List Expr) (this : Option (Dynamic H)) → IsTrue (all_resolve_exprs (map tests_of args) frame) →
+      IsTrue (all_resolve_exprs (map tests_of (before_last args this)) frame)
   before_resolves [] this h = h
   before_resolves (arg ∷ args) this h = chosen_resolve (is_read_last (out-Expr arg) this) arg args h
 
   module _ (good : (e : Expr) (offset : Option NonZeroUsize) (name : Name) (namespace : Namespace) (pos : Position) →
-      out-Expr e ≡ layer.Variable offset name namespace pos → IsTrue (resolves_expr e names) → IsTrue (is_good offset name names)) where
-    good_at : (arg : Expr) (o : ExprLayer) → out-Expr arg ≡ o → IsTrue (resolves_expr arg names) →
-        IsTrue (form_is_good o names)
+      out-Expr e ≡ layer.Variable offset name namespace pos → IsTrue (resolves_expr e frame) → IsTrue (variable_is_good offset name namespace.path frame)) where
+    good_at : (arg : Expr) (o : ExprLayer) → out-Expr arg ≡ o → IsTrue (resolves_expr arg frame) →
+        IsTrue (form_is_good o frame)
     good_at arg (layer.Variable offset name namespace pos) is h = good arg offset name namespace pos is h
     good_at arg _ is h = refl
 
-    good_chosen : (is_last : Bool) (arg : Expr) → IsTrue (resolves_expr arg names) →
-        IsTrue (last_is_good (if is_last then Some arg else None) names)
+    good_chosen : (is_last : Bool) (arg : Expr) → IsTrue (resolves_expr arg frame) →
+        IsTrue (last_is_good (if is_last then Some arg else None) frame)
     good_chosen true arg h = good_at arg (out-Expr arg) refl h
     good_chosen false arg h = refl
 
     -- and the offset is good of what is read last, where that is so of each variable that resolves
-    pub good_last : {H : Type 0} (args : List Expr) (this : Option (Dynamic H)) → IsTrue (all_resolve_exprs (map tests_of args) names) →
-        IsTrue (last_is_good (last_of args this) names)
+    pub good_last : {H : Type 0} (args : List Expr) (this : Option (Dynamic H)) → IsTrue (all_resolve_exprs (map tests_of args) frame) →
+        IsTrue (last_is_good (last_of args this) frame)
     good_last [] this h = refl
     good_last (arg ∷ args) this h = good_chosen (is_read_last (out-Expr arg) this) arg
-        (first_true (resolves_expr arg names) (all_resolve_exprs (map tests_of args) names) h)
+        (first_true (resolves_expr arg frame) (all_resolve_exprs (map tests_of args) frame) h)
 
 -- ---- once its arguments are there
 

@@ -28,7 +28,7 @@ use Rattle.rhai_dispatch.specs.Variables.{meaning_passed}
 
 -- the offset of a variable leads to the newest of its name
 abbrev pub form_is_good : ExprLayer → Test
-form_is_good (layer.Variable offset name namespace pos) frame = variable_is_good offset name frame
+form_is_good (layer.Variable offset name namespace pos) frame = variable_is_good offset name namespace.path frame
 form_is_good _ frame = true
 
 abbrev pub last_is_good : (last : Option Expr) → Test

@@ -15,7 +15,7 @@ ghost use Rattle.rhai_values.specs.Cells.{cells_of};
 ghost use Rattle.rhai_machine.specs.language.Calls.{plainly};
 ghost use Rattle.rhai_machine.specs.language.Frames.{ToCall, ToCallNumber};
 ghost use Rattle.rhai_machine.specs.language.Setting.{rules_of};
-ghost use Rattle.rhai_steps.specs.Agreement.{KeepsSearch};
+ghost use Rattle.rhai_steps.specs.Agreement.{KeepsSight};
 ghost use Rattle.rhai_steps.specs.States.{state_of};
 ghost use Rattle.rhai_calls.specs.Called.{with_args};
 ghost use Rattle.rhai_steps.specs.Offers.{Offers};
@@ -56,7 +56,7 @@ fn call_curried<H: Host, T: NativeTable<H>>(
     pos: Position,
 ) -> Called<H>
     ensures counts { global.old.num_operations ≤ global.new.num_operations }
-    ensures search { KeepsSearch global.old global.new }
+    ensures sight { KeepsSight global.old global.new }
     ensures runs { (offer : _) (scope : _) (held : _) (on_scope : _) → Offers offer offered.now →
         GoesOut (rules_of limits.now H.name_of offer T.natives)
         (ToCall (record { name = name.now; token = token; at = pos }) curried
@@ -101,7 +101,7 @@ pub fn call_values<H: Host, T: NativeTable<H>>(
     pos: Position,
 ) -> Called<H>
     ensures counts { global.old.num_operations ≤ global.new.num_operations }
-    ensures search { KeepsSearch global.old global.new }
+    ensures sight { KeepsSight global.old global.new }
     ensures runs { (offer : _) (scope : _) (held : _) (on_scope : _) → Offers offer offered.now →
         GoesOut (rules_of limits.now H.name_of offer T.natives)
         (ToCall (record { name = name.now; token = token; at = pos }) curried
@@ -192,7 +192,7 @@ fn number_all<H: Host, T: NativeTable<H>>(
     pos: Position,
 ) -> Result<Dynamic<H>, EvalAltResult<H>>
     ensures counts { global.old.num_operations ≤ global.new.num_operations }
-    ensures search { KeepsSearch global.old global.new }
+    ensures sight { KeepsSight global.old global.new }
     ensures runs { (offer : _) (scope : _) (held : _) → GoesOn (rules_of limits.now H.name_of offer T.natives)
         (ToCallNumber id.number (record { name = name.now; token = None; at = pos }) []) args.old
         (state_of (T.state table.old) global.old scope held)
@@ -231,7 +231,7 @@ pub fn call_number<H: Host, T: NativeTable<H>>(
     pos: Position,
 ) -> Result<Dynamic<H>, EvalAltResult<H>>
     ensures counts { global.old.num_operations ≤ global.new.num_operations }
-    ensures search { KeepsSearch global.old global.new }
+    ensures sight { KeepsSight global.old global.new }
     ensures runs { (offer : _) (scope : _) (held : _) → GoesOn (rules_of limits.now H.name_of offer T.natives)
         (ToCallNumber id.number (record { name = name.now; token = None; at = pos }) curried) args.old
         (state_of (T.state table.old) global.old scope held)

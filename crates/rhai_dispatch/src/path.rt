@@ -17,7 +17,7 @@ ghost use Rattle.rhai_machine.specs.language.Calls.{public_or_unknown, signature
 ghost use Rattle.rhai_machine.specs.language.Names.{looked_up, meant};
 ghost use Rattle.rhai_machine.specs.language.State.{Answers};
 ghost use Rattle.rhai_machine.specs.language.Variables.{path_of, variable_in, variable_named};
-ghost use Rattle.rhai_steps.specs.Agreement.{AgreesAt, KeepsSearch, variable_is_good};
+ghost use Rattle.rhai_steps.specs.Agreement.{AgreesAt, KeepsSight, variable_is_good};
 ghost use Rattle.rhai_steps.specs.Offers.{globals_in};
 ghost use Rattle.rhai_steps.specs.States.{surroundings_of};
 ghost use Rattle.rhai_context.specs.Ends.{error_in};
@@ -100,7 +100,7 @@ pub fn charge_last<H: Host>(
         IsSpent limits.now.max_operations (option_copied last.entry) global.old (error_in place.new) }
     ensures same { result ≡ false → global.new ≡ global.old }
     ensures counts { global.old.num_operations ≤ global.new.num_operations }
-    ensures search { KeepsSearch global.old global.new }
+    ensures sight { KeepsSight global.old global.new }
 {
     match last {
         Some(last) => charge_expr(limits, global, place, last),
@@ -136,7 +136,7 @@ fn passed_variable<H: Host>(
     namespace: &Namespace,
     pos: Position,
 ) -> Result<Dynamic<H>, EvalAltResult<H>>
-    requires { AgreesAt global.now scope.now (variable_is_good offset name.now) }
+    requires { AgreesAt global.now scope.now (variable_is_good offset name.now namespace.now.path) }
     ensures { Answers result (meaning_passed (cells_of global.now.cells) pos
         (meant (globals_in offered.now) (surroundings_of global.now) (entries_of scope.now)
         (variable_named name.now namespace.now pos))) }

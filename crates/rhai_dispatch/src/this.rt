@@ -4,7 +4,7 @@ ghost use Rattle.std.specs.Prelude.{◌≡◌, ◌≤◌, not};
 ghost use Rattle.rhai_machine.specs.language.Calls.{plainly};
 ghost use Rattle.rhai_machine.specs.language.Frames.{ToCallOnThis};
 ghost use Rattle.rhai_machine.specs.language.Setting.{rules_of};
-ghost use Rattle.rhai_steps.specs.Agreement.{KeepsSearch};
+ghost use Rattle.rhai_steps.specs.Agreement.{KeepsSight};
 ghost use Rattle.rhai_steps.specs.States.{state_of};
 ghost use Rattle.rhai_calls.specs.Called.{with_args};
 ghost use Rattle.rhai_steps.specs.Offers.{Offers};
@@ -44,7 +44,7 @@ pub fn call_on_this<H: Host, T: NativeTable<H>>(
     pos: Position,
 ) -> Called<H>
     ensures counts { global.old.num_operations ≤ global.new.num_operations }
-    ensures search { KeepsSearch global.old global.new }
+    ensures sight { KeepsSight global.old global.new }
     ensures runs { (offer : _) (scope : _) (focus : _) (on_scope : _) → Offers offer offered.now →
         GoesOut (rules_of limits.now H.name_of offer T.natives)
         (ToCallOnThis (record { name = name.now; token = token; at = pos }) this_at

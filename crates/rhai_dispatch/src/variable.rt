@@ -11,7 +11,7 @@ ghost use Rattle.rhai_machine.specs.language.Frames.{FromEntry, ToCallOn};
 ghost use Rattle.rhai_machine.specs.language.Names.{entry_named, value_beside};
 ghost use Rattle.rhai_machine.specs.language.Setting.{rules_of};
 ghost use Rattle.rhai_machine.specs.language.Variables.{Path, variable_named};
-ghost use Rattle.rhai_steps.specs.Agreement.{AgreesAt, KeepsSearch, variable_is_good};
+ghost use Rattle.rhai_steps.specs.Agreement.{AgreesAt, KeepsSight, variable_is_good};
 ghost use Rattle.rhai_steps.specs.Offers.{Offers, globals_in};
 ghost use Rattle.rhai_steps.specs.States.{local_of, state_of, surroundings_of};
 ghost use Rattle.rhai_calls.specs.Called.{Calls, Enters, with_args};
@@ -139,7 +139,7 @@ fn call_lent<H: Host, T: NativeTable<H>>(
 ) -> Called<H>
     requires { index < length (entries_of scope.old) }
     ensures counts { global.old.num_operations ≤ global.new.num_operations }
-    ensures search { KeepsSearch global.old global.new }
+    ensures sight { KeepsSight global.old global.new }
     ensures names { names_in scope.new ≡ names_in scope.old }
     ensures runs { (offer : _) (held : _) (on_scope : _) (v : _) → Offers offer offered.now →
         value_in (entries_of scope.old) (Some index) ≡ Some v →
@@ -183,7 +183,7 @@ pub(crate) fn call_first<H: Host, T: NativeTable<H>>(
     pos: Position,
 ) -> Called<H>
     ensures counts { global.old.num_operations ≤ global.new.num_operations }
-    ensures search { KeepsSearch global.old global.new }
+    ensures sight { KeepsSight global.old global.new }
     ensures runs { (offer : _) (scope : _) (held : _) (lender : _) (on_scope : _) → Offers offer offered.now →
         Stands (Some lender) first.old (local_of global.old scope held) →
         Calls (rules_of limits.now H.name_of offer T.natives) (plainly natives_alone on_scope)
@@ -224,7 +224,7 @@ fn call_passed<H: Host, T: NativeTable<H>>(
     pos: Position,
 ) -> Called<H>
     ensures counts { global.old.num_operations ≤ global.new.num_operations }
-    ensures search { KeepsSearch global.old global.new }
+    ensures sight { KeepsSight global.old global.new }
     ensures runs { (offer : _) (scope : _) (held : _) (on_scope : _) → Offers offer offered.now →
         Calls (rules_of limits.now H.name_of offer T.natives) (plainly natives_alone on_scope)
         (lent_call (record { name = name.now; token = token; at = pos }) None false (first ∷ args.old))
@@ -271,7 +271,7 @@ fn call_found<H: Host, T: NativeTable<H>>(
 ) -> Called<H>
     requires { index < length (entries_of scope.old) }
     ensures counts { global.old.num_operations ≤ global.new.num_operations }
-    ensures search { KeepsSearch global.old global.new }
+    ensures sight { KeepsSight global.old global.new }
     ensures names { names_in scope.new ≡ names_in scope.old }
     ensures runs { (offer : _) (held : _) (on_scope : _) (path : Path) → Offers offer offered.now →
         entry_named path.names variable.now (entries_of scope.old) ≡ Some index →
@@ -337,7 +337,7 @@ fn call_beside<H: Host, T: NativeTable<H>>(
     pos: Position,
 ) -> Called<H>
     ensures counts { global.old.num_operations ≤ global.new.num_operations }
-    ensures search { KeepsSearch global.old global.new }
+    ensures sight { KeepsSight global.old global.new }
     ensures runs { (offer : _) (scope : _) (held : _) (on_scope : _) → Offers offer offered.now →
         entry_named namespace.now.path variable.now (entries_of scope) ≡ None →
         GoesOut (rules_of limits.now H.name_of offer T.natives)
@@ -391,9 +391,9 @@ pub fn call_on_variable<H: Host, T: NativeTable<H>>(
     args: &mut Few<Dynamic<H>>,
     pos: Position,
 ) -> Called<H>
-    requires { AgreesAt global.old scope.old (variable_is_good offset variable.now) }
+    requires { AgreesAt global.old scope.old (variable_is_good offset variable.now namespace.now.path) }
     ensures counts { global.old.num_operations ≤ global.new.num_operations }
-    ensures search { KeepsSearch global.old global.new }
+    ensures sight { KeepsSight global.old global.new }
     ensures names { names_in scope.new ≡ names_in scope.old }
     ensures runs { (offer : _) (held : _) (on_scope : _) → Offers offer offered.now →
         GoesOut (rules_of limits.now H.name_of offer T.natives)

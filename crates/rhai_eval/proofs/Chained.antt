@@ -1,10 +1,10 @@
 -- A whole chain: what its run may rely on, and what an assignment without an operator leaves.
-use Rattle.std.proofs.Common.{◌≡◌, Bool, true, false, IsTrue, List, [], Option, Some, None, Result, Ok, Err, refl, sym, ap, subst}
+use Rattle.std.proofs.Common.{◌≡◌, Bool, true, false, IsTrue, [], Option, Some, None, Result, Ok, Err, refl, sym, ap, subst}
 use Rattle.std.specs.Prelude.{IfSome, OnOk, unwrap_or}
 use Rattle.rhai_tree.specs.declared.expr.Expr.{Expr, out-Expr}
 use Rattle.rhai_tree.specs.Layers.{ExprLayer}
 use Rattle.rhai_tree.specs.Frame.{resolves_expr}
-use Rattle.rhai_tree.specs.Names.{Name}
+use Rattle.rhai_tree.specs.Names.{Frame}
 use Rattle.rhai_values.specs.declared.base.value.Dynamic.{Dynamic}
 use Rattle.rhai_state.specs.declared.error.EvalAltResult.{EvalAltResult}
 use Rattle.rhai_machine.specs.machine.Point.{Reaches}
@@ -24,29 +24,29 @@ use Rattle.rhai_cycle.proofs.ChainLemmas.{may_walk, root_resolves, target_parts}
 use Rattle.rhai_eval.specs.Chains.{AssignsAlong, chain_of, chain_resolves, chain_with, whole_chain}
 
 -- what the run of a chain relies on
-pub record MayRun (assigned : Bool) (root : Expr) (form : ExprLayer) (names : List Name) : Type 0 where
-  pub root_runs : IsTrue (resolves_expr root names)
-  pub behind_runs : IsTrue (behind_resolves form names)
+pub record MayRun (assigned : Bool) (root : Expr) (form : ExprLayer) (frame : Frame) : Type 0 where
+  pub root_runs : IsTrue (resolves_expr root frame)
+  pub behind_runs : IsTrue (behind_resolves form frame)
   pub walks : MayWalk assigned form
   pub starts : StartsFrom assigned (out-Expr root)
 
 -- a whole chain of a checked tree has it
-pub chain_may_run : (assigned : Bool) (e root : Expr) (names : List Name) → first_in (out-Expr e) ≡ Some root →
-    IsTrue (chain_resolves assigned e names) → MayRun assigned root (out-Expr e) names
-chain_may_run true e root names is h =
-    let parts = target_parts e root names is h in
+pub chain_may_run : (assigned : Bool) (e root : Expr) (frame : Frame) → first_in (out-Expr e) ≡ Some root →
+    IsTrue (chain_resolves assigned e frame) → MayRun assigned root (out-Expr e) frame
+chain_may_run true e root frame is h =
+    let parts = target_parts e root frame is h in
     record {
       root_runs = parts.root_runs;
       behind_runs = parts.behind_runs;
-      walks = may_walk true names (out-Expr e) parts.behind_runs parts.ends;
+      walks = may_walk true frame (out-Expr e) parts.behind_runs parts.ends;
       starts = parts.starts;
     }
-chain_may_run false e root names is h =
-    let parts = root_resolves e root names is h in
+chain_may_run false e root frame is h =
+    let parts = root_resolves e root frame is h in
     record {
       root_runs = parts.0;
       behind_runs = parts.1;
-      walks = may_walk false names (out-Expr e) parts.1 tt;
+      walks = may_walk false frame (out-Expr e) parts.1 tt;
       starts = tt;
     }
 

@@ -1,5 +1,5 @@
 -- The root and the index of an item that may be assigned to.
-use Rattle.std.proofs.Common.{◌≡◌, Bool, true, false, ◌&&◌, IsTrue, List, Some, refl, subst, ap, ◌∙◌}
+use Rattle.std.proofs.Common.{◌≡◌, Bool, true, false, ◌&&◌, IsTrue, Some, refl, subst, ap, ◌∙◌}
 use Rattle.std.proofs.Common.{if◌then◌else◌}
 use Rattle.rhai_tree.specs.declared.expr.Expr.{Expr, out-Expr}
 use Rattle.rhai_tree.specs.declared.expr.Expr.TheOpen as layer
@@ -9,7 +9,7 @@ use Rattle.rhai_tree.specs.Layers.{ExprLayer}
 use Rattle.rhai_tree.specs.Links.{is_counted}
 use Rattle.rhai_tree.specs.Forms.{ends_chain}
 use Rattle.rhai_tree.specs.Frame.{resolves_expr, target_resolves, tests_of}
-use Rattle.rhai_tree.specs.Names.{Name}
+use Rattle.rhai_tree.specs.Names.{Frame}
 use Rattle.rhai_tree.specs.Reading as walk
 use Rattle.rhai_tree.specs.Reading.{sound}
 use Rattle.rhai_tree.proofs.Walk.{expr_tests, resolves-expr}
@@ -21,13 +21,13 @@ abbrev level : ExprLayer → walk.Seen sound
 level l = walk.expr_step sound (expr_tests l)
 
 -- behind a bracket with such an index stands nothing else
-index_resolves : (ends : Bool) (l : ExprLayer) (value : walk.Finds sound) (names : List Name) → index_alone l ≡ true →
-    IsTrue (walk.found_behind_bracket sound ends (level l).link value names) → IsTrue (value names)
-index_resolves true (layer.IntegerConstant n pos) value names is h = h
-index_resolves false (layer.IntegerConstant n pos) value names is h = h
-index_resolves true (layer.Variable offset name namespace pos) value names is h = h
-index_resolves false (layer.Variable offset name namespace pos) value names is h = h
-index_resolves ends _ value names is h = cc
+index_resolves : (ends : Bool) (l : ExprLayer) (value : walk.Finds sound) (frame : Frame) → index_alone l ≡ true →
+    IsTrue (walk.found_behind_bracket sound ends (level l).link value frame) → IsTrue (value frame)
+index_resolves true (layer.IntegerConstant n pos) value frame is h = h
+index_resolves false (layer.IntegerConstant n pos) value frame is h = h
+index_resolves true (layer.Variable offset name namespace pos) value frame is h = h
+index_resolves false (layer.Variable offset name namespace pos) value frame is h = h
+index_resolves ends _ value frame is h = cc
 
 -- what the parts of an item are
 pub parts_are : (alone : Bool) (lhs rhs root index : Expr) → parts_if alone lhs rhs ≡ Some (root, index) →
@@ -49,37 +49,37 @@ parts_shown (layer.Index lhs rhs options pos) root index is =
     )
 parts_shown _ root index is = cc
 
-parts_resolve : (lhs rhs : Expr) (ends : Bool) (names : List Name) → index_alone (out-Expr rhs) ≡ true →
-    IsTrue (resolves_expr lhs names && walk.found_behind_bracket sound ends (tests_of rhs).link (tests_of rhs).value names) →
-    IsTrue (resolves_expr lhs names) × IsTrue (resolves_expr rhs names)
-parts_resolve lhs rhs ends names alone h =
-    let parts = both (resolves_expr lhs names) (walk.found_behind_bracket sound ends (tests_of rhs).link (tests_of rhs).value names) h in (
+parts_resolve : (lhs rhs : Expr) (ends : Bool) (frame : Frame) → index_alone (out-Expr rhs) ≡ true →
+    IsTrue (resolves_expr lhs frame && walk.found_behind_bracket sound ends (tests_of rhs).link (tests_of rhs).value frame) →
+    IsTrue (resolves_expr lhs frame) × IsTrue (resolves_expr rhs frame)
+parts_resolve lhs rhs ends frame alone h =
+    let parts = both (resolves_expr lhs frame) (walk.found_behind_bracket sound ends (tests_of rhs).link (tests_of rhs).value frame) h in (
       parts.0,
-      index_resolves ends (out-Expr rhs) (tests_of rhs).value names alone
-          (subst (λ (s : walk.Seen sound). IsTrue (walk.found_behind_bracket sound ends s.link (tests_of rhs).value names))
+      index_resolves ends (out-Expr rhs) (tests_of rhs).value frame alone
+          (subst (λ (s : walk.Seen sound). IsTrue (walk.found_behind_bracket sound ends s.link (tests_of rhs).value frame))
           (resolves-expr rhs (out-Expr rhs) refl) parts.1),
     )
 
-parts_at : (l : ExprLayer) (root index : Expr) (names : List Name) → parts_in l ≡ Some (root, index) →
-    IsTrue ((level l).value names) → IsTrue (resolves_expr root names) × IsTrue (resolves_expr index names)
-parts_at (layer.Index lhs rhs options pos) root index names is h =
+parts_at : (l : ExprLayer) (root index : Expr) (frame : Frame) → parts_in l ≡ Some (root, index) →
+    IsTrue ((level l).value frame) → IsTrue (resolves_expr root frame) × IsTrue (resolves_expr index frame)
+parts_at (layer.Index lhs rhs options pos) root index frame is h =
     let same = parts_are (index_alone (out-Expr rhs)) lhs rhs root index is in
-    let found = parts_resolve lhs rhs (ends_chain options) names same.0
+    let found = parts_resolve lhs rhs (ends_chain options) frame same.0
     (both (is_counted (level (layer.Index lhs rhs options pos)).links)
-    (resolves_expr lhs names && walk.found_behind_bracket sound (ends_chain options) (tests_of rhs).link (tests_of rhs).value names)
+    (resolves_expr lhs frame && walk.found_behind_bracket sound (ends_chain options) (tests_of rhs).link (tests_of rhs).value frame)
     h).1 in (
-      subst (λ (e : Expr). IsTrue (resolves_expr e names)) same.1 found.0,
-      subst (λ (e : Expr). IsTrue (resolves_expr e names)) same.2 found.1,
+      subst (λ (e : Expr). IsTrue (resolves_expr e frame)) same.1 found.0,
+      subst (λ (e : Expr). IsTrue (resolves_expr e frame)) same.2 found.1,
     )
-parts_at _ root index names is h = cc
+parts_at _ root index frame is h = cc
 
 place_then : (place b : Bool) → IsTrue (if place then b else (false && b)) → IsTrue b
 place_then true b h = h
 place_then false b h = cc
 
 -- both may run
-pub item_resolves : (e root index : Expr) (names : List Name) → parts_in (out-Expr e) ≡ Some (root, index) →
-    IsTrue (target_resolves (tests_of e) names) → IsTrue (resolves_expr root names) × IsTrue (resolves_expr index names)
-item_resolves e root index names is h = parts_at (out-Expr e) root index names is
-    (subst (λ (s : walk.Seen sound). IsTrue (s.value names)) (resolves-expr e (out-Expr e) refl)
-    (place_then (tests_of e).is_place ((tests_of e).value names) h))
+pub item_resolves : (e root index : Expr) (frame : Frame) → parts_in (out-Expr e) ≡ Some (root, index) →
+    IsTrue (target_resolves (tests_of e) frame) → IsTrue (resolves_expr root frame) × IsTrue (resolves_expr index frame)
+item_resolves e root index frame is h = parts_at (out-Expr e) root index frame is
+    (subst (λ (s : walk.Seen sound). IsTrue (s.value frame)) (resolves-expr e (out-Expr e) refl)
+    (place_then (tests_of e).is_place ((tests_of e).value frame) h))

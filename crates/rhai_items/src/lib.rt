@@ -19,7 +19,7 @@ ghost use Rattle.rhai_machine.specs.language.Frames.{OpenStmt};
 ghost use Rattle.rhai_machine.specs.language.Runs.{Runs};
 ghost use Rattle.rhai_machine.specs.language.Setting.{rules_of};
 ghost use Rattle.rhai_machine.specs.language.Values.{unit_value as unit};
-ghost use Rattle.rhai_steps.specs.Agreement.{AgreesAt, KeepsSearch};
+ghost use Rattle.rhai_steps.specs.Agreement.{AgreesAt, KeepsSight};
 ghost use Rattle.rhai_steps.specs.States.{state_of};
 ghost use Rattle.rhai_assign.specs.Keeps.{Keeps};
 ghost use Rattle.rhai_items.specs.Items.{charges_of, index_alone, parts_in, place_in_array, writable_at};
@@ -165,7 +165,7 @@ pub fn assign_item<H: Host, T: NativeTable<H>>(
     ensures left_global { result ≡ false → global.new ≡ global.old }
     ensures left_scope { result ≡ false → scope.new ≡ scope.old }
     ensures keeps { Keeps global.old global.new scope.old scope.new }
-    ensures search { KeepsSearch global.old global.new }
+    ensures sight { KeepsSight global.old global.new }
     ensures runs { result ≡ true → (offer : _) (held : _) (restoring : _) → offer.fast_operators ≡ true →
         Runs (rules_of limits.now H.name_of offer T.natives)
         (OpenStmt (layer.Assignment op.now lhs.now rhs.now) restoring)

@@ -5,7 +5,7 @@ ghost use Rattle.std.specs.Prelude.{◌≤◌, ◌++◌, false};
 ghost use Rattle.rhai_machine.specs.language.Arguments.{operation_named};
 ghost use Rattle.rhai_machine.specs.language.Methods.{numbered_on};
 ghost use Rattle.rhai_machine.specs.language.Setting.{rules_of};
-ghost use Rattle.rhai_steps.specs.Agreement.{KeepsSearch};
+ghost use Rattle.rhai_steps.specs.Agreement.{KeepsSight};
 ghost use Rattle.rhai_steps.specs.States.{state_of};
 ghost use Rattle.rhai_steps.specs.Offers.{Offers};
 ghost use Rattle.rhai_calls.specs.Marks.{with_mark};
@@ -59,7 +59,7 @@ fn number_on<H: Host, T: NativeTable<H>>(
     pos: Position,
 ) -> MethodCall<H>
     ensures counts { global.old.num_operations ≤ global.new.num_operations }
-    ensures search { KeepsSearch global.old global.new }
+    ensures sight { KeepsSight global.old global.new }
     ensures runs { (offer : _) (scope : _) (held : _) →
         CallsFrom (rules_of limits.now H.name_of offer T.natives) pos
         (numbered_on id.number (operation_named name.now pos) args.now target.old)
@@ -91,7 +91,7 @@ pub fn call_named_on<H: Host, T: NativeTable<H>>(
     pos: Position,
 ) -> MethodCall<H>
     ensures counts { global.old.num_operations ≤ global.new.num_operations }
-    ensures search { KeepsSearch global.old global.new }
+    ensures sight { KeepsSight global.old global.new }
     ensures runs { (offer : _) (scope : _) (held : _) → Offers offer offered.now →
         let rules = rules_of limits.now H.name_of offer T.natives in
         CallsFrom rules pos (named_on rules.setting natives_alone name.now pos args.old target.old)
@@ -167,7 +167,7 @@ fn call_by_on<H: Host, T: NativeTable<H>>(
     pos: Position,
 ) -> MethodCall<H>
     ensures counts { global.old.num_operations ≤ global.new.num_operations }
-    ensures search { KeepsSearch global.old global.new }
+    ensures sight { KeepsSight global.old global.new }
     ensures runs { (offer : _) (scope : _) (held : _) → Offers offer offered.now →
         let rules = rules_of limits.now H.name_of offer T.natives in
         CallsFrom rules pos (on_by rules.setting number called.now name.now pos args.old target.old)
@@ -201,7 +201,7 @@ pub fn call_on<H: Host, T: NativeTable<H>>(
     pos: Position,
 ) -> MethodCall<H>
     ensures counts { global.old.num_operations ≤ global.new.num_operations }
-    ensures search { KeepsSearch global.old global.new }
+    ensures sight { KeepsSight global.old global.new }
     ensures runs { (offer : _) (scope : _) (held : _) → Offers offer offered.now →
         let rules = rules_of limits.now H.name_of offer T.natives in
         CallsFrom rules pos
@@ -244,7 +244,7 @@ fn number_by_itself<H: Host, T: NativeTable<H>>(
     pos: Position,
 ) -> Result<Dynamic<H>, EvalAltResult<H>>
     ensures counts { global.old.num_operations ≤ global.new.num_operations }
-    ensures search { KeepsSearch global.old global.new }
+    ensures sight { KeepsSight global.old global.new }
     ensures runs { (offer : _) (scope : _) (held : _) →
         CallsFrom (rules_of limits.now H.name_of offer T.natives) pos
         (number_alone id.number pos args.old)
@@ -272,7 +272,7 @@ fn named_by_itself<H: Host, T: NativeTable<H>>(
     pos: Position,
 ) -> MethodCall<H>
     ensures counts { global.old.num_operations ≤ global.new.num_operations }
-    ensures search { KeepsSearch global.old global.new }
+    ensures sight { KeepsSight global.old global.new }
     ensures runs { (offer : _) (scope : _) (held : _) → Offers offer offered.now →
         let rules = rules_of limits.now H.name_of offer T.natives in
         CallsFrom rules pos (named_alone rules.setting name.now pos args.old)
@@ -301,7 +301,7 @@ fn call_by_itself<H: Host, T: NativeTable<H>>(
     pos: Position,
 ) -> MethodCall<H>
     ensures counts { global.old.num_operations ≤ global.new.num_operations }
-    ensures search { KeepsSearch global.old global.new }
+    ensures sight { KeepsSight global.old global.new }
     ensures runs { (offer : _) (scope : _) (held : _) → Offers offer offered.now →
         let rules = rules_of limits.now H.name_of offer T.natives in
         CallsFrom rules pos (alone_by rules.setting number name.now pos args.old)
@@ -331,7 +331,7 @@ pub fn call_alone<H: Host, T: NativeTable<H>>(
     pos: Position,
 ) -> MethodCall<H>
     ensures counts { global.old.num_operations ≤ global.new.num_operations }
-    ensures search { KeepsSearch global.old global.new }
+    ensures sight { KeepsSight global.old global.new }
     ensures runs { (offer : _) (scope : _) (held : _) → Offers offer offered.now →
         let rules = rules_of limits.now H.name_of offer T.natives in
         CallsFrom rules pos (alone_by rules.setting number name.now pos (curried ++ args.old))

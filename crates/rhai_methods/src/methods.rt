@@ -7,7 +7,7 @@ ghost use Rattle.rhai_machine.specs.language.Arguments.{linked_to};
 ghost use Rattle.rhai_machine.specs.language.Methods.{CallWord, call_argument, own_core, word_core};
 ghost use Rattle.rhai_machine.specs.language.Setting.{rules_of};
 ghost use Rattle.rhai_machine.specs.language.Values.{through};
-ghost use Rattle.rhai_steps.specs.Agreement.{KeepsSearch};
+ghost use Rattle.rhai_steps.specs.Agreement.{KeepsSight};
 ghost use Rattle.rhai_steps.specs.States.{state_of};
 ghost use Rattle.rhai_steps.specs.Offers.{Offers};
 ghost use Rattle.rhai_steps.specs.Marked.{lending};
@@ -94,7 +94,7 @@ fn unlinked_alone<H: Host, T: NativeTable<H>>(
     pos: Position,
 ) -> MethodCall<H>
     ensures counts { global.old.num_operations ≤ global.new.num_operations }
-    ensures search { KeepsSearch global.old global.new }
+    ensures sight { KeepsSight global.old global.new }
     ensures runs { (offer : _) (scope : _) (held : _) → Offers offer offered.now →
         let rules = rules_of limits.now H.name_of offer T.natives in
         CallsFrom rules pos (alone_as rules.setting None pointer pos args.old)
@@ -122,7 +122,7 @@ fn call_pointer<H: Host, T: NativeTable<H>>(
     pos: Position,
 ) -> MethodCall<H>
     ensures counts { global.old.num_operations ≤ global.new.num_operations }
-    ensures search { KeepsSearch global.old global.new }
+    ensures sight { KeepsSight global.old global.new }
     ensures runs { (offer : _) (scope : _) (held : _) → Offers offer offered.now →
         let rules = rules_of limits.now H.name_of offer T.natives in
         CallsFrom rules pos (alone_with rules.setting pointer pos args.old)
@@ -170,7 +170,7 @@ fn unlinked_on<H: Host, T: NativeTable<H>>(
     pos: Position,
 ) -> MethodCall<H>
     ensures counts { global.old.num_operations ≤ global.new.num_operations }
-    ensures search { KeepsSearch global.old global.new }
+    ensures sight { KeepsSight global.old global.new }
     ensures runs { (offer : _) (scope : _) (held : _) → Offers offer offered.now →
         let rules = rules_of limits.now H.name_of offer T.natives in
         CallsFrom rules pos (on_as rules.setting None pointer
@@ -202,7 +202,7 @@ fn call_pointer_on<H: Host, T: NativeTable<H>>(
     pos: Position,
 ) -> MethodCall<H>
     ensures counts { global.old.num_operations ≤ global.new.num_operations }
-    ensures search { KeepsSearch global.old global.new }
+    ensures sight { KeepsSight global.old global.new }
     ensures runs { (offer : _) (scope : _) (held : _) → Offers offer offered.now →
         let rules = rules_of limits.now H.name_of offer T.natives in
         CallsFrom rules pos (on_with rules.setting pointer
@@ -235,7 +235,7 @@ fn call_argument<H: Host, T: NativeTable<H>>(
     pos: Position,
 ) -> MethodCall<H>
     ensures counts { global.old.num_operations ≤ global.new.num_operations }
-    ensures search { KeepsSearch global.old global.new }
+    ensures sight { KeepsSight global.old global.new }
     ensures runs { (offer : _) (scope : _) (held : _) (name : _) (was_handle : _) (seen : _) →
         Offers offer offered.now → through (cells_of global.old.cells) target.old pos ≡ Ok seen →
         let rules = rules_of limits.now H.name_of offer T.natives in
@@ -279,7 +279,7 @@ fn call_word<H: Host, T: NativeTable<H>>(
     pos: Position,
 ) -> MethodCall<H>
     ensures counts { global.old.num_operations ≤ global.new.num_operations }
-    ensures search { KeepsSearch global.old global.new }
+    ensures sight { KeepsSight global.old global.new }
     ensures runs { (offer : _) (scope : _) (held : _) (name : _) (was_handle : _) → Offers offer offered.now →
         let rules = rules_of limits.now H.name_of offer T.natives in
         CallsFrom rules pos (word_core rules.setting CallWord
@@ -319,7 +319,7 @@ fn call_plain<H: Host, T: NativeTable<H>>(
     pos: Position,
 ) -> MethodCall<H>
     ensures counts { global.old.num_operations ≤ global.new.num_operations }
-    ensures search { KeepsSearch global.old global.new }
+    ensures sight { KeepsSight global.old global.new }
     ensures runs { (offer : _) (scope : _) (held : _) (first_at : _) (was_handle : _) →
         Offers offer offered.now → let rules = rules_of limits.now H.name_of offer T.natives in
         CallsFrom rules pos (own_core rules.setting
@@ -365,7 +365,7 @@ pub fn call_method<H: Host, T: NativeTable<H>>(
     was_handle: bool,
 ) -> MethodCall<H>
     ensures counts { global.old.num_operations ≤ global.new.num_operations }
-    ensures search { KeepsSearch global.old global.new }
+    ensures sight { KeepsSight global.old global.new }
     ensures runs { (offer : _) (scope : _) (held : _) → Offers offer offered.now →
         MethodRuns (rules_of limits.now H.name_of offer T.natives)
         (record { name = name.now; at = pos; first_at = first_arg_pos; was_handle = was_handle })

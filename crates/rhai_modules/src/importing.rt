@@ -8,6 +8,7 @@ ghost use Rattle.rhai_state.specs.Errors.{is_out_of_memory};
 ghost use Rattle.rhai_machine.specs.language.Imports.{importing, module_meant, name_asked};
 ghost use Rattle.rhai_machine.specs.language.State.{Answers};
 ghost use Rattle.rhai_machine.specs.language.Values.{unit_value as unit};
+ghost use Rattle.rhai_steps.specs.Agreement.{AddsImport};
 ghost use Rattle.rhai_steps.specs.States.{local_of};
 ghost use Rattle.rhai_context.specs.Ends.{came, error_in};
 ghost use Rattle.rhai_modules.specs.Imports.{Imports, importable};
@@ -63,7 +64,7 @@ fn push_module<H: Host>(
     ensures imported { (scope : _) (held : _) → OnOk result (local_of global.new scope held
         ≡ importing (name_asked alias.now) found.now (local_of global.old scope held)) }
     ensures counts { global.new.num_operations ≡ global.old.num_operations }
-    ensures search { global.new.always_search_scope ≡ global.old.always_search_scope }
+    ensures sight { OnOk result (AddsImport (name_asked alias.now) global.old global.new) }
     ensures same { OnErr result (global.new ≡ global.old) }
 {
     let name = name_of(alloc, alias)?;
@@ -94,7 +95,7 @@ pub fn import_module<H: Host>(
         (position_of path.now)
         (start_of path.now)) alias.now (local_of global.old scope held) (local_of global.new scope held) }
     ensures counts { global.new.num_operations ≡ global.old.num_operations }
-    ensures search { global.new.always_search_scope ≡ global.old.always_search_scope }
+    ensures sight { IsTrue result → AddsImport (name_asked alias.now) global.old global.new }
     ensures refused { result ≡ false → is_out_of_memory (error_in place.new) ≡ false →
         Err (error_in place.new)
         ≡ module_meant H.name_of (cells_of global.old.cells) modules.now.modules out.old

@@ -1,5 +1,5 @@
--- What it says of a form's parts that it resolves to the names of a scope.
-use Rattle.std.proofs.Common.{◌≡◌, Bool, true, false, ◌&&◌, IsTrue, subst, List, [], ◌∷◌, map, refl, if◌then◌else◌, Option}
+-- What it says of a form's parts that it resolves above a frame.
+use Rattle.std.proofs.Common.{◌≡◌, Bool, true, false, ◌&&◌, IsTrue, subst, [], ◌∷◌, map, refl, if◌then◌else◌, Option}
 use Rattle.std.specs.declared.num.NonZeroUsize.{NonZeroUsize}
 use Rattle.rhai_tree.specs.declared.expr.Expr.{Expr, out-Expr}
 use Rattle.rhai_tree.specs.declared.expr.Expr.TheOpen as layer
@@ -8,11 +8,11 @@ use Rattle.rhai_tree.specs.declared.expr.FnCallExpr.{FnCallExpr}
 use Rattle.rhai_tree.specs.declared.expr.Namespace.{Namespace}
 use Rattle.rhai_tree.specs.declared.position.Position.{Position}
 use Rattle.rhai_tree.specs.Frame.{tests_of, resolves_expr, resolves_call, all_resolve_exprs, target_resolves}
-use Rattle.rhai_tree.specs.Names.{Name, is_good}
+use Rattle.rhai_tree.specs.Names.{Frame, Name}
 use Rattle.rhai_tree.specs.Reading as walk
 use Rattle.rhai_tree.specs.Reading.{sound}
-use Rattle.rhai_tree.proofs.Variables.{offset_good}
 use Rattle.rhai_tree.proofs.Walk.{resolves-expr}
+use Rattle.rhai_steps.specs.Agreement.{variable_is_good}
 
 pub both : (a b : Bool) → IsTrue (a && b) → IsTrue a × IsTrue b
 both true true h = (refl, refl)
@@ -28,47 +28,48 @@ pub fails_then : (test b : Bool) → IsTrue (if test then false else b) → (tes
 fails_then true b h = (cc, cc)
 fails_then false b h = (refl, h)
 
-two_resolve : (left right : Expr) (names : List Name) → IsTrue (all_resolve_exprs (map tests_of (left ∷ right ∷ [])) names) →
-    IsTrue (resolves_expr left names) × IsTrue (resolves_expr right names)
-two_resolve left right names h =
-    let first = both (resolves_expr left names) (resolves_expr right names && true) h in
-    (first.0, (both (resolves_expr right names) true first.1).0)
+two_resolve : (left right : Expr) (frame : Frame) → IsTrue (all_resolve_exprs (map tests_of (left ∷ right ∷ [])) frame) →
+    IsTrue (resolves_expr left frame) × IsTrue (resolves_expr right frame)
+two_resolve left right frame h =
+    let first = both (resolves_expr left frame) (resolves_expr right frame && true) h in
+    (first.0, (both (resolves_expr right frame) true first.1).0)
 
-module _ (call : FnCallExpr) (pos : Position) (names : List Name) (h : IsTrue (resolves_call call pos names)) where
+module _ (call : FnCallExpr) (pos : Position) (frame : Frame) (h : IsTrue (resolves_call call pos frame)) where
   -- the arguments of a call that resolves do
-  pub operands_of_call : IsTrue (all_resolve_exprs (map tests_of call.args) names)
+  pub operands_of_call : IsTrue (all_resolve_exprs (map tests_of call.args) frame)
   operands_of_call =
       let opened = fold_out-FnCallExpr (walk.Seen sound) (walk.SeenStmt sound) (walk.SeenConditional sound) (walk.SeenCall sound)
       (walk.SeenEntry sound) (walk.Seen sound) (walk.expr_step sound) (walk.stmt_step sound) (walk.conditional_step sound) (walk.call_step sound)
       (walk.entry_step sound) (walk.block_step sound) call in
-      (fails_then _ _ (subst (λ (s : walk.SeenCall sound). IsTrue (s.value pos names)) opened h)).1
+      (both _ _ (fails_then _ _ (subst (λ (s : walk.SeenCall sound). IsTrue (s.value pos frame)) opened h)).1).1
 
 -- the operands of a call that resolves do
-pub operands_resolve : (call : FnCallExpr) (pos : Position) (left right : Expr) (names : List Name) → call.args ≡ left ∷ right ∷ [] →
-    IsTrue (resolves_call call pos names) →
-    IsTrue (resolves_expr left names) × IsTrue (resolves_expr right names)
-operands_resolve call pos left right names is h = two_resolve left right names (rw is at (operands_of_call call pos names h))
+pub operands_resolve : (call : FnCallExpr) (pos : Position) (left right : Expr) (frame : Frame) → call.args ≡ left ∷ right ∷ [] →
+    IsTrue (resolves_call call pos frame) →
+    IsTrue (resolves_expr left frame) × IsTrue (resolves_expr right frame)
+operands_resolve call pos left right frame is h = two_resolve left right frame (rw is at (operands_of_call call pos frame h))
 
 -- those of an expression that is such a call
-pub call_resolves : (e : Expr) (call : FnCallExpr) (pos : Position) (left right : Expr) (names : List Name) →
-    out-Expr e ≡ layer.Expr::FnCall call pos → call.args ≡ left ∷ right ∷ [] → IsTrue (resolves_expr e names) →
-    IsTrue (resolves_expr left names) × IsTrue (resolves_expr right names)
-call_resolves e call pos left right names is args h = operands_resolve call pos left right names args
-    (subst (λ (t : walk.Seen sound). IsTrue (t.value names)) (resolves-expr e (layer.Expr::FnCall call pos) is) h)
+pub call_resolves : (e : Expr) (call : FnCallExpr) (pos : Position) (left right : Expr) (frame : Frame) →
+    out-Expr e ≡ layer.Expr::FnCall call pos → call.args ≡ left ∷ right ∷ [] → IsTrue (resolves_expr e frame) →
+    IsTrue (resolves_expr left frame) × IsTrue (resolves_expr right frame)
+call_resolves e call pos left right frame is args h = operands_resolve call pos left right frame args
+    (subst (λ (t : walk.Seen sound). IsTrue (t.value frame)) (resolves-expr e (layer.Expr::FnCall call pos) is) h)
 
 -- the offset of a variable that resolves is good
-pub good_name : (e : Expr) (offset : Option NonZeroUsize) (name : Name) (namespace : Namespace) (pos : Position) (names : List Name) →
-    out-Expr e ≡ layer.Variable offset name namespace pos → IsTrue (resolves_expr e names) → IsTrue (is_good offset name names)
-good_name e offset name namespace pos names is h = offset_good offset name namespace pos names
-    (subst (λ (t : walk.Seen sound). IsTrue (t.value names)) (resolves-expr e (layer.Variable offset name namespace pos) is) h)
+pub good_name : (e : Expr) (offset : Option NonZeroUsize) (name : Name) (namespace : Namespace) (pos : Position) (frame : Frame) →
+    out-Expr e ≡ layer.Variable offset name namespace pos → IsTrue (resolves_expr e frame) →
+    IsTrue (variable_is_good offset name namespace.path frame)
+good_name e offset name namespace pos frame is h = (holds_then _ true (both _ _
+    (subst (λ (t : walk.Seen sound). IsTrue (t.value frame)) (resolves-expr e (layer.Variable offset name namespace pos) is) h)).1).0
 
 -- so it is with the target of an assignment
 place_then : (place b : Bool) → IsTrue (if place then b else (false && b)) → IsTrue b
 place_then true b h = h
 place_then false b h = cc
 
-pub good_target : (e : Expr) (offset : Option NonZeroUsize) (name : Name) (namespace : Namespace) (pos : Position) (names : List Name) →
-    out-Expr e ≡ layer.Variable offset name namespace pos → IsTrue (target_resolves (tests_of e) names) →
-    IsTrue (is_good offset name names)
-good_target e offset name namespace pos names is h = good_name e offset name namespace pos names is
-    (place_then (tests_of e).is_place ((tests_of e).value names) h)
+pub good_target : (e : Expr) (offset : Option NonZeroUsize) (name : Name) (namespace : Namespace) (pos : Position) (frame : Frame) →
+    out-Expr e ≡ layer.Variable offset name namespace pos → IsTrue (target_resolves (tests_of e) frame) →
+    IsTrue (variable_is_good offset name namespace.path frame)
+good_target e offset name namespace pos frame is h = good_name e offset name namespace pos frame is
+    (place_then (tests_of e).is_place ((tests_of e).value frame) h)

@@ -1,11 +1,10 @@
 -- How the machine reads an operand that stands: one charge at its position, and a copy of its value.
-use Rattle.std.proofs.Common.{◌≡◌, ◌<◌, ◌≤◌, ◌+◌, ◌∙◌, ℕ, false, true, List, [], ◌∷◌, Option, Some, None, Result, Ok, refl, ap}
+use Rattle.std.proofs.Common.{◌≡◌, ◌<◌, ◌≤◌, ◌+◌, ◌∙◌, ℕ, false, List, Option, Some, None, Result, Ok, refl, ap}
 use Rattle.std.proofs.Common.{if◌then◌else◌}
 use Rattle.rhai_tree.specs.declared.position.Position.{Position}
 use Rattle.rhai_tree.specs.declared.expr.Expr.{Expr, out-Expr}
 use Rattle.rhai_tree.specs.declared.expr.Expr.TheOpen as layer
 use Rattle.rhai_tree.specs.declared.expr.Expr.TheFolds.{fold_out-Expr}
-use Rattle.rhai_tree.specs.Forms.{is_unqualified}
 use Rattle.rhai_tree.specs.Layers.{ExprLayer}
 use Rattle.rhai_tree.specs.Positions.{position_of, start_of}
 use Rattle.rhai_values.specs.declared.base.value.Dynamic.{Dynamic}
@@ -17,7 +16,7 @@ use Rattle.rhai_state.specs.declared.scope.ScopeEntry.{ScopeEntry}
 use Rattle.rhai_state.specs.declared.state.GlobalRuntimeState.{GlobalRuntimeState}
 use Rattle.rhai_state.specs.declared.error.EvalAltResult.{EvalAltResult}
 use Rattle.rhai_state.specs.declared.error.EvalAltResult.TheVariants as error
-use Rattle.rhai_state.specs.Scope.{entries_of, index_of, value_in}
+use Rattle.rhai_state.specs.Scope.{entries_of, value_in}
 use Rattle.rhai_machine.specs.language.State.{Held, Surroundings}
 use Rattle.rhai_machine.specs.machine.Machine.{Go}
 use Rattle.rhai_machine.specs.machine.Memory.{here, next, ◌⨾◌}
@@ -35,12 +34,6 @@ use Rattle.rhai_steps.proofs.Pieces.{step_by, charged, refused}
 use Rattle.rhai_operands.specs.Standing.{standing, unless_handle}
 
 module _ {H : Type 0} where
-  -- a name by itself has the newest entry
-  pub plain_entry : (path : List (List ℕ)) (name : List ℕ) (entries : List (ScopeEntry H)) → is_unqualified path ≡ true →
-      entry_named path name entries ≡ index_of name entries
-  plain_entry [] name entries is = refl
-  plain_entry (root ∷ path) name entries is = cc
-
   -- a variable that is no handle is read as a copy
   read_value : (cells : Cells H) (name : _) (pos : Position) (index : ℕ) (u : Union H) (w v : Dynamic H) →
       (if is_handle u then None else Some w) ≡ Some v → read_of (of_entry index (looked_up cells name pos u w)) ≡ Ok (copy_of v)

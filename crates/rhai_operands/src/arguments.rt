@@ -7,7 +7,7 @@ ghost use Rattle.rhai_machine.specs.language.Frames.{Argument};
 ghost use Rattle.rhai_machine.specs.language.Runs.{Runs};
 ghost use Rattle.rhai_machine.specs.language.Setting.{rules_of};
 ghost use Rattle.rhai_machine.specs.language.State.{Answers};
-ghost use Rattle.rhai_steps.specs.Agreement.{KeepsSearch};
+ghost use Rattle.rhai_steps.specs.Agreement.{KeepsSight};
 ghost use Rattle.rhai_steps.specs.States.{state_of};
 ghost use Rattle.rhai_context.specs.Ends.{came};
 
@@ -77,7 +77,7 @@ fn charge_literal<H: Host, T: NativeTable<H>>(
     ensures left_alone { result ≡ None → global.new ≡ global.old }
     ensures charges { IfSome result (λ done. IsTrue done →
         global.old.num_operations < global.new.num_operations) }
-    ensures search { KeepsSearch global.old global.new }
+    ensures sight { KeepsSight global.old global.new }
     ensures runs { (offer : _) (scope : _) (held : _) →
         IfSome result (λ done. Runs (rules_of limits.now H.name_of offer T.natives) (Argument arg.now)
         (state_of (T.state _table.now) global.old scope held)
@@ -116,7 +116,7 @@ pub fn literal_arg<H: Host, T: NativeTable<H>>(
     ensures left_alone { result ≡ None → global.new ≡ global.old }
     ensures charges { IfSome result (λ done. IsTrue done →
         global.old.num_operations < global.new.num_operations) }
-    ensures search { KeepsSearch global.old global.new }
+    ensures sight { KeepsSight global.old global.new }
     ensures runs { (offer : _) (scope : _) (held : _) →
         IfSome result (λ done. Runs (rules_of limits.now H.name_of offer T.natives) (Argument arg.now)
         (state_of (T.state _table.now) global.old scope held)

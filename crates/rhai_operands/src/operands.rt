@@ -12,7 +12,7 @@ ghost use Rattle.rhai_operands.specs.Standing.{integer_of, standing, two_in, val
 use rhai_state::scope::Scope;
 use rhai_state::state::GlobalRuntimeState;
 use rhai_steps::values::{bool_value, char_value, int_value, is_bare_handle, unit_value};
-use rhai_steps::variables::{entry_of_variable, is_plain, place_by_offset};
+use rhai_steps::variables::{entry_of_variable, place_by_offset};
 use rhai_tree::expr::{Expr, FnCallExpr};
 use rhai_values::base::value::{Dynamic, Host, Union};
 
@@ -100,10 +100,7 @@ pub fn integer_in_place<H: Host>(
             namespace,
             ..
         } => {
-            if !is_plain(namespace) {
-                return None;
-            }
-            let index = place_by_offset(global, scope, *offset, name)?;
+            let index = place_by_offset(global, scope, *offset, name, namespace)?;
             integer_at(scope.value_at(index))
         }
         _ => None,

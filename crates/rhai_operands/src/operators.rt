@@ -11,7 +11,7 @@ ghost use Rattle.rhai_state.specs.Scope.{entries_of};
 ghost use Rattle.rhai_machine.specs.language.Frames.{OpenExpr};
 ghost use Rattle.rhai_machine.specs.language.Runs.{Runs};
 ghost use Rattle.rhai_machine.specs.language.Setting.{rules_of};
-ghost use Rattle.rhai_steps.specs.Agreement.{AgreesAt, KeepsSearch};
+ghost use Rattle.rhai_steps.specs.Agreement.{AgreesAt, KeepsSight};
 ghost use Rattle.rhai_steps.specs.States.{state_of};
 ghost use Rattle.rhai_operators.specs.Direct.{integer_in};
 ghost use Rattle.rhai_operands.specs.Standing.{assigned_known, compared, compared_known, integer_of};
@@ -71,7 +71,7 @@ fn operate_values<H: Host, T: NativeTable<H>>(
         (standing (out-Expr right.now) (entries_of scope.now))) }
     ensures left_alone { result ≡ None → global.new ≡ global.old }
     ensures counts { global.old.num_operations ≤ global.new.num_operations }
-    ensures search { KeepsSearch global.old global.new }
+    ensures sight { KeepsSight global.old global.new }
     ensures runs { (offer : _) (held : _) → offer.fast_operators ≡ true →
         IfSome result (λ result. Runs (rules_of limits.now H.name_of offer T.natives)
         (OpenExpr (layer.Expr::FnCall call.now pos))
@@ -117,7 +117,7 @@ fn operate_others<H: Host, T: NativeTable<H>>(
         (standing (out-Expr right.now) (entries_of scope.now))) }
     ensures left_alone { result ≡ None → global.new ≡ global.old }
     ensures counts { global.old.num_operations ≤ global.new.num_operations }
-    ensures search { KeepsSearch global.old global.new }
+    ensures sight { KeepsSight global.old global.new }
     ensures runs { (offer : _) (held : _) → offer.fast_operators ≡ true →
         IfSome result (λ done. Runs (rules_of limits.now H.name_of offer T.natives)
         (OpenExpr (layer.Expr::FnCall call.now pos))
@@ -168,7 +168,7 @@ fn operate_integers<H: Host>(
     ensures charged { IsTrue result → global.new ≡ record global.old
         { num_operations = global.old.num_operations + 2 } }
     ensures left_alone { result ≡ false → global.new ≡ global.old }
-    ensures search { KeepsSearch global.old global.new }
+    ensures sight { KeepsSight global.old global.new }
 {
     let first = integer_in_place(global, scope, left);
     if first.is_none() {
@@ -220,7 +220,7 @@ pub fn operate_in_place<H: Host, T: NativeTable<H>>(
         (standing (out-Expr right.now) (entries_of scope.now))) }
     ensures left_alone { result ≡ None → global.new ≡ global.old }
     ensures counts { global.old.num_operations ≤ global.new.num_operations }
-    ensures search { KeepsSearch global.old global.new }
+    ensures sight { KeepsSight global.old global.new }
     ensures runs { (offer : _) (held : _) → offer.fast_operators ≡ true →
         IfSome result (λ done. Runs (rules_of limits.now H.name_of offer T.natives)
         (OpenExpr (layer.Expr::FnCall call.now pos))
@@ -357,7 +357,7 @@ pub fn holds_in_place<H: Host, T: NativeTable<H>>(
     ensures left_alone { result ≡ None → global.new ≡ global.old }
     ensures charges { IfSome result (λ told. IfSome told (λ _.
         global.old.num_operations < global.new.num_operations)) }
-    ensures search { KeepsSearch global.old global.new }
+    ensures sight { KeepsSight global.old global.new }
     ensures memory { IfSome result (λ told. told ≡ None → is_out_of_memory (error_in place.new) ≡ false) }
     ensures runs { (offer : _) (held : _) → offer.fast_operators ≡ true →
         IfSome result (λ told. Tests (rules_of limits.now H.name_of offer T.natives) test.now

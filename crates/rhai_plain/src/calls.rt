@@ -10,7 +10,7 @@ ghost use Rattle.rhai_machine.specs.language.Activations as machine;
 ghost use Rattle.rhai_machine.specs.language.Bodies.{statements_of as statements_in};
 ghost use Rattle.rhai_machine.specs.language.Calls.{races};
 ghost use Rattle.rhai_machine.specs.language.State.{Answers, deeper};
-ghost use Rattle.rhai_steps.specs.Agreement.{KeepsSearch};
+ghost use Rattle.rhai_steps.specs.Agreement.{KeepsSight};
 ghost use Rattle.rhai_context.specs.Ends.{came, error_in, unit};
 ghost use Rattle.rhai_bodies.specs.Closing.{outcome_of, taken_back, Ends};
 ghost use Rattle.rhai_bodies.specs.Opening.{entered_global, entry, exit_seen, is_deep, is_full};
@@ -85,7 +85,7 @@ pub fn ends_before<H: Host>(
         × (out.new ≡ unit) }
     ensures enters { result ≡ None → (is_deep limits.now (deeper global.old.level) ≡ false)
         × (is_full limits.now 0 (length def.now.params) ≡ false) × (statements_in def.now.body ≢ []) }
-    ensures search { KeepsSearch global.old global.new }
+    ensures sight { KeepsSight global.old global.new }
 {
     if !charge(limits, global, place, pos) {
         return Some(false);

@@ -1,7 +1,7 @@
 //! Variables that a script declares, and those that it overwrites. Ports what upstream's `eval_stmt` does with a
 //! `let` and a `const`.
 
-ghost use Rattle.std.specs.Prelude.{◌≡◌, ◌<◌, ◌&&◌, IfErr, IsTrue, None, OnErr, OnOk, Some, false, true};
+ghost use Rattle.std.specs.Prelude.{◌≡◌, ◌<◌, ◌&&◌, [], IfErr, IsTrue, None, OnErr, OnOk, Some, false, true};
 ghost use Rattle.std.specs.Prelude.{is_none, length, slice_get};
 ghost use Rattle.std.specs.Option.{option_map};
 ghost use Rattle.rhai_tree.specs.Forms.{is_exported as exported};
@@ -11,7 +11,7 @@ ghost use Rattle.rhai_state.specs.Scope.{entries_of, index_of, names_in, value_o
 ghost use Rattle.rhai_machine.specs.language.State.{Answers};
 ghost use Rattle.rhai_machine.specs.language.Statements.{constant_core, enters};
 ghost use Rattle.rhai_machine.specs.language.Values.{unit_value as unit};
-ghost use Rattle.rhai_steps.specs.Agreement.{AgreesAt, KeepsSearch, variable_is_good};
+ghost use Rattle.rhai_steps.specs.Agreement.{AgreesAt, KeepsSight, variable_is_good};
 ghost use Rattle.rhai_steps.specs.Declaring.{declarable, is_full, is_taken};
 ghost use Rattle.rhai_steps.specs.States.{local_of};
 ghost use Rattle.rhai_context.specs.Ends.{came, error_in};
@@ -111,7 +111,7 @@ fn publish<H: Host>(
         ≡ constant_core (enters options restoring (local_of global.old s held)) name.now v
         (local_of global.old s held)) }
     ensures counts { global.new.num_operations ≡ global.old.num_operations }
-    ensures search { KeepsSearch global.old global.new }
+    ensures sight { KeepsSight global.old global.new }
     ensures refused { IfErr result (λ e. is_out_of_memory e ≡ true) }
     ensures same { OnErr result (global.new ≡ global.old) }
     ensures same_scope { OnErr result (entries_of scope.new ≡ entries_of scope.old) }
@@ -145,7 +145,7 @@ fn add_variable<H: Host>(
         (local_of global.old scope.old held) (local_of global.new scope.new held)) }
     ensures names { OnOk result (names_in scope.new ≡ var_names None ident.now.name (names_in scope.old)) }
     ensures counts { global.new.num_operations ≡ global.old.num_operations }
-    ensures search { KeepsSearch global.old global.new }
+    ensures sight { KeepsSight global.old global.new }
     ensures refused { IfErr result (λ e. is_out_of_memory e ≡ true) }
     ensures same { OnErr result (global.new ≡ global.old) }
     ensures same_scope { OnErr result (entries_of scope.new ≡ entries_of scope.old) }
@@ -192,7 +192,7 @@ fn overwrite_none<H: Host>(
         IfErr result (λ e. is_out_of_memory e ≡ false → Misses value.now ident.now (Some offset) options
         restoring e (local_of global.old scope held) (local_of global.new scope held)) }
     ensures counts { global.new.num_operations ≡ global.old.num_operations }
-    ensures search { KeepsSearch global.old global.new }
+    ensures sight { KeepsSight global.old global.new }
     ensures same { IfErr result (λ e. is_out_of_memory e ≡ true → global.new ≡ global.old) }
 {
     if !is_exported(options) {
@@ -224,13 +224,13 @@ fn overwrite_variable<H: Host>(
     restoring: bool,
     pos: Position,
 ) -> Result<(), EvalAltResult<H>>
-    requires { AgreesAt global.old scope.old (variable_is_good (Some offset) ident.now.name) }
+    requires { AgreesAt global.old scope.old (variable_is_good (Some offset) ident.now.name []) }
     ensures declares { (held : _) → OnOk result (Declares value ident.now (Some offset) options restoring
         (local_of global.old scope.old held) (local_of global.new scope.new held)) }
     ensures names { OnOk result (names_in scope.new
         ≡ var_names (Some offset) ident.now.name (names_in scope.old)) }
     ensures counts { global.new.num_operations ≡ global.old.num_operations }
-    ensures search { KeepsSearch global.old global.new }
+    ensures sight { KeepsSight global.old global.new }
     ensures misses { (held : _) → IfErr result (λ e. is_out_of_memory e ≡ false → Misses value ident.now
         (Some offset) options restoring e (local_of global.old scope.old held)
         (local_of global.new scope.new held)) }
@@ -279,13 +279,13 @@ pub fn declare<H: Host>(
     restoring: bool,
     pos: Position,
 ) -> bool
-    requires { AgreesAt global.old scope.old (variable_is_good index ident.now.name) }
+    requires { AgreesAt global.old scope.old (variable_is_good index ident.now.name []) }
     ensures value { IsTrue result → out.new ≡ unit }
     ensures declares { (held : _) → IsTrue result → Declares out.old ident.now index options restoring
         (local_of global.old scope.old held) (local_of global.new scope.new held) }
     ensures names { IsTrue result → names_in scope.new ≡ var_names index ident.now.name (names_in scope.old) }
     ensures counts { global.new.num_operations ≡ global.old.num_operations }
-    ensures search { KeepsSearch global.old global.new }
+    ensures sight { KeepsSight global.old global.new }
     ensures misses { (held : _) → result ≡ false → is_out_of_memory (error_in place.new) ≡ false →
         Misses out.old ident.now index options restoring (error_in place.new)
         (local_of global.old scope.old held) (local_of global.new scope.new held) }

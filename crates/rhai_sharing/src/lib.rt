@@ -12,7 +12,7 @@ ghost use Rattle.rhai_machine.specs.language.Runs.{Runs};
 ghost use Rattle.rhai_machine.specs.language.Setting.{rules_of};
 ghost use Rattle.rhai_machine.specs.language.Sharing.{handle_of as handle_to, shared};
 ghost use Rattle.rhai_machine.specs.language.Values.{is_handle as leads_to_cell};
-ghost use Rattle.rhai_steps.specs.Agreement.{AgreesAt, KeepsSearch};
+ghost use Rattle.rhai_steps.specs.Agreement.{AgreesAt, KeepsSight};
 ghost use Rattle.rhai_steps.specs.States.{local_of, state_of};
 ghost use Rattle.rhai_context.specs.Ends.{came};
 
@@ -66,7 +66,7 @@ fn share_value<H: Host>(
         OnOk result (local_of global.new scope.new held ≡ shared index v.value v
         (local_of global.old scope.old held))) }
     ensures rest { global.new ≡ record global.old { cells = global.new.cells } }
-    ensures search { KeepsSearch global.old global.new }
+    ensures sight { KeepsSight global.old global.new }
     ensures names { names_in scope.new ≡ names_in scope.old }
     ensures refused { IfErr result (λ e. is_out_of_memory e ≡ true) }
     ensures same_cells { OnErr result (cells_of global.new.cells ≡ cells_of global.old.cells) }
@@ -94,7 +94,7 @@ fn share_each<H: Host, T: NativeTable<H>>(
 ) -> Result<Dynamic<H>, EvalAltResult<H>>
     requires { AgreesAt global.old scope.old (shared_resolve variables.now) }
     ensures rest { global.new ≡ record global.old { cells = global.new.cells } }
-    ensures search { KeepsSearch global.old global.new }
+    ensures sight { KeepsSight global.old global.new }
     ensures names { names_in scope.new ≡ names_in scope.old }
     ensures runs { (offer : _) (held : _) → Runs (rules_of limits.now H.name_of offer T.natives)
         (Share variables.now) (state_of (T.state table.now) global.old scope.old held) result
@@ -128,7 +128,7 @@ pub fn share_variables<H: Host, T: NativeTable<H>>(
 ) -> bool
     requires { AgreesAt global.old scope.old (shared_resolve variables.now) }
     ensures rest { global.new ≡ record global.old { cells = global.new.cells } }
-    ensures search { KeepsSearch global.old global.new }
+    ensures sight { KeepsSight global.old global.new }
     ensures names { names_in scope.new ≡ names_in scope.old }
     ensures runs { (offer : _) (held : _) → Runs (rules_of limits.now H.name_of offer T.natives)
         (Share variables.now) (state_of (T.state table.now) global.old scope.old held)

@@ -1,14 +1,13 @@
--- What a run relies on of the names that its tree was checked above: they are those of its variables, or variables are searched for.
+-- What a run relies on of the frame that its tree was checked above: it is that of its variables and imports, or variables are searched for.
 use Rattle.std.specs.declared.num.NonZeroUsize.{NonZeroUsize}
-use Rattle.std.specs.Prelude.{◌≡◌, Bool, false, IsTrue, List, Option}
-use Rattle.rhai_tree.specs.Names.{Name, is_good}
+use Rattle.std.specs.Prelude.{◌≡◌, ◌++◌, ◌∷◌, [], if◌then◌else◌, Bool, false, IsTrue, List, Option, map}
+use Rattle.rhai_tree.specs.Forms.{is_unqualified}
+use Rattle.rhai_tree.specs.Names.{Frame, Name, is_good}
+use Rattle.rhai_values.specs.declared.base.value.Import.{Import}
 use Rattle.rhai_state.specs.declared.scope.Scope.{Scope}
 use Rattle.rhai_state.specs.declared.state.GlobalRuntimeState.{GlobalRuntimeState}
 use Rattle.rhai_state.specs.Scope.{names_in}
-
--- what a form stands above: the names of the variables, the newest last
-abbrev pub Frame : Type 0
-Frame = List Name
+use Rattle.rhai_state.specs.State.{import_name}
 
 -- what a form asks of its frame, and what a statement asks and makes of it
 abbrev pub Test : Type 0
@@ -27,34 +26,54 @@ changes verdict frame = (verdict frame).1
 abbrev pub above : (Frame → Frame) → Test → Test
 above change test frame = test (change frame)
 
--- a variable has no offset, or that of the newest of its name
-abbrev pub variable_is_good : Option NonZeroUsize → Name → Test
-variable_is_good offset name frame = is_good offset name frame
+-- a variable has no offset, or that of the newest of its name, and behind a path it has none
+abbrev pub variable_is_good : Option NonZeroUsize → Name → (path : List Name) → Test
+variable_is_good offset name path frame = is_good offset name (if is_unqualified path then frame.names else [])
+
+-- what a checker knows of a state: whether variables are searched for, and the names of the imports, oldest first
+pub record Sight : Type 0 where
+  pub searched : Bool
+  pub imports : List Name
+
+-- with the names of variables it is a frame
+abbrev pub framed : Sight → (names : List Name) → Frame
+framed sight names = record { names = names; imports = sight.imports }
 
 -- a test holds of the frame that a checker knew, which is this one, or variables are searched for
-pub record Agrees (searched : Bool) (frame : Frame) (test : Test) : Type 0 where
+pub record Agrees (sight : Sight) (names : List Name) (test : Test) : Type 0 where
   pub known : Frame
   pub holds : IsTrue (test known)
-  pub stands : searched ≡ false → frame ≡ known
+  pub stands : sight.searched ≡ false → framed sight names ≡ known
 
 -- where variables are not searched for after a part, they were not before it, and the frame is then the one that is known
-pub record Leads (was : Bool) (known : Frame) (searched : Bool) (left : Frame) : Type 0 where
-  pub off : searched ≡ false → was ≡ false
-  pub leads : searched ≡ false → left ≡ known
+pub record Leads (was : Sight) (known : Frame) (sight : Sight) (names : List Name) : Type 0 where
+  pub off : sight.searched ≡ false → was.searched ≡ false
+  pub leads : sight.searched ≡ false → framed sight names ≡ known
 
 -- the frame is as it was before a part, and so is whether variables are searched for
-pub record Restores (was : Bool) (known : Frame) (searched : Bool) (left : Frame) : Type 0 where
-  pub search : searched ≡ was
-  pub frame : left ≡ known
+pub record Restores (was : Sight) (known : List Name) (now : Sight) (left : List Name) : Type 0 where
+  pub sight : now ≡ was
+  pub names : left ≡ known
 
 module _ {H : Type 0} where
+  abbrev pub imports_in : List (Import H) → List Name
+  imports_in imports = map import_name imports
+
+  abbrev pub sight_of : GlobalRuntimeState H → Sight
+  sight_of global = record { searched = global.always_search_scope; imports = imports_in global.imports }
+
+  -- the frame of a state and a scope
   abbrev pub frame_of : GlobalRuntimeState H → Scope H → Frame
-  frame_of global scope = names_in scope
+  frame_of global scope = framed (sight_of global) (names_in scope)
 
   -- of a state and a scope
   abbrev pub AgreesAt : GlobalRuntimeState H → Scope H → Test → Type 0
-  AgreesAt global scope test = Agrees global.always_search_scope (frame_of global scope) test
+  AgreesAt global scope test = Agrees (sight_of global) (names_in scope) test
 
-  -- what changes no name leaves whether variables are searched for
-  abbrev pub KeepsSearch : (old new : GlobalRuntimeState H) → Type 0
-  KeepsSearch old new = new.always_search_scope ≡ old.always_search_scope
+  -- what neither imports nor searches leaves what a checker knows of the state
+  abbrev pub KeepsSight : (old new : GlobalRuntimeState H) → Type 0
+  KeepsSight old new = sight_of new ≡ sight_of old
+
+  -- and what imports under a name adds that name
+  abbrev pub AddsImport : Name → (old new : GlobalRuntimeState H) → Type 0
+  AddsImport name old new = sight_of new ≡ record (sight_of old) { imports = imports_in old.imports ++ name ∷ [] }

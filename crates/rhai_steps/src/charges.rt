@@ -2,7 +2,7 @@
 
 ghost use Rattle.std.specs.Prelude.{◌≡◌, ◌<◌, ◌≤◌, ◌+◌, OnOk, IfErr, true, false};
 ghost use Rattle.rhai_state.specs.declared.error.EvalAltResult.TheVariants as error;
-ghost use Rattle.rhai_steps.specs.Agreement.{KeepsSearch};
+ghost use Rattle.rhai_steps.specs.Agreement.{KeepsSight};
 
 use rhai_state::error::EvalAltResult;
 use rhai_state::limits::Limits;
@@ -23,7 +23,7 @@ pub fn track_operation<H: Host>(
     ensures full { IfErr result (λ _. limits.now.max_operations ≤ global.old.num_operations) }
     ensures refused { IfErr result (λ e. e ≡ error.ErrorTooManyOperations pos) }
     ensures same { IfErr result (λ _. global.new ≡ global.old) }
-    ensures search { KeepsSearch global.old global.new }
+    ensures sight { KeepsSight global.old global.new }
 {
     let is_spent = global.num_operations >= limits.max_operations;
     if is_spent {
@@ -41,7 +41,7 @@ pub fn charge_one<H: Host>(limits: &Limits, global: &mut GlobalRuntimeState<H>) 
         { num_operations = global.old.num_operations + 1 } }
     ensures full { result ≡ false → limits.now.max_operations ≤ global.old.num_operations }
     ensures same { result ≡ false → global.new ≡ global.old }
-    ensures search { KeepsSearch global.old global.new }
+    ensures sight { KeepsSight global.old global.new }
 {
     let has_room = global.num_operations < limits.max_operations;
     if !has_room {
@@ -62,7 +62,7 @@ pub fn charge_all<H: Host>(limits: &Limits, global: &mut GlobalRuntimeState<H>, 
     ensures full { result ≡ false →
         limits.now.max_operations < global.old.num_operations + count }
     ensures same { result ≡ false → global.new ≡ global.old }
-    ensures search { KeepsSearch global.old global.new }
+    ensures sight { KeepsSight global.old global.new }
 {
     let Some(sum) = global.num_operations.checked_add(count) else {
         let _limit = limits.max_operations;

@@ -7,7 +7,7 @@ ghost use Rattle.rhai_values.specs.Copy.{copy_of};
 ghost use Rattle.rhai_state.specs.Errors.{is_out_of_memory};
 ghost use Rattle.rhai_machine.specs.language.Statements.{constant_core, enters as enters_in};
 ghost use Rattle.rhai_machine.specs.language.Statements.{has_some as has_some_in, with_entry_at};
-ghost use Rattle.rhai_steps.specs.Agreement.{KeepsSearch};
+ghost use Rattle.rhai_steps.specs.Agreement.{KeepsSight};
 ghost use Rattle.rhai_steps.specs.States.{local_of};
 
 use crate::values::copy;
@@ -64,7 +64,7 @@ fn add_constant<H: Host>(
     }) }
     ensures refused { IfErr result (λ e. is_out_of_memory e ≡ true) }
     ensures same { OnErr result (global.new ≡ global.old) }
-    ensures search { KeepsSearch global.old global.new }
+    ensures sight { KeepsSight global.old global.new }
 {
     let at = global.constants;
     let is_there = at < global.constant_tables.len();
@@ -99,7 +99,7 @@ pub fn enter_constant<H: Host>(
         ≡ constant_core (enters_in options restoring (local_of global.old scope held)) name.now value.now
         (local_of global.old scope held)) }
     ensures counts { global.new.num_operations ≡ global.old.num_operations }
-    ensures search { KeepsSearch global.old global.new }
+    ensures sight { KeepsSight global.old global.new }
     ensures refused { IfErr result (λ e. is_out_of_memory e ≡ true) }
     ensures same { OnErr result (global.new ≡ global.old) }
 {

@@ -52,7 +52,7 @@ pub fn place_of_variable<H: Host>(
     offset: Option<NonZeroUsize>,
     name: &Shared<Text>,
 ) -> Option<usize>
-    requires { AgreesAt global.now scope.now (variable_is_good offset name.now) }
+    requires { AgreesAt global.now scope.now (variable_is_good offset name.now []) }
     ensures exact { result ≡ index_of name.now (entries_of scope.now) }
     ensures within { IfSome result (λ at. at < length (entries_of scope.now)) }
 {
@@ -78,28 +78,34 @@ pub fn entry_of_variable<H: Host>(
     name: &Shared<Text>,
     namespace: &Namespace,
 ) -> Option<usize>
-    requires { AgreesAt global.now scope.now (variable_is_good offset name.now) }
+    requires { AgreesAt global.now scope.now (variable_is_good offset name.now namespace.now.path) }
     ensures exact { result ≡ entry_named namespace.now.path name.now (entries_of scope.now) }
     ensures within { IfSome result (λ at. at < length (entries_of scope.now)) }
 {
-    if is_plain(namespace) {
-        place_of_variable(global, scope, offset, name)
-    } else {
-        None
+    match place_by_offset(global, scope, offset, name, namespace) {
+        Some(index) => Some(index),
+        None => {
+            if is_plain(namespace) {
+                place_of_variable(global, scope, offset, name)
+            } else {
+                None
+            }
+        }
     }
 }
 
-/// The place of the newest variable of a name by its offset. None where none is given, or variables are searched for.
-/// Asked: the offset leads to the newest variable of the name.
+/// The place of the newest variable of a name by its offset, which stands behind no path. None where none is given, or
+/// variables are searched for. Asked: the offset leads to the newest variable of the name.
 #[inline(always)]
 pub fn place_by_offset<H: Host>(
     global: &GlobalRuntimeState<H>,
     scope: &Scope<H>,
     offset: Option<NonZeroUsize>,
     name: &Shared<Text>,
+    _namespace: &Namespace,
 ) -> Option<usize>
-    requires { AgreesAt global.now scope.now (variable_is_good offset name.now) }
-    ensures exact { IfSome result (λ at. index_of name.now (entries_of scope.now) ≡ Some at) }
+    requires { AgreesAt global.now scope.now (variable_is_good offset name.now _namespace.now.path) }
+    ensures exact { IfSome result (λ at. entry_named _namespace.now.path name.now (entries_of scope.now) ≡ Some at) }
     ensures within { IfSome result (λ at. at < length (entries_of scope.now)) }
 {
     let offset = global.offset_in_use(offset)?;
@@ -212,7 +218,7 @@ pub fn read_variable<H: Host>(
     namespace: &Namespace,
     pos: Position,
 ) -> Result<Dynamic<H>, EvalAltResult<H>>
-    requires { AgreesAt global.now scope.now (variable_is_good offset name.now) }
+    requires { AgreesAt global.now scope.now (variable_is_good offset name.now namespace.now.path) }
     ensures { Answers result (read (globals_in offered.now) (surroundings_of global.now)
         (entries_of scope.now) (variable_named name.now namespace.now pos)) }
 {

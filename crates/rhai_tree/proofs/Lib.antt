@@ -4,5 +4,4 @@ mod Joins
 pub mod Links
 pub mod LookupLemmas
 pub mod Statements
-pub mod Variables
 pub mod Walk

@@ -1,6 +1,6 @@
 -- The links that are seen of a chain are those that it has, and where it may run a list counts them.
 use Rattle.std.proofs.Common.{◌≡◌, ◌≤◌, ◌+◌, ℕ, zero, suc, refl, ap, ◌∙◌, sym, subst, arith, le-leb, leb-true, Bool, true, false}
-use Rattle.std.proofs.Common.{◌&&◌, IsTrue, List, if◌then◌else◌}
+use Rattle.std.proofs.Common.{◌&&◌, IsTrue, if◌then◌else◌}
 use Rattle.rhai_tree.specs.declared.expr.ConditionalExpr.{ConditionalExpr}
 use Rattle.rhai_tree.specs.declared.expr.Expr.{Expr, out-Expr}
 use Rattle.rhai_tree.specs.declared.expr.Expr.TheOpen as layer
@@ -12,7 +12,7 @@ use Rattle.rhai_tree.specs.declared.expr.StmtBlock.{StmtBlock}
 use Rattle.rhai_tree.specs.Layers.{ExprLayer}
 use Rattle.rhai_tree.specs.Frame.{tests_of, resolves_expr, target_resolves}
 use Rattle.rhai_tree.specs.Links.{links_step, links_in, links, most_links, is_counted}
-use Rattle.rhai_tree.specs.Names.{Name}
+use Rattle.rhai_tree.specs.Names.{Frame}
 use Rattle.rhai_tree.specs.Reading as walk
 use Rattle.rhai_tree.specs.Reading.{sound}
 use Rattle.rhai_tree.proofs.Walk.{expr_tests, resolves-expr}
@@ -80,17 +80,17 @@ front : (a b : Bool) → IsTrue (a && b) → IsTrue a
 front true b h = refl
 front false b h = h
 
-few_at : (l : ExprLayer) (names : List Name) → IsTrue ((level l).value names) → IsTrue (is_counted (level l).links)
-few_at (layer.Dot lhs rhs options pos) names h = front _ _ h
-few_at (layer.Index lhs rhs options pos) names h = front _ _ h
-few_at (layer.Stmt block) names h = subst (λ (n : ℕ). IsTrue (is_counted n)) (sym (block_links block)) refl
-few_at _ names h = refl
+few_at : (l : ExprLayer) (frame : Frame) → IsTrue ((level l).value frame) → IsTrue (is_counted (level l).links)
+few_at (layer.Dot lhs rhs options pos) frame h = front _ _ h
+few_at (layer.Index lhs rhs options pos) frame h = front _ _ h
+few_at (layer.Stmt block) frame h = subst (λ (n : ℕ). IsTrue (is_counted n)) (sym (block_links block)) refl
+few_at _ frame h = refl
 
 -- it has no more links than a list counts
-pub few_links : (e : Expr) (names : List Name) → IsTrue (resolves_expr e names) → links (out-Expr e) ≤ most_links
-few_links e names h =
+pub few_links : (e : Expr) (frame : Frame) → IsTrue (resolves_expr e frame) → links (out-Expr e) ≤ most_links
+few_links e frame h =
     let seen = resolves-expr e (out-Expr e) refl in
-    let counted = few_at (out-Expr e) names (subst (λ (s : walk.Seen sound). IsTrue (s.value names)) seen h) in
+    let counted = few_at (out-Expr e) frame (subst (λ (s : walk.Seen sound). IsTrue (s.value frame)) seen h) in
     leb-true _ _ (subst (λ (n : ℕ). IsTrue (is_counted n)) (sym (ap (λ (s : walk.Seen sound). s.links) seen) ∙ links_seen e ∙ links_same e)
     counted)
 
@@ -99,5 +99,5 @@ placed true b h = h
 placed false b h = cc
 
 -- so does one that is assigned to
-pub few_in_target : (lhs : Expr) (names : List Name) → IsTrue (target_resolves (tests_of lhs) names) → links (out-Expr lhs) ≤ most_links
-few_in_target lhs names h = few_links lhs names (placed (tests_of lhs).is_place (resolves_expr lhs names) h)
+pub few_in_target : (lhs : Expr) (frame : Frame) → IsTrue (target_resolves (tests_of lhs) frame) → links (out-Expr lhs) ≤ most_links
+few_in_target lhs frame h = few_links lhs frame (placed (tests_of lhs).is_place (resolves_expr lhs frame) h)

@@ -18,8 +18,8 @@ use Rattle.rhai_tree.specs.Layers.{StmtLayer}
 use Rattle.rhai_tree.specs.Cases.{all_below, are_blocks, are_cases, block_of, are_ranges, is_default, is_switch}
 use Rattle.rhai_tree.specs.Forms.{catch_of}
 use Rattle.rhai_tree.specs.Frame.{resolves_expr, resolves_stmt, resolves_block, resolves_conditional, conditionals_resolve}
-use Rattle.rhai_tree.specs.Frame.{with_name, turn_names, shared_resolve}
-use Rattle.rhai_tree.specs.Names.{Name, is_good}
+use Rattle.rhai_tree.specs.Frame.{with_name, turn_names, turns_resolve, shared_resolve}
+use Rattle.rhai_tree.specs.Names.{Frame, Name, is_good, naming}
 use Rattle.rhai_tree.specs.Reading as walk
 use Rattle.rhai_tree.specs.Reading.{sound}
 use Rattle.rhai_tree.proofs.Catch.{catch_seen}
@@ -36,64 +36,71 @@ tested false h = absurd cc
 
 -- ---- the statements
 
-module _ (s : Stmt) (names : List Name) (h : IsTrue (resolves_stmt s names).0) where
-  at_level : (l : StmtLayer) → out-Stmt s ≡ l → IsTrue (walk.stmt_step sound (stmt_tests l) names).0
-  at_level l is = subst (λ (f : walk.SeenStmt sound). IsTrue (f names).0) (resolves-stmt s l is) h
+module _ (s : Stmt) (frame : Frame) (h : IsTrue (resolves_stmt s frame).0) where
+  at_level : (l : StmtLayer) → out-Stmt s ≡ l → IsTrue (walk.stmt_step sound (stmt_tests l) frame).0
+  at_level l is = subst (λ (f : walk.SeenStmt sound). IsTrue (f frame).0) (resolves-stmt s l is) h
 
   -- the cases of a `switch` are good, and its value and its conditions and results may run
   pub switch_resolves : (expr : Expr) (parts : List ConditionalExpr) (cases : List SwitchCase) (ranges : List RangeCase)
       (default : Option ℕ) (pos : Position) → out-Stmt s ≡ layer.Switch expr parts cases ranges default pos →
       IsTrue (is_switch (length parts) cases ranges default)
-      × (IsTrue (resolves_expr expr names) × IsTrue (conditionals_resolve (map resolves_conditional parts) names))
+      × (IsTrue (resolves_expr expr frame) × IsTrue (conditionals_resolve (map resolves_conditional parts) frame))
   switch_resolves expr parts cases ranges default pos is =
       let seen = both _ _ (at_level (layer.Switch expr parts cases ranges default pos) is) in
       let count = length-map parts resolves_conditional in
       (subst (λ (n : ℕ). IsTrue (is_switch n cases ranges default)) count (tested _ seen.0), both _ _ seen.1)
 
-  -- the value of a `for` may run, and its body with its names
+  -- the value of a `for` may run, and its body with its frame
   pub for_resolves : (variable : Ident) (counter : Option Ident) (expr : Expr) (body : StmtBlock) (pos : Position) →
       out-Stmt s ≡ layer.For variable counter expr body pos →
-      IsTrue (resolves_expr expr names) × IsTrue (resolves_block body (turn_names variable counter names))
-  for_resolves variable counter expr body pos is = both _ _ (at_level (layer.For variable counter expr body pos) is)
+      IsTrue (resolves_expr expr frame) × IsTrue (resolves_block body (naming (turn_names variable counter) frame))
+  for_resolves variable counter expr body pos is =
+      let seen = both _ _ (at_level (layer.For variable counter expr body pos) is) in (seen.0, turns counter seen.1)
+    where
+      turns : (counter : Option Ident) → IsTrue (turns_resolve variable counter body frame) →
+          IsTrue (resolves_block body (naming (turn_names variable counter) frame))
+      turns None runs = runs
+      turns (Some ident) runs = runs
 
   -- the body of a `try` may run, its catch variable is one, and its branch may run with its name
   pub try_resolves : (body : StmtBlock) (variable : Expr) (branch : StmtBlock) (pos : Position) →
-      out-Stmt s ≡ layer.TryCatch body variable branch pos → IsTrue (resolves_block body names)
-      × IsSomeAnd (catch_of variable) (λ name. IsTrue (resolves_block branch (with_name name names)))
+      out-Stmt s ≡ layer.TryCatch body variable branch pos → IsTrue (resolves_block body frame)
+      × IsSomeAnd (catch_of variable) (λ name. IsTrue (resolves_block branch (naming (with_name name) frame)))
   try_resolves body variable branch pos is =
       let seen = both _ _ (at_level (layer.TryCatch body variable branch pos) is) in
       let at = both _ _ seen.1 in (
         seen.0,
-        subst (λ (catch : Option (Option Name)). IsSomeAnd catch (λ name. IsTrue (resolves_block branch (with_name name names))))
+        subst (λ (catch : Option (Option Name)). IsSomeAnd catch (λ name. IsTrue (resolves_block branch (naming (with_name name) frame))))
             (catch_seen sound variable) (caught _ _ branch at.0 at.1),
       )
     where
       caught : (catch : Option (Option Name)) (pos : Position) (branch : StmtBlock) →
           IsTrue (walk.found_in_catch_variable sound catch pos) →
-          IsTrue (resolves_block branch (walk.after_catch sound catch names)) →
-          IsSomeAnd catch (λ name. IsTrue (resolves_block branch (with_name name names)))
-      caught (Some name) pos branch good runs = runs
+          IsTrue (resolves_block branch (walk.after_catch sound catch frame)) →
+          IsSomeAnd catch (λ name. IsTrue (resolves_block branch (naming (with_name name) frame)))
+      caught (Some (Some name)) pos branch good runs = runs
+      caught (Some None) pos branch good runs = runs
       caught None pos branch good runs = absurd cc
 
   -- the offsets of a `Share` are good
-  pub share_resolves : (variables : List SharedVariable) → out-Stmt s ≡ layer.Share variables → IsTrue (shared_resolve variables names)
+  pub share_resolves : (variables : List SharedVariable) → out-Stmt s ≡ layer.Share variables → IsTrue (shared_resolve variables frame)
   share_resolves variables is = at_level (layer.Share variables) is
 
 -- ---- their lists
 
 -- a condition of a `switch` and its result
-pub conditional_at : (parts : List ConditionalExpr) (i : ℕ) (d : ConditionalExpr) (names : List Name) → i < length parts →
-    IsTrue (conditionals_resolve (map resolves_conditional parts) names) →
-    IsTrue (resolves_expr (out-ConditionalExpr (get_or parts i d)).condition names)
-    × IsTrue (resolves_expr (out-ConditionalExpr (get_or parts i d)).expr names)
-conditional_at [] i d names lt h = absurd (omega arith)
-conditional_at (part ∷ parts) zero d names lt h = both _ _ (subst (λ (f : walk.SeenConditional sound). IsTrue (f names))
+pub conditional_at : (parts : List ConditionalExpr) (i : ℕ) (d : ConditionalExpr) (frame : Frame) → i < length parts →
+    IsTrue (conditionals_resolve (map resolves_conditional parts) frame) →
+    IsTrue (resolves_expr (out-ConditionalExpr (get_or parts i d)).condition frame)
+    × IsTrue (resolves_expr (out-ConditionalExpr (get_or parts i d)).expr frame)
+conditional_at [] i d frame lt h = absurd (omega arith)
+conditional_at (part ∷ parts) zero d frame lt h = both _ _ (subst (λ (f : walk.SeenConditional sound). IsTrue (f frame))
     (fold_out-ConditionalExpr (walk.Seen sound) (walk.SeenStmt sound) (walk.SeenConditional sound) (walk.SeenCall sound)
     (walk.SeenEntry sound) (walk.Seen sound) (walk.expr_step sound) (walk.stmt_step sound) (walk.conditional_step sound)
     (walk.call_step sound) (walk.entry_step sound) (walk.block_step sound) part)
-    (both (resolves_conditional part names) _ h).0)
-conditional_at (part ∷ parts) (suc i) d names lt h =
-    conditional_at parts i d names (omega arith) (both (resolves_conditional part names) _ h).1
+    (both (resolves_conditional part frame) _ h).0)
+conditional_at (part ∷ parts) (suc i) d frame lt h =
+    conditional_at parts i d frame (omega arith) (both (resolves_conditional part frame) _ h).1
 
 -- a number that is tested is that of a result
 below_at : (count : ℕ) (numbers : List ℕ) (i d : ℕ) → i < length numbers → IsTrue (all_below count numbers) → get_or numbers i d < count
@@ -135,10 +142,10 @@ switch_tests count cases ranges default h =
     (one.0, (two.0, (both (is_default count default) _ two.1).0))
 
 -- a variable that closures share
-pub shared_at : (variables : List SharedVariable) (i : ℕ) (d : SharedVariable) (names : List Name) → i < length variables →
-    IsTrue (shared_resolve variables names) →
-    IsTrue (is_good (get_or variables i d).offset (get_or variables i d).ident.name names)
-shared_at [] i d names lt h = absurd (omega arith)
-shared_at (variable ∷ variables) zero d names lt h = tested _ (both _ (shared_resolve variables names) h).0
-shared_at (variable ∷ variables) (suc i) d names lt h =
-    shared_at variables i d names (omega arith) (both _ (shared_resolve variables names) h).1
+pub shared_at : (variables : List SharedVariable) (i : ℕ) (d : SharedVariable) (frame : Frame) → i < length variables →
+    IsTrue (shared_resolve variables frame) →
+    IsTrue (is_good (get_or variables i d).offset (get_or variables i d).ident.name frame.names)
+shared_at [] i d frame lt h = absurd (omega arith)
+shared_at (variable ∷ variables) zero d frame lt h = tested _ (both _ (shared_resolve variables frame) h).0
+shared_at (variable ∷ variables) (suc i) d frame lt h =
+    shared_at variables i d frame (omega arith) (both _ (shared_resolve variables frame) h).1

@@ -1,17 +1,17 @@
--- What a run may rely on in a part of a checked tree: it has forms that are there alone, a list counts the links of each chain, and each
--- offset is that of the newest variable of its name in the scope, whose names are taken oldest first.
+-- What a run may rely on in a part of a checked tree: it has forms that are there alone, a list counts the links of each chain, each offset
+-- is that of the newest variable of its name in the scope, and each index of a path that of the newest import of its root's name.
 use Rattle.std.specs.declared.num.NonZeroUsize.{NonZeroUsize}
-use Rattle.std.specs.Prelude.{Bool, false, IsTrue, List, [], ◌∷◌, ◌++◌, map, Option, option_map}
+use Rattle.std.specs.Prelude.{Bool, false, IsTrue, List, [], ◌∷◌, ◌++◌, map, Option, Some, None, option_map}
 use Rattle.rhai_tree.specs.Types.{ASTFlags, ConditionalExpr, Expr, FnCallExpr, Ident, MapEntry, Namespace, Position, ScriptFuncDef}
 use Rattle.rhai_tree.specs.Types.{ScriptFuncPayload, SharedVariable, Stmt, StmtBlock}
 use Rattle.rhai_tree.specs.declared.function.ScriptFuncPayload.TheVariants.{Statements}
 use Rattle.rhai_tree.specs.Positions.{position_of}
 use Rattle.rhai_tree.specs.Forms.{catch_of}
-use Rattle.rhai_tree.specs.Names.{Name}
+use Rattle.rhai_tree.specs.Names.{Frame, Name, naming}
 use Rattle.rhai_tree.specs.Reading as walk
 use Rattle.rhai_tree.specs.Reading.{sound}
 
--- of an expression whether it may run above some names, and whether it may be assigned to; of a statement also the names after it
+-- of an expression whether it may run above a frame, and whether it may be assigned to; of a statement also the frame after it
 abbrev pub tests_of : Expr → walk.Seen sound
 tests_of = walk.seen_expr sound
 
@@ -64,15 +64,13 @@ resolves_conditional = walk.seen_conditional sound
 abbrev pub conditionals_resolve : List (walk.SeenConditional sound) → walk.Finds sound
 conditionals_resolve = walk.found_in_conditionals sound
 
--- the names after one that may be left out, in the body of a `for` behind its counter and its variable, and behind a catch variable
+-- the names behind one that may be left out, and in the body of a `for` behind its counter and its variable
 abbrev pub with_name : Option Name → List Name → List Name
-with_name = walk.after sound
+with_name None names = names
+with_name (Some name) names = names ++ name ∷ []
 
 abbrev pub turn_names : (variable : Ident) → (counter : Option Ident) → List Name → List Name
 turn_names variable counter names = with_name (option_map (walk.name_in sound) counter) names ++ variable.name ∷ []
-
-abbrev pub catch_names : (catch : Option (Option Name)) → List Name → List Name
-catch_names = walk.after_catch sound
 
 -- of the body of a `for`, and of a catch variable with its branch
 abbrev pub turns_resolve : (variable : Ident) → (counter : Option Ident) → StmtBlock → walk.Finds sound
@@ -83,8 +81,11 @@ abbrev pub catch_resolves : (variable : Expr) → (branch : StmtBlock) → walk.
 catch_resolves variable branch = walk.found_in_catch sound (catch_of variable) (position_of variable) (resolves_block branch)
 
 -- of the variables that closures share
+abbrev pub shared_among : List SharedVariable → List Name → Bool
+shared_among = walk.found_in_shared sound
+
 abbrev pub shared_resolve : List SharedVariable → walk.Finds sound
-shared_resolve = walk.found_in_shared sound
+shared_resolve variables frame = shared_among variables frame.names
 
 -- of what stands behind a dot, and of a property or a method that begins there
 abbrev pub dot_resolves : Bool → walk.Link sound → Position → walk.Finds sound
@@ -102,7 +103,8 @@ abbrev pub var_resolves : Option NonZeroUsize → Ident → walk.Seen sound → 
 var_resolves = walk.found_in_var sound
 
 abbrev pub var_names : Option NonZeroUsize → Name → List Name → List Name
-var_names = walk.after_var sound
+var_names None name names = names ++ name ∷ []
+var_names (Some offset) name names = names
 
 -- whether a chain that starts here may be assigned to, and whether one that goes on ends in a method
 abbrev pub tested_root : walk.Seen sound → Bool
@@ -111,14 +113,18 @@ tested_root root = walk.is_root sound root.is_place root.link
 abbrev pub tested_end : walk.Link sound → Bool
 tested_end = walk.index_ends sound false
 
--- whether a function's body may run above some names
+-- whether a function's body may run above a frame
 abbrev pub resolves_body : ScriptFuncPayload → walk.Finds sound
 resolves_body (Statements block) = resolves_block block
 
--- the statements of a tree may run above any names that the caller's scope has
-abbrev pub Resolves : List Stmt → Type 0
-Resolves statements = (base : List Name) → IsTrue (all_resolve (map resolves_stmt statements) base).0
+-- with the parameters of a function
+abbrev pub with_params : List Name → Frame → Frame
+with_params params = naming (λ names. names ++ params)
 
--- a function's body may run with its parameters above any names
+-- the statements of a tree may run above any frame that the caller has
+abbrev pub Resolves : List Stmt → Type 0
+Resolves statements = (base : Frame) → IsTrue (all_resolve (map resolves_stmt statements) base).0
+
+-- a function's body may run with its parameters above any frame
 abbrev pub ResolvesFunction : ScriptFuncDef → Type 0
-ResolvesFunction def = (base : List Name) → IsTrue (resolves_body def.body (base ++ def.params))
+ResolvesFunction def = (base : Frame) → IsTrue (resolves_body def.body (with_params def.params base))

@@ -33,6 +33,22 @@ abbrev pub is_good_root : Option NonZeroUsize → (path : List Name) → (import
 is_good_root index [] imports = true
 is_good_root index (root ∷ path) imports = is_good index root imports
 
+-- what a part of a tree stands above: the names of the variables and those of the imports, each oldest first
+pub record Frame : Type 0 where
+  pub names : List Name
+  pub imports : List Name
+
+-- with one more variable, and with one more import
+abbrev pub with_variable : Name → Frame → Frame
+with_variable name frame = record frame { names = frame.names ++ name ∷ [] }
+
+abbrev pub with_import : Name → Frame → Frame
+with_import name frame = record frame { imports = frame.imports ++ name ∷ [] }
+
+-- with other names of variables
+abbrev pub naming : (List Name → List Name) → Frame → Frame
+naming change frame = record frame { names = change frame.names }
+
 -- the new names begin with the old ones
 abbrev pub Begins : List Name → List Name → Type 0
 Begins old new = (added : List Name) × (new ≡ old ++ added)

@@ -1,4 +1,4 @@
--- One walk over a tree, which is read in two ways: for the faults that stand in it, and for whether a part may run above some names.
+-- One walk over a tree, which is read in two ways: for the faults that stand in it, and for whether a part may run above a frame.
 use Rattle.std.specs.Prelude.{ℕ, ◌+◌, Bool, true, false, not, ◌&&◌, if◌then◌else◌, List, [], ◌∷◌, ◌++◌, length, map, Option, Some, None, option_map}
 use Rattle.std.specs.declared.num.NonZeroUsize.{NonZeroUsize}
 use Rattle.rhai_tree.specs.Types.{ASTFlags, CheckFault, ConditionalExpr, Expr, FnCallExpr, Ident, MapEntry, Namespace, Position}
@@ -14,7 +14,7 @@ use Rattle.rhai_tree.specs.Context.{Context, inside, looping, declaring, importi
 use Rattle.rhai_tree.specs.Forms.{is_unqualified, is_eval_call, is_exported, ends_chain, catch_name, name_asked}
 use Rattle.rhai_tree.specs.Keys.{are_keys}
 use Rattle.rhai_tree.specs.Links.{is_counted}
-use Rattle.rhai_tree.specs.Names.{Name, is_good, is_good_root}
+use Rattle.rhai_tree.specs.Names.{Frame, Name, is_good, is_good_root, with_import, with_variable}
 use Rattle.rhai_tree.specs.Positions.{first_or, start_of_name, start_of_operands, start_of_call}
 
 -- A way of reading a tree: what it keeps of what surrounds a form, what it gathers of a form's parts, and what it finds of how many links
@@ -54,18 +54,18 @@ faulty = record {
   counted = λ links. [];
 }
 
--- whether none stands above some names, wherever the form is and whatever is imported, and a list counts the links of each chain
+-- whether none stands above a frame, wherever the form is, and a list counts the links of each chain
 abbrev pub sound : Reading
 sound = record {
-  Around = List Name;
-  names = λ names. names;
-  in_imports = λ index path names. true;
-  in_loop = λ names. true;
-  in_top = λ names. true;
-  declaring = λ name names. names ++ name ∷ [];
-  importing = λ name names. names;
-  looping = λ names. names;
-  inside = λ names. names;
+  Around = Frame;
+  names = λ frame. frame.names;
+  in_imports = λ index path frame. is_good_root index path frame.imports;
+  in_loop = λ frame. true;
+  in_top = λ frame. true;
+  declaring = with_variable;
+  importing = with_import;
+  looping = λ frame. frame;
+  inside = λ frame. frame;
   Found = Bool;
   none = true;
   both = λ one other. one && other;

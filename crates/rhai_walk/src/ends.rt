@@ -3,7 +3,7 @@
 ghost use Rattle.std.specs.Prelude.{◌≤◌, None};
 ghost use Rattle.rhai_machine.specs.language.Chains.{member_core, spot_core};
 ghost use Rattle.rhai_machine.specs.language.Setting.{rules_of};
-ghost use Rattle.rhai_steps.specs.Agreement.{KeepsSearch};
+ghost use Rattle.rhai_steps.specs.Agreement.{KeepsSight};
 ghost use Rattle.rhai_steps.specs.States.{state_of};
 ghost use Rattle.rhai_steps.specs.Marked.{lending, RunsFrom};
 ghost use Rattle.rhai_chains.specs.Chains.{chain_at, FollowsFrom, HasSwitches, link_seen};
@@ -37,7 +37,7 @@ pub fn end_at<H: Host, T: NativeTable<H>>(
     new: Option<NewValue<H>>,
 ) -> Option<bool>
     ensures counts { global.old.num_operations ≤ global.new.num_operations }
-    ensures search { KeepsSearch global.old global.new }
+    ensures sight { KeepsSight global.old global.new }
     ensures runs { (offer : _) (scope : _) (held : _) (rest : _) (all : _) (in_place : _) →
         HasSwitches offer walker.now.switches →
         let rules = rules_of walker.now.limits.now H.name_of offer T.natives in
@@ -92,7 +92,7 @@ pub fn end_member<H: Host, T: NativeTable<H>>(
     new: Option<NewValue<H>>,
 ) -> Option<bool>
     ensures counts { global.old.num_operations ≤ global.new.num_operations }
-    ensures search { KeepsSearch global.old global.new }
+    ensures sight { KeepsSight global.old global.new }
     ensures runs { (offer : _) (scope : _) (held : _) (link : _) (rest : _) (all : _) (in_place : _) →
         HasSwitches offer walker.now.switches →
         let rules = rules_of walker.now.limits.now H.name_of offer T.natives in

@@ -7,7 +7,7 @@ ghost use Rattle.rhai_machine.specs.language.Chains.{is_property as is_property_
 ghost use Rattle.rhai_machine.specs.language.Frames.{core, marked, MemberSet, Temporary};
 ghost use Rattle.rhai_machine.specs.language.Members.{focused_on, set_core};
 ghost use Rattle.rhai_machine.specs.language.Setting.{rules_of};
-ghost use Rattle.rhai_steps.specs.Agreement.{KeepsSearch};
+ghost use Rattle.rhai_steps.specs.Agreement.{KeepsSight};
 ghost use Rattle.rhai_steps.specs.States.{state_of};
 ghost use Rattle.rhai_steps.specs.Marked.{lending, RunsFrom};
 ghost use Rattle.rhai_chains.specs.Chains.{form_seen, link_seen};
@@ -88,7 +88,7 @@ pub fn get_kept<'e, H: Host, T: NativeTable<H>>(
     access: MemberAccess<'e, H>,
 ) -> Option<(Dynamic<H>, MemberAccess<'e, H>)>
     ensures counts { global.old.num_operations ≤ global.new.num_operations }
-    ensures search { KeepsSearch global.old global.new }
+    ensures sight { KeepsSight global.old global.new }
     ensures runs { (offer : _) (scope : _) (held : _) →
         GetsKept (rules_of walker.now.limits.now H.name_of offer T.natives) (access_of access.entry)
         (state_of (T.state table.old) global.old scope (lending held focus.old))
@@ -137,7 +137,7 @@ pub fn come_back<H: Host, T: NativeTable<H>>(
     mark: Option<bool>,
 ) -> Option<bool>
     ensures counts { global.old.num_operations ≤ global.new.num_operations }
-    ensures search { KeepsSearch global.old global.new }
+    ensures sight { KeepsSight global.old global.new }
     ensures runs { (offer : _) (scope : _) (held : _) →
         RunsFrom (rules_of walker.now.limits.now H.name_of offer T.natives)
         (λ k l. core (marked (came_marked mark out.now place.old))
@@ -177,7 +177,7 @@ fn set_back<H: Host, T: NativeTable<H>>(
     temporary: Dynamic<H>,
 ) -> Option<bool>
     ensures counts { global.old.num_operations ≤ global.new.num_operations }
-    ensures search { KeepsSearch global.old global.new }
+    ensures sight { KeepsSight global.old global.new }
     ensures runs { (offer : _) (scope : _) (held : _) →
         RunsFrom (rules_of walker.now.limits.now H.name_of offer T.natives)
         (λ k. set_core true (access_of access.entry) temporary (MemberSet out.now ∷ k))

@@ -14,7 +14,7 @@ ghost use Rattle.rhai_machine.specs.language.Located.{is_unit as is_unit_in};
 ghost use Rattle.rhai_machine.specs.language.Setting.{rules_of};
 ghost use Rattle.rhai_machine.specs.language.State.{Answers};
 ghost use Rattle.rhai_machine.specs.language.Values.{through, used};
-ghost use Rattle.rhai_steps.specs.Agreement.{KeepsSearch};
+ghost use Rattle.rhai_steps.specs.Agreement.{KeepsSight};
 ghost use Rattle.rhai_steps.specs.States.{state_of};
 ghost use Rattle.rhai_steps.specs.Marked.{lending};
 ghost use Rattle.rhai_chains.specs.Chains.{form_seen, link_seen};
@@ -157,7 +157,7 @@ pub fn begin_link<H: Host, T: NativeTable<H>>(
     link: Link<'_>,
 ) -> Begun<H>
     ensures counts { global.old.num_operations ≤ global.new.num_operations }
-    ensures search { KeepsSearch global.old global.new }
+    ensures sight { KeepsSight global.old global.new }
     ensures fits { FitsLink result (cells_of global.new.cells) focus.now }
     ensures begins { (offer : _) (scope : _) (held : _) (chain : _) →
         link_in chain.rest ≡ Some (link_seen link.entry) →

@@ -12,7 +12,7 @@ ghost use Rattle.rhai_machine.specs.language.Setting.{rules_of};
 ghost use Rattle.rhai_machine.specs.language.Turns.{next_turn};
 ghost use Rattle.rhai_machine.specs.language.Walks.{counter_overflow as text_of_overflow, counters, item_core};
 ghost use Rattle.rhai_machine.specs.language.Walks.{turn_core};
-ghost use Rattle.rhai_steps.specs.Agreement.{KeepsSearch};
+ghost use Rattle.rhai_steps.specs.Agreement.{KeepsSight};
 ghost use Rattle.rhai_steps.specs.States.{state_of};
 ghost use Rattle.rhai_context.specs.Ends.{came, error_in};
 ghost use Rattle.rhai_walks.specs.Loops.{entered_at, loop_in};
@@ -86,7 +86,7 @@ fn count_turn<H: Host>(
 ) -> bool
     requires { base + counters parts.counter.now + 1 ≡ length (entries_of scope.old) }
     ensures rest { global.new ≡ record global.old { cells = global.new.cells } }
-    ensures search { KeepsSearch global.old global.new }
+    ensures sight { KeepsSight global.old global.new }
     ensures names { names_in scope.new ≡ names_in scope.old }
     ensures counted { (item : _) (rest : _) (k : _) (l : _) →
         seen_as (entries_of scope.old) (cells_of global.old.cells) l ≡ l →
@@ -136,7 +136,7 @@ fn enter_handle<H: Host>(
 ) -> bool
     requires { base + counters parts.counter.now + 1 ≡ length (entries_of scope.old) }
     ensures rest { global.new ≡ record global.old { cells = global.new.cells } }
-    ensures search { KeepsSearch global.old global.new }
+    ensures sight { KeepsSight global.old global.new }
     ensures names { names_in scope.new ≡ names_in scope.old }
     ensures entered { (rest : _) (turn : _) (k : _) (l : _) →
         seen_as (entries_of scope.old) (cells_of global.old.cells) l ≡ l →
@@ -182,7 +182,7 @@ fn enter_item<H: Host>(
 ) -> bool
     requires { base + counters parts.counter.now + 1 ≡ length (entries_of scope.old) }
     ensures rest { global.new ≡ record global.old { cells = global.new.cells } }
-    ensures search { KeepsSearch global.old global.new }
+    ensures sight { KeepsSight global.old global.new }
     ensures names { names_in scope.new ≡ names_in scope.old }
     ensures entered { (rest : _) (turn : _) (k : _) (l : _) →
         seen_as (entries_of scope.old) (cells_of global.old.cells) l ≡ l →
@@ -231,7 +231,7 @@ pub fn enter_turn<H: Host, T: NativeTable<H>>(
 ) -> bool
     requires { base + counters parts.counter.now + 1 ≡ length (entries_of scope.old) }
     ensures rest { global.new ≡ record global.old { cells = global.new.cells } }
-    ensures search { KeepsSearch global.old global.new }
+    ensures sight { KeepsSight global.old global.new }
     ensures names { names_in scope.new ≡ names_in scope.old }
     ensures enters { (offer : _) (held : _) (left : _) (rest : _) (k : _) →
         next_turn left ≡ Some (item, rest) → parts.entry.body.now.statements ≢ [] →

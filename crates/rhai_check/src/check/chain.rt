@@ -1,13 +1,13 @@
 //! The checker's walk along chains.
 
-ghost use Rattle.std.specs.Prelude.{◌≡◌, ◌≤◌, ◌+◌, ◌++◌, [], IsTrue, IfErr, OnOk, List, length};
-ghost use Rattle.rhai_check.specs.Around.{around};
+ghost use Rattle.std.specs.Prelude.{◌≡◌, ◌≤◌, ◌+◌, [], IsTrue, IfErr, OnOk, length};
+ghost use Rattle.rhai_check.specs.Around.{above, around};
 ghost use Rattle.rhai_check.specs.Declares.{declares_expr, declares_call};
 ghost use Rattle.rhai_tree.specs.Forms.{ends_chain};
 ghost use Rattle.rhai_tree.specs.Frame.{tests_of, resolves_method, dot_resolves, name_resolves};
 ghost use Rattle.rhai_tree.specs.Frame.{bracket_resolves, tested_root, tested_end};
 ghost use Rattle.rhai_tree.specs.Links.{links_in, most_links};
-ghost use Rattle.rhai_tree.specs.Names.{Name};
+ghost use Rattle.rhai_tree.specs.Names.{Frame};
 ghost use Rattle.rhai_check.specs.Refusals.{Refuses};
 ghost use Rattle.rhai_tree.specs.WellFormed.{seen_expr, seen_call, dot_faults, name_faults};
 ghost use Rattle.rhai_tree.specs.WellFormed.{seen_root, seen_end};
@@ -91,8 +91,8 @@ pub(crate) fn check_behind_bracket(
 ) -> Result<(), CheckFault>
     ensures same { OnOk result (declared.new ≡ declared.old) }
     ensures exact { OnOk result ((seen_expr rhs.now).value (around declared.old place) ≡ []) }
-    ensures resolved { OnOk result ((base : List Name) → IsTrue
-        (bracket_resolves ends (tests_of rhs.now) (base ++ declared.old.names))) }
+    ensures resolved { OnOk result ((base : Frame) → IsTrue
+        (bracket_resolves ends (tests_of rhs.now) (above base declared.old))) }
     ensures refused { IfErr result (λ fault. Refuses ((seen_expr rhs.now).value (around declared.old place))
         (declares_expr rhs.now) fault) }
 {
@@ -125,8 +125,8 @@ pub(crate) fn check_behind_dot(
     ensures same { OnOk result (declared.new ≡ declared.old) }
     ensures exact { OnOk result (dot_faults ends (seen_expr rhs.now).link pos (around declared.old place)
         ≡ []) }
-    ensures resolved { OnOk result ((base : List Name) → IsTrue
-        (dot_resolves ends (tests_of rhs.now).link pos (base ++ declared.old.names))) }
+    ensures resolved { OnOk result ((base : Frame) → IsTrue
+        (dot_resolves ends (tests_of rhs.now).link pos (above base declared.old))) }
     ensures refused { IfErr result (λ fault. Refuses (dot_faults ends (seen_expr rhs.now).link pos
         (around declared.old place)) (declares_expr rhs.now) fault) }
 {
@@ -158,8 +158,8 @@ fn check_named(
     ensures same { OnOk result (declared.new ≡ declared.old) }
     ensures exact { OnOk result
         (name_faults (seen_expr first.now).link pos (around declared.old place) ≡ []) }
-    ensures resolved { OnOk result ((base : List Name) → IsTrue
-        (name_resolves (tests_of first.now).link pos (base ++ declared.old.names))) }
+    ensures resolved { OnOk result ((base : Frame) → IsTrue
+        (name_resolves (tests_of first.now).link pos (above base declared.old))) }
     ensures refused { IfErr result (λ fault. Refuses (name_faults (seen_expr first.now).link pos
         (around declared.old place)) (declares_expr first.now) fault) }
 {
@@ -180,8 +180,8 @@ fn check_method(
 ) -> Result<(), CheckFault>
     ensures same { OnOk result (declared.new ≡ declared.old) }
     ensures exact { OnOk result ((seen_call call.now).method pos (around declared.old place) ≡ []) }
-    ensures resolved { OnOk result ((base : List Name) → IsTrue
-        (resolves_method call.now pos (base ++ declared.old.names))) }
+    ensures resolved { OnOk result ((base : Frame) → IsTrue
+        (resolves_method call.now pos (above base declared.old))) }
     ensures refused { IfErr result (λ fault. Refuses ((seen_call call.now).method pos
         (around declared.old place)) (declares_call call.now) fault) }
 {

@@ -1,13 +1,13 @@
 //! The checker's walk over expressions.
 
-ghost use Rattle.std.specs.Prelude.{◌≡◌, ◌++◌, [], IsTrue, IfErr, OnOk, map, length, List, option_map, true};
-ghost use Rattle.rhai_check.specs.Around.{around};
+ghost use Rattle.std.specs.Prelude.{◌≡◌, [], IsTrue, IfErr, OnOk, map, length, option_map, true};
+ghost use Rattle.rhai_check.specs.Around.{above, around};
 ghost use Rattle.rhai_check.specs.Declares.{in_option, any_need, needs_of, declares_expr, declares_call};
 ghost use Rattle.rhai_tree.specs.Forms.{is_eval_call, is_unqualified};
 ghost use Rattle.rhai_tree.specs.Frame.{tests_of, resolves_expr, resolves_call, target_resolves};
 ghost use Rattle.rhai_tree.specs.Frame.{option_resolves, all_resolve_exprs, entries_resolve, map_resolves};
 ghost use Rattle.rhai_tree.specs.Frame.{tests_of_entry};
-ghost use Rattle.rhai_tree.specs.Names.{Name};
+ghost use Rattle.rhai_tree.specs.Names.{Frame};
 ghost use Rattle.rhai_check.specs.Refusals.{Refuses};
 ghost use Rattle.rhai_tree.specs.WellFormed.{seen_expr, seen_call, target_faults, faults_in_option};
 ghost use Rattle.rhai_tree.specs.WellFormed.{faults_in_all, faults_in_entries, faults_in_map, seen_entry};
@@ -35,8 +35,8 @@ pub(crate) fn check_expr(
 ) -> Result<(), CheckFault>
     ensures same { OnOk result (declared.new ≡ declared.old) }
     ensures exact { OnOk result ((seen_expr expr.now).value (around declared.old place) ≡ []) }
-    ensures resolved { OnOk result ((base : List Name) → IsTrue
-        (resolves_expr expr.now (base ++ declared.old.names))) }
+    ensures resolved { OnOk result ((base : Frame) → IsTrue
+        (resolves_expr expr.now (above base declared.old))) }
     ensures refused { IfErr result (λ fault. Refuses ((seen_expr expr.now).value (around declared.old place))
         (declares_expr expr.now) fault) }
 {
@@ -87,8 +87,8 @@ pub(crate) fn check_exprs(
 ) -> Result<(), CheckFault>
     ensures same { OnOk result (declared.new ≡ declared.old) }
     ensures exact { OnOk result (faults_in_all (map seen_expr exprs.now) (around declared.old place) ≡ []) }
-    ensures resolved { OnOk result ((base : List Name) → IsTrue
-        (all_resolve_exprs (map tests_of exprs.now) (base ++ declared.old.names))) }
+    ensures resolved { OnOk result ((base : Frame) → IsTrue
+        (all_resolve_exprs (map tests_of exprs.now) (above base declared.old))) }
     ensures refused { IfErr result (λ fault. Refuses (faults_in_all (map seen_expr exprs.now)
         (around declared.old place)) (any_need (map needs_of exprs.now)) fault) }
 {
@@ -110,8 +110,8 @@ fn check_map(
     ensures same { OnOk result (declared.new ≡ declared.old) }
     ensures exact { OnOk result (faults_in_map (map seen_entry entries.now) template.now.0 pos
         (around declared.old place) ≡ []) }
-    ensures resolved { OnOk result ((base : List Name) → IsTrue
-        (map_resolves (map tests_of_entry entries.now) template.now.0 pos (base ++ declared.old.names))) }
+    ensures resolved { OnOk result ((base : Frame) → IsTrue
+        (map_resolves (map tests_of_entry entries.now) template.now.0 pos (above base declared.old))) }
     ensures refused { IfErr result (λ fault. Refuses (faults_in_map (map seen_entry entries.now)
         template.now.0 pos (around declared.old place)) true fault) }
 {
@@ -132,8 +132,8 @@ fn check_entries(
     ensures same { OnOk result (declared.new ≡ declared.old) }
     ensures exact { OnOk result (faults_in_entries (map seen_entry entries.now)
         (around declared.old place) ≡ []) }
-    ensures resolved { OnOk result ((base : List Name) → IsTrue
-        (entries_resolve (map tests_of_entry entries.now) (base ++ declared.old.names))) }
+    ensures resolved { OnOk result ((base : Frame) → IsTrue
+        (entries_resolve (map tests_of_entry entries.now) (above base declared.old))) }
     ensures refused { IfErr result (λ fault. Refuses (faults_in_entries (map seen_entry entries.now)
         (around declared.old place)) true fault) }
 {
@@ -153,8 +153,8 @@ pub(crate) fn check_option(
     ensures same { OnOk result (declared.new ≡ declared.old) }
     ensures exact { OnOk result (faults_in_option (option_map seen_expr expr.now) (around declared.old place)
         ≡ []) }
-    ensures resolved { OnOk result ((base : List Name) → IsTrue
-        (option_resolves (option_map tests_of expr.now) (base ++ declared.old.names))) }
+    ensures resolved { OnOk result ((base : Frame) → IsTrue
+        (option_resolves (option_map tests_of expr.now) (above base declared.old))) }
     ensures refused { IfErr result (λ fault. Refuses (faults_in_option (option_map seen_expr expr.now)
         (around declared.old place)) (in_option (option_map needs_of expr.now)) fault) }
 {
@@ -188,8 +188,8 @@ pub(crate) fn check_target(
 ) -> Result<(), CheckFault>
     ensures same { OnOk result (declared.new ≡ declared.old) }
     ensures exact { OnOk result (target_faults (seen_expr lhs.now) (around declared.old place) ≡ []) }
-    ensures resolved { OnOk result ((base : List Name) → IsTrue
-        (target_resolves (tests_of lhs.now) (base ++ declared.old.names))) }
+    ensures resolved { OnOk result ((base : Frame) → IsTrue
+        (target_resolves (tests_of lhs.now) (above base declared.old))) }
     ensures refused { IfErr result (λ fault. Refuses (target_faults (seen_expr lhs.now)
         (around declared.old place)) (declares_expr lhs.now) fault) }
 {
@@ -224,8 +224,8 @@ pub(crate) fn check_call(
 ) -> Result<(), CheckFault>
     ensures same { OnOk result (declared.new ≡ declared.old) }
     ensures exact { OnOk result ((seen_call call.now).value pos (around declared.old place) ≡ []) }
-    ensures resolved { OnOk result ((base : List Name) → IsTrue
-        (resolves_call call.now pos (base ++ declared.old.names))) }
+    ensures resolved { OnOk result ((base : Frame) → IsTrue
+        (resolves_call call.now pos (above base declared.old))) }
     ensures refused { IfErr result (λ fault. Refuses ((seen_call call.now).value pos
         (around declared.old place)) (declares_call call.now) fault) }
 {

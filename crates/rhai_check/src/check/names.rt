@@ -1,13 +1,12 @@
 //! Names among those that are declared so far, oldest first.
 
 ghost use Rattle.std.specs.Prelude.{◌≡◌, ◌++◌, [], IfErr, OnOk, IsTrue, List, false, if◌then◌else◌};
-ghost use Rattle.std.specs.Int.NonZero.{non_zero_usize_get};
-ghost use Rattle.rhai_check.specs.Around.{around};
+ghost use Rattle.rhai_check.specs.Around.{above, around};
 ghost use Rattle.rhai_check.specs.Refusals.{Refuses};
 ghost use Rattle.rhai_check.specs.declared.check.place.Place.{Place};
 ghost use Rattle.rhai_tree.specs.Forms.{is_unqualified};
-ghost use Rattle.rhai_tree.specs.Frame.{variable_resolves, shared_resolve};
-ghost use Rattle.rhai_tree.specs.Names.{Name, offset_of, is_good, is_good_root};
+ghost use Rattle.rhai_tree.specs.Frame.{variable_resolves, shared_among};
+ghost use Rattle.rhai_tree.specs.Names.{Frame, Name, offset_of, is_good, is_good_root};
 ghost use Rattle.rhai_tree.specs.WellFormed.{variable_faults, shared_faults};
 
 use crate::check::CheckFault;
@@ -79,8 +78,8 @@ pub(crate) fn check_variable(
 ) -> Result<(), CheckFault>
     ensures exact { OnOk result ((place : Place) →
         variable_faults offset name.now namespace.now pos (around declared.now place) ≡ []) }
-    ensures resolved { OnOk result ((base : List Name) → IsTrue
-        (variable_resolves offset name.now namespace.now pos (base ++ declared.now.names))) }
+    ensures resolved { OnOk result ((base : Frame) → IsTrue
+        (variable_resolves offset name.now namespace.now pos (above base declared.now))) }
     ensures refused { IfErr result (λ fault. (place : Place) → Refuses
         (variable_faults offset name.now namespace.now pos (around declared.now place)) false fault) }
 {
@@ -100,7 +99,7 @@ pub(crate) fn check_shared(
 ) -> Result<(), CheckFault>
     ensures exact { OnOk result (shared_faults variables.now names.now ≡ []) }
     ensures resolved { OnOk result ((base : List Name) → IsTrue
-        (shared_resolve variables.now (base ++ names.now))) }
+        (shared_among variables.now (base ++ names.now))) }
     ensures refused { IfErr result (λ fault. Refuses (shared_faults variables.now names.now) false fault) }
 {
     'each: for variable in variables {

@@ -1,15 +1,15 @@
 //! The checker's walk over statements.
 
-ghost use Rattle.std.specs.Prelude.{◌≡◌, ◌++◌, [], true, false, IsTrue, IfErr, OnOk, map, List};
+ghost use Rattle.std.specs.Prelude.{◌≡◌, ◌++◌, [], true, false, IsTrue, IfErr, OnOk, map};
 ghost use Rattle.std.specs.Prelude.{option_map};
-ghost use Rattle.rhai_check.specs.Around.{around, Continues};
+ghost use Rattle.rhai_check.specs.Around.{above, around, Continues};
 ghost use Rattle.rhai_tree.specs.Forms.{any_of};
 ghost use Rattle.rhai_check.specs.Declares.{in_option, needs_of, declares_stmt, declares_block};
 ghost use Rattle.rhai_check.specs.Declares.{declares_catch, declares_conditional};
 ghost use Rattle.rhai_tree.specs.Frame.{tests_of, resolves_stmt, resolves_block, all_resolve};
 ghost use Rattle.rhai_tree.specs.Frame.{option_resolves, var_resolves, var_names, turns_resolve};
 ghost use Rattle.rhai_tree.specs.Frame.{catch_resolves, resolves_conditional, conditionals_resolve};
-ghost use Rattle.rhai_tree.specs.Names.{Name};
+ghost use Rattle.rhai_tree.specs.Names.{Frame};
 ghost use Rattle.rhai_tree.specs.Reading.{Seen, faulty, sound};
 ghost use Rattle.rhai_check.specs.Refusals.{Refuses};
 ghost use Rattle.rhai_tree.specs.WellFormed.{seen_expr, seen_stmt, seen_block, faults_in_list};
@@ -37,8 +37,8 @@ pub(crate) fn check_block(
 ) -> Result<(), CheckFault>
     ensures same { OnOk result (declared.new ≡ declared.old) }
     ensures exact { OnOk result ((seen_block block.now).value (around declared.old place) ≡ []) }
-    ensures resolved { OnOk result ((base : List Name) → IsTrue
-        (resolves_block block.now (base ++ declared.old.names))) }
+    ensures resolved { OnOk result ((base : Frame) → IsTrue
+        (resolves_block block.now (above base declared.old))) }
     ensures refused { IfErr result (λ fault.
         Refuses ((seen_block block.now).value (around declared.old place)) (declares_block block.now) fault) }
 {
@@ -58,8 +58,8 @@ pub(crate) fn check_statements(
     ensures begins { OnOk result (Continues declared.old declared.new) }
     ensures exact { OnOk result (faults_in_list (map seen_stmt statements.now) (around declared.old place)
         ≡ ([], around declared.new place)) }
-    ensures resolved { OnOk result ((base : List Name) → all_resolve (map resolves_stmt statements.now)
-        (base ++ declared.old.names) ≡ (true, base ++ declared.new.names)) }
+    ensures resolved { OnOk result ((base : Frame) → all_resolve (map resolves_stmt statements.now)
+        (above base declared.old) ≡ (true, above base declared.new)) }
     ensures refused { IfErr result (λ fault. Refuses (faults_in_list (map seen_stmt statements.now)
         (around declared.old place)).0 (any_of (map declares_stmt statements.now)) fault) }
 {
@@ -82,9 +82,9 @@ fn check_declaration(
     ensures exact { OnOk result ((value : Seen faulty) →
         var_faults index ident.now value options pos (around declared.now place)
         ≡ value.value (around declared.now place)) }
-    ensures resolved { OnOk result ((base : List Name) → (value : Seen sound) →
-        var_resolves index ident.now value options pos (base ++ declared.now.names)
-        ≡ value.value (base ++ declared.now.names)) }
+    ensures resolved { OnOk result ((base : Frame) → (value : Seen sound) →
+        var_resolves index ident.now value options pos (above base declared.now)
+        ≡ value.value (above base declared.now)) }
     ensures refused { IfErr result (λ fault. (value : Seen faulty) → Refuses
         (var_faults index ident.now value options pos (around declared.now place)) false fault) }
 {
@@ -114,8 +114,8 @@ fn check_var(
     }) }
     ensures exact { OnOk result (var_faults index ident.now (seen_expr expr.now) options pos
         (around declared.old place) ≡ []) }
-    ensures resolved { OnOk result ((base : List Name) → IsTrue
-        (var_resolves index ident.now (tests_of expr.now) options pos (base ++ declared.old.names))) }
+    ensures resolved { OnOk result ((base : Frame) → IsTrue
+        (var_resolves index ident.now (tests_of expr.now) options pos (above base declared.old))) }
     ensures refused { IfErr result (λ fault. Refuses (var_faults index ident.now (seen_expr expr.now)
         options pos (around declared.old place)) true fault) }
 {
@@ -135,8 +135,8 @@ fn check_control(
     ensures same { OnOk result (declared.new ≡ declared.old) }
     ensures exact { OnOk result (control_faults pos (around declared.old place)
         ++ faults_in_option (option_map seen_expr expr.now) (around declared.old place) ≡ []) }
-    ensures resolved { OnOk result ((base : List Name) → IsTrue
-        (option_resolves (option_map tests_of expr.now) (base ++ declared.old.names))) }
+    ensures resolved { OnOk result ((base : Frame) → IsTrue
+        (option_resolves (option_map tests_of expr.now) (above base declared.old))) }
     ensures refused { IfErr result (λ fault. Refuses (control_faults pos (around declared.old place)
         ++ faults_in_option (option_map seen_expr expr.now) (around declared.old place))
         (in_option (option_map needs_of expr.now)) fault) }
@@ -156,8 +156,8 @@ fn check_conditional(
 ) -> Result<(), CheckFault>
     ensures same { OnOk result (declared.new ≡ declared.old) }
     ensures exact { OnOk result (seen_conditional conditional.now (around declared.old place) ≡ []) }
-    ensures resolved { OnOk result ((base : List Name) → IsTrue
-        (resolves_conditional conditional.now (base ++ declared.old.names))) }
+    ensures resolved { OnOk result ((base : Frame) → IsTrue
+        (resolves_conditional conditional.now (above base declared.old))) }
     ensures refused { IfErr result (λ fault. Refuses (seen_conditional conditional.now
         (around declared.old place)) (declares_conditional conditional.now) fault) }
 {
@@ -175,8 +175,8 @@ fn check_conditionals(
     ensures same { OnOk result (declared.new ≡ declared.old) }
     ensures exact { OnOk result (faults_in_conditionals (map seen_conditional conditionals.now)
         (around declared.old place) ≡ []) }
-    ensures resolved { OnOk result ((base : List Name) → IsTrue
-        (conditionals_resolve (map resolves_conditional conditionals.now) (base ++ declared.old.names))) }
+    ensures resolved { OnOk result ((base : Frame) → IsTrue
+        (conditionals_resolve (map resolves_conditional conditionals.now) (above base declared.old))) }
     ensures refused { IfErr result (λ fault. Refuses (faults_in_conditionals
         (map seen_conditional conditionals.now) (around declared.old place))
         (any_of (map declares_conditional conditionals.now)) fault) }
@@ -200,8 +200,8 @@ fn check_turns(
     ensures same { OnOk result (declared.new ≡ declared.old) }
     ensures exact { OnOk result (turn_faults variable.now counter.now body.now (around declared.old place)
         ≡ []) }
-    ensures resolved { OnOk result ((base : List Name) → IsTrue
-        (turns_resolve variable.now counter.now body.now (base ++ declared.old.names))) }
+    ensures resolved { OnOk result ((base : Frame) → IsTrue
+        (turns_resolve variable.now counter.now body.now (above base declared.old))) }
     ensures refused { IfErr result (λ fault. Refuses (turn_faults variable.now counter.now body.now
         (around declared.old place)) true fault) }
 {
@@ -223,8 +223,8 @@ fn check_branch(
 ) -> Result<(), CheckFault>
     ensures same { OnOk result (declared.new ≡ declared.old) }
     ensures exact { OnOk result (catch_faults variable.now branch.now (around declared.old place) ≡ []) }
-    ensures resolved { OnOk result ((base : List Name) → IsTrue
-        (catch_resolves variable.now branch.now (base ++ declared.old.names))) }
+    ensures resolved { OnOk result ((base : Frame) → IsTrue
+        (catch_resolves variable.now branch.now (above base declared.old))) }
     ensures refused { IfErr result (λ fault. Refuses (catch_faults variable.now branch.now
         (around declared.old place)) (declares_catch variable.now branch.now) fault) }
 {
@@ -241,8 +241,8 @@ fn check_stmt(declared: &mut Declared, place: Place, stmt: &Stmt) -> Result<(), 
     ensures begins { OnOk result (Continues declared.old declared.new) }
     ensures exact { OnOk result
         (seen_stmt stmt.now (around declared.old place) ≡ ([], around declared.new place)) }
-    ensures resolved { OnOk result ((base : List Name) → resolves_stmt stmt.now (base ++ declared.old.names)
-        ≡ (true, base ++ declared.new.names)) }
+    ensures resolved { OnOk result ((base : Frame) → resolves_stmt stmt.now (above base declared.old)
+        ≡ (true, above base declared.new)) }
     ensures refused { IfErr result (λ fault. Refuses (seen_stmt stmt.now (around declared.old place)).0
         (declares_stmt stmt.now) fault) }
 {

@@ -7,7 +7,7 @@ ghost use Rattle.rhai_machine.specs.language.Chains.{member_core};
 ghost use Rattle.rhai_machine.specs.language.Located.{args_behind};
 ghost use Rattle.rhai_context.specs.Ends.{came_marked};
 ghost use Rattle.rhai_cycle.specs.States.{under};
-ghost use Rattle.rhai_steps.specs.Agreement.{KeepsSearch};
+ghost use Rattle.rhai_steps.specs.Agreement.{KeepsSight};
 ghost use Rattle.rhai_steps.specs.States.{state_of};
 ghost use Rattle.rhai_steps.specs.Marked.{lending};
 ghost use Rattle.rhai_chains.specs.Chains.{BehindWalks, chain_at, FollowsFrom, form_seen};
@@ -43,7 +43,7 @@ impl<'e, H: Host> Evaluator<'e, H> {
         requires walks { BehindWalks (is_some new) (form_seen link.form)
             (option_map out-Expr (option_copied link.behind)) (length args.old) }
         ensures counts { run.old.global.num_operations ≤ run.new.global.num_operations }
-        ensures search { KeepsSearch run.old.global run.new.global }
+        ensures sight { KeepsSight run.old.global run.new.global }
         ensures scope { run.new.scope ≡ run.old.scope }
         ensures this { run.new.this ≡ run.old.this }
         ensures runs { (scope : _) (held : _) (rest : _) (all : _) (in_place : _) →

@@ -7,7 +7,7 @@ ghost use Rattle.rhai_machine.specs.language.Frames.{core, marked};
 ghost use Rattle.rhai_machine.specs.language.Links.{first_position as first_position_in};
 ghost use Rattle.rhai_context.specs.Ends.{came_marked};
 ghost use Rattle.rhai_cycle.specs.States.{under};
-ghost use Rattle.rhai_steps.specs.Agreement.{KeepsSearch};
+ghost use Rattle.rhai_steps.specs.Agreement.{KeepsSight};
 ghost use Rattle.rhai_steps.specs.States.{state_of};
 ghost use Rattle.rhai_steps.specs.Marked.{RunsFrom};
 ghost use Rattle.rhai_chains.specs.Chains.{BehindWalks, chain_at, form_seen};
@@ -54,7 +54,7 @@ impl<'e, H: Host> Evaluator<'e, H> {
         requires walks { BehindWalks (is_some new) (form_seen link.form)
             (option_map out-Expr (option_copied link.behind)) (length args.old) }
         ensures counts { run.old.global.num_operations ≤ run.new.global.num_operations }
-        ensures search { KeepsSearch run.old.global run.new.global }
+        ensures sight { KeepsSight run.old.global run.new.global }
         ensures scope { run.new.scope ≡ run.old.scope }
         ensures this { run.new.this ≡ run.old.this }
         ensures runs { (scope : _) (held : _) (rest : _) →

@@ -11,7 +11,7 @@ ghost use Rattle.rhai_machine.specs.language.Frames.{Exec, Enter};
 ghost use Rattle.rhai_machine.specs.language.Setting.{rules_of};
 ghost use Rattle.rhai_machine.specs.language.State.{HasMemory};
 ghost use Rattle.rhai_places.specs.Targets.{shown};
-ghost use Rattle.rhai_steps.specs.Agreement.{AgreesAt, passes};
+ghost use Rattle.rhai_steps.specs.Agreement.{AgreesAt, frame_of, passes};
 ghost use Rattle.rhai_steps.specs.States.{holding, state_of};
 ghost use Rattle.rhai_tree.specs.declared.expr.Stmt.{out-Stmt};
 ghost use Rattle.rhai_laws.specs.Kept.{Grown, Kept, declares, is_import};
@@ -231,7 +231,8 @@ impl<H: Host> Engine<H> {
             (state_of (T.state table.old) global.old scope.old (holding (was this.entry)))
             (state_of (T.state table.new) global.new scope.new (holding (left_by this.exit))) }
         ensures begins { Begins (names_in scope.old) (names_in scope.new) }
-        ensures names { OnOk result (names_in scope.new ≡ (resolves_stmt stmt.now (names_in scope.old)).1) }
+        ensures names { OnOk result (names_in scope.new
+            ≡ (resolves_stmt stmt.now (frame_of global.old scope.old)).1.names) }
         ensures stays { declares (out-Stmt stmt.now) ≡ false → names_in scope.new ≡ names_in scope.old }
         ensures imports { is_import (out-Stmt stmt.now) ≡ false → global.new.imports ≡ global.old.imports }
         ensures variables { length (names_in scope.old) ≤ self.now.max_variables →

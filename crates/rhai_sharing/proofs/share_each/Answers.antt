@@ -11,10 +11,10 @@ use Rattle.rhai_sharing.proofs.share_each.Goals as goal
 
 pub each_variable-init : goal.each_variable-init
 unfolding Steps
-each_variable-init g c = record { rest = refl; search = refl; names = refl; steps = λ offer held k. here }
+each_variable-init g c = record { rest = refl; sight = refl; names = refl; steps = λ offer held k. here }
 
 pub place_of_variable-requires : goal.place_of_variable-requires
-place_of_variable-requires g c = rw c.variable-item.is (same c.each_variable.invariant.search c.each_variable.invariant.names
+place_of_variable-requires g c = rw c.variable-item.is (same c.each_variable.invariant.sight c.each_variable.invariant.names
     (brings (λ frame. shared_at c.args.variables.now c.each_variable.variable-index _ frame c.each_variable-test.true) c.requires))
 
 pub returns-in_default-clause-runs : goal.returns-in_default-clause-runs
@@ -40,7 +40,7 @@ each_variable-preserved g c =
     let there = item_there (entries_of c.each_variable.scope) c.in-Some.index c.in-Some.ensures.within in
     record {
       rest = rw (c.in_ok-share_value.ensures.rest, c.each_variable.invariant.rest) refl;
-      search = c.in_ok-share_value.ensures.search ∙ c.each_variable.invariant.search;
+      sight = c.in_ok-share_value.ensures.sight ∙ c.each_variable.invariant.sight;
       names = c.in_ok-share_value.ensures.names ∙ c.each_variable.invariant.names;
       steps = λ offer held k.
           let rules = rules_of c.args.limits.now g.H.Host.name_of offer g.T.NativeTable.natives in

@@ -4,7 +4,7 @@ use Rattle.rhai_machine.specs.language.Frames.{Share}
 use Rattle.rhai_machine.specs.language.Runs.{Steps}
 use Rattle.rhai_machine.specs.language.Setting.{Offer, rules_of}
 use Rattle.rhai_machine.specs.language.State.{Held}
-use Rattle.rhai_steps.specs.Agreement.{KeepsSearch}
+use Rattle.rhai_steps.specs.Agreement.{KeepsSight}
 use Rattle.rhai_steps.specs.States.{state_of}
 use Rattle.rhai_sharing.proofs.share_each.Given as goal
 
@@ -12,7 +12,7 @@ use Rattle.rhai_sharing.proofs.share_each.Given as goal
 abbrev pub invariant-each_variable : goal.invariant-each_variable
 invariant-each_variable g l = record {
   rest : l.global ≡ record l.fn.global { cells = l.global.cells };
-  search : KeepsSearch l.fn.global l.global;
+  sight : KeepsSight l.fn.global l.global;
   names : names_in l.scope ≡ names_in l.fn.scope;
   steps : (offer : Offer g.row.H.Denot) (held : Held g.row.H.Denot) →
       Steps (rules_of l.limits g.H.Host.name_of offer g.T.NativeTable.natives) (Share l.variables)

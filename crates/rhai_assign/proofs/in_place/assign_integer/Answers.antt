@@ -9,7 +9,6 @@ use Rattle.rhai_steps.proofs.Agreeing.{brings}
 use Rattle.rhai_operands.specs.Standing.{assigned_known, integer_of, standing}
 use Rattle.rhai_operands.proofs.Integers.{is_there}
 use Rattle.rhai_operands.proofs.Names.{good_target}
-use Rattle.rhai_operands.proofs.Standing.{plain_entry}
 use Rattle.rhai_assign.specs.InPlace.{charged_at, writable_in}
 use Rattle.rhai_assign.proofs.Integers.{both_charged, integer_assigned, integer_found, integer_keeps}
 use Rattle.rhai_assign.proofs.in_place.assign_integer.Goals as goal
@@ -27,8 +26,7 @@ returns-clause-found g c is =
     integer_found c.args.scope.now (cells_of c.args.global.now.cells) c.args.op.now c.args.lhs.now c.args.rhs.now
     c.in-Variable.offset c.in-Variable.name c.in-Variable.namespace c.in-Variable.pos (rw (c.in-Variable.is, exprs.outs-Variable) refl)
     c.in-Some.token c.in-Some.is c.in-Some-place_by_offset.index c.value_at.result.now c.in-Some-assign_known.value
-    (plain_entry c.in-Variable.namespace.path c.in-Variable.name (entries_of c.args.scope.now)
-    (sym c.is_plain.ensures ∙ c.if-not-is_plain.false) ∙ c.in-Some-place_by_offset.ensures.exact) c.value_at.ensures
+    c.in-Some-place_by_offset.ensures.exact c.value_at.ensures
     (stands ∙ sym (rw c.writable_integer-target.ensures at c.assign_known.ensures) ∙ c.in-Some-assign_known.is)
 
 pub returns-clause-runs : goal.returns-clause-runs
@@ -47,8 +45,7 @@ returns-clause-runs g c is offer held restoring level fast =
     (both_charged c.args.global.now c.charge_all.new.global c.args.charges level c.requires.both
     (c.charge_all.ensures.charged c.if-not-charge_all.false)) c.in-Some.token c.in-Some.is fast c.in-Some-place_by_offset.index
     c.value_at.result.now c.in-Some-assign_known.value
-    (plain_entry c.in-Variable.namespace.path c.in-Variable.name (entries_of c.args.scope.now)
-    (sym c.is_plain.ensures ∙ c.if-not-is_plain.false) ∙ c.in-Some-place_by_offset.ensures.exact)
+    c.in-Some-place_by_offset.ensures.exact
     c.value_at.ensures (stands ∙ sym (rw c.writable_integer-target.ensures at c.assign_known.ensures) ∙ c.in-Some-assign_known.is)
     c.write_number.ensures
 

@@ -1,22 +1,21 @@
-use Rattle.std.proofs.Common.{◌≡◌, ap, ◌∙◌, sym, rules, refl, List, [], ◌++◌, true, false, IsTrue, arith, length, ◌≤◌, take, ◌&&◌}
+use Rattle.std.proofs.Common.{◌≡◌, ap, ◌∙◌, sym, rules, refl, [], true, false, IsTrue, length, ◌&&◌}
 use Rattle.rhai_tree.specs.declared.expr.Expr.TheOpen as layer
 use Rattle.rhai_tree.specs.declared.expr.Expr.TheVariants.{outs-Variable, outs-Or, outs-Dot, outs-Index, outs-DynamicConstant}
 use Rattle.rhai_tree.specs.declared.expr.Expr.TheVariants.{outs-BoolConstant, outs-IntegerConstant, outs-CharConstant}
 use Rattle.rhai_tree.specs.declared.expr.Expr.TheVariants.{outs-StringConstant, outs-Unit, outs-ThisPtr}
 use Rattle.rhai_tree.specs.declared.expr.Stmt.TheVariants.{outs-If, outs-Noop, outs-Export, outs-While, outs-Assignment, outs-Switch, outs-For}
 use Rattle.rhai_tree.specs.declared.expr.Stmt.TheVariants.{outs-TryCatch, outs-Var, outs-Import}
-use Rattle.rhai_check.specs.Around.{around, cut}
+use Rattle.rhai_check.specs.Around.{above, around, cut}
 use Rattle.rhai_tree.specs.Frame.{tests_of, resolves_expr, dot_resolves, name_resolves, bracket_resolves}
-use Rattle.rhai_tree.specs.Frame.{resolves_block, turn_names, turns_resolve, catch_resolves, var_resolves}
+use Rattle.rhai_tree.specs.Frame.{resolves_block, turns_resolve, catch_resolves, var_resolves}
 use Rattle.rhai_check.specs.Declares.{names_a_catch}
 use Rattle.rhai_check.specs.Refusals.{Refuses}
 use Rattle.rhai_check.specs.declared.check.place.Place.{Place}
 use Rattle.rhai_tree.specs.Cases.{is_switch}
-use Rattle.rhai_tree.specs.Forms.{ends_chain, catch_of, name_asked}
+use Rattle.rhai_tree.specs.Forms.{ends_chain, catch_of, name_asked, is_eval_call}
 use Rattle.rhai_tree.specs.Reading.{faulty, sound}
 use Rattle.rhai_tree.specs.WellFormed.{seen_expr, seen_block, dot_faults, catch_variable_faults, variable_faults}
-use Rattle.rhai_tree.specs.Names.{Name}
-use Rattle.std.proofs.lemmas.Grind.{common_steps}
+use Rattle.rhai_tree.specs.Names.{Frame}
 use Rattle.std.proofs.lemmas.List.{append-nil}
 use Rattle.rhai_check.proofs.Chains.{bracket_same, bracket_last, bracket_apart, bracket_runs, named_alone, named_apart, and_true}
 use Rattle.rhai_check.proofs.Chains.{passes_as, runs_as, refused_as}
@@ -32,9 +31,10 @@ use Rattle.rhai_check.proofs.Switches.{refuses_conditional, switch_bad, value_re
 use Rattle.rhai_check.proofs.Outcome.{runs_stmt_at, both_run}
 use Rattle.rhai_check.proofs.Counted.{counted_runs}
 use Rattle.rhai_check.proofs.Walk.{refuses_expr_at, refuses_stmt_at, declares-expr}
-use Rattle.rhai_tree.proofs.Walk.{resolves-expr, resolves-stmt}
+use Rattle.rhai_tree.proofs.Walk.{resolves-stmt}
 use Rattle.rhai_check.proofs.MapKeys.{map_passes, map_runs, map_refused, keys_refused}
 use Rattle.rhai_check.proofs.check.+check.Goals as goal
+use Rattle.rhai_check.proofs.Calls.{call_refused, call_runs}
 
 pub expr::check_exprs-returns-in_err-check_expr-clause-refused : goal.expr::check_exprs-returns-in_err-check_expr-clause-refused
 expr::check_exprs-returns-in_err-check_expr-clause-refused t c =
@@ -60,12 +60,12 @@ stmt::check_stmt-returns-in_err-check_expr-in-If-clause-refused t c =
 
 pub stmt::check_stmt-returns-in-Noop-clause-resolved : goal.stmt::check_stmt-returns-in-Noop-clause-resolved
 stmt::check_stmt-returns-in-Noop-clause-resolved t c base =
-    ap (λ v. v (base ++ c.args.declared.now.names)) (resolves-stmt c.args.stmt.now (layer.Noop c.in-Noop.field-0)
+    ap (λ v. v (above base c.args.declared.now)) (resolves-stmt c.args.stmt.now (layer.Noop c.in-Noop.field-0)
     (rw (c.in-Noop.is, outs-Noop) refl))
 
 pub stmt::check_stmt-returns-in-Export-clause-resolved : goal.stmt::check_stmt-returns-in-Export-clause-resolved
 stmt::check_stmt-returns-in-Export-clause-resolved t c base =
-    ap (λ v. v (base ++ c.args.declared.now.names)) (resolves-stmt c.args.stmt.now
+    ap (λ v. v (above base c.args.declared.now)) (resolves-stmt c.args.stmt.now
     (layer.Export c.in-Export.field-0 c.in-Export.field-1 c.in-Export.field-2) (rw (c.in-Export.is, outs-Export) refl))
 
 pub stmt::check_stmt-returns-in_err-check_block-in-If-clause-refused : goal.stmt::check_stmt-returns-in_err-check_block-in-If-clause-refused
@@ -125,8 +125,8 @@ stmt::check_var-returns-clause-exact t c =
 
 pub stmt::check_var-returns-clause-resolved : goal.stmt::check_var-returns-clause-resolved
 stmt::check_var-returns-clause-resolved t c =
-    let runs : (base : List Name) → IsTrue (var_resolves c.args.index c.args.ident.now (tests_of c.args.expr.now) c.args.options c.args.pos
-    (base ++ c.args.declared.now.names)) = λ base.
+    let runs : (base : Frame) → IsTrue (var_resolves c.args.index c.args.ident.now (tests_of c.args.expr.now) c.args.options c.args.pos
+    (above base c.args.declared.now)) = λ base.
     c.in_ok-check_declaration.ensures.resolved base (tests_of c.args.expr.now)
     ∙ c.in_ok-check_expr.ensures.resolved base in
     given_ok _ runs
@@ -146,7 +146,7 @@ stmt::check_stmt-returns-in-Var-clause-exact t c =
 pub stmt::check_stmt-returns-in-Var-clause-resolved : goal.stmt::check_stmt-returns-in-Var-clause-resolved
 stmt::check_stmt-returns-in-Var-clause-resolved t c =
     resolved_stmt_at _ c.args.stmt.now (layer.Var c.in-Var.ident c.in-Var.expr c.in-Var.index c.in-Var.options c.in-Var.pos)
-    c.args.declared.now.names _ (rw (c.in-Var.is, outs-Var) refl)
+    c.args.declared.now _ (rw (c.in-Var.is, outs-Var) refl)
     (var_runs _ (var_resolves c.in-Var.index c.in-Var.ident (tests_of c.in-Var.expr) c.in-Var.options c.in-Var.pos)
     c.in-Var.index c.in-Var.ident.name c.args.declared.now c.check_var.new.declared
     c.check_var.ensures.resolved c.check_var.ensures.added)
@@ -187,7 +187,7 @@ expr::check_expr-returns-in-Or-clause-exact t c =
 
 pub expr::check_expr-returns-in-Or-clause-resolved : goal.expr::check_expr-returns-in-Or-clause-resolved
 expr::check_expr-returns-in-Or-clause-resolved t c =
-    resolved_expr_at _ c.args.expr.now (layer.Or c.in-Or.parts c.in-Or.field-1) c.args.declared.now.names (rw (c.in-Or.is, outs-Or) refl)
+    resolved_expr_at _ c.args.expr.now (layer.Or c.in-Or.parts c.in-Or.field-1) c.args.declared.now (rw (c.in-Or.is, outs-Or) refl)
     (rw c.as_slice-in-Or.ensures at c.check_exprs-in-Or.ensures.resolved)
 
 pub expr::check_expr-returns-in-Or-clause-refused : goal.expr::check_expr-returns-in-Or-clause-refused
@@ -203,7 +203,7 @@ expr::check_map-returns-in-Ok-true-clause-exact t c =
 pub expr::check_map-returns-in-Ok-true-clause-resolved : goal.expr::check_map-returns-in-Ok-true-clause-resolved
 expr::check_map-returns-in-Ok-true-clause-resolved t c =
     map_runs c.check_entries.result c.args.entries.now c.args.template.now.0 c.args.pos
-    (sym c.in-Ok-true.field-0-test ∙ c.in-Ok-true.ensures) c.args.declared.now.names
+    (sym c.in-Ok-true.field-0-test ∙ c.in-Ok-true.ensures) c.args.declared.now
     c.check_entries.ensures.resolved
 
 pub expr::check_map-returns-in-Ok-true-clause-refused : goal.expr::check_map-returns-in-Ok-true-clause-refused
@@ -266,7 +266,7 @@ pub chain::check_behind_dot-returns-in_ok-check_named-in-Index-clause-resolved :
 chain::check_behind_dot-returns-in_ok-check_named-in-Index-clause-resolved t c =
     chain_runs _ c.args.rhs.now c.in-Index.first
     (layer.Index c.in-Index.first c.in-Index.rest c.in-Index.options c.in-Index.field-3)
-    c.args.ends _ _ c.args.pos c.args.declared.now.names c.if-ends.false (rw (c.in-Index.is, outs-Index) refl) refl
+    c.args.ends _ _ c.args.pos c.args.declared.now c.if-ends.false (rw (c.in-Index.is, outs-Index) refl) refl
     (rw c.get-in-Index.ensures at c.in_ok-check_named-in-Index.ensures.resolved)
     (rw (c.in_ok-check_named-in-Index.ensures.same, c.ends_chain-in-Index.ensures, c.get-in-Index-2.ensures)
     at c.check_behind_bracket.ensures.resolved)
@@ -288,7 +288,7 @@ chain::check_behind_dot-returns-in_default t c = record {
   exact = passes_as _ _ _ (named_apart faulty append-nil c.args.rhs.now c.args.ends c.args.pos (around c.args.declared.now c.args.place)
       c.if-ends.false c.in_default.not-Dot c.in_default.not-Index) c.check_named-in_default.ensures.exact;
   resolved = runs_as _ (name_resolves (tests_of c.args.rhs.now).link c.args.pos)
-      (dot_resolves c.args.ends (tests_of c.args.rhs.now).link c.args.pos) c.args.declared.now.names
+      (dot_resolves c.args.ends (tests_of c.args.rhs.now).link c.args.pos) c.args.declared.now
       (λ ns. named_apart sound and_true c.args.rhs.now c.args.ends c.args.pos ns c.if-ends.false c.in_default.not-Dot
       c.in_default.not-Index) c.check_named-in_default.ensures.resolved;
   refused = refused_as _ _ _ _ (named_apart faulty append-nil c.args.rhs.now c.args.ends c.args.pos
@@ -327,38 +327,38 @@ expr::check_expr-returns-in_err-check_expr-in-Index-clause-refused t c =
 
 pub expr::check_expr-returns-in-DynamicConstant-clause-resolved : goal.expr::check_expr-returns-in-DynamicConstant-clause-resolved
 expr::check_expr-returns-in-DynamicConstant-clause-resolved t c base =
-    runs_at c.args.expr.now (layer.DynamicConstant c.in-DynamicConstant.field-0 c.in-DynamicConstant.field-1) (base ++ c.args.declared.now.names)
+    runs_at c.args.expr.now (layer.DynamicConstant c.in-DynamicConstant.field-0 c.in-DynamicConstant.field-1) (above base c.args.declared.now)
     (rw (c.in-DynamicConstant.is, outs-DynamicConstant) refl) refl
 
 pub expr::check_expr-returns-in-BoolConstant-clause-resolved : goal.expr::check_expr-returns-in-BoolConstant-clause-resolved
 expr::check_expr-returns-in-BoolConstant-clause-resolved t c base =
-    runs_at c.args.expr.now (layer.BoolConstant c.in-BoolConstant.field-0 c.in-BoolConstant.field-1) (base ++ c.args.declared.now.names)
+    runs_at c.args.expr.now (layer.BoolConstant c.in-BoolConstant.field-0 c.in-BoolConstant.field-1) (above base c.args.declared.now)
     (rw (c.in-BoolConstant.is, outs-BoolConstant) refl) refl
 
 pub expr::check_expr-returns-in-IntegerConstant-clause-resolved : goal.expr::check_expr-returns-in-IntegerConstant-clause-resolved
 expr::check_expr-returns-in-IntegerConstant-clause-resolved t c base =
-    runs_at c.args.expr.now (layer.IntegerConstant c.in-IntegerConstant.field-0 c.in-IntegerConstant.field-1) (base ++ c.args.declared.now.names)
+    runs_at c.args.expr.now (layer.IntegerConstant c.in-IntegerConstant.field-0 c.in-IntegerConstant.field-1) (above base c.args.declared.now)
     (rw (c.in-IntegerConstant.is, outs-IntegerConstant) refl) refl
 
 pub expr::check_expr-returns-in-CharConstant-clause-resolved : goal.expr::check_expr-returns-in-CharConstant-clause-resolved
 expr::check_expr-returns-in-CharConstant-clause-resolved t c base =
-    runs_at c.args.expr.now (layer.CharConstant c.in-CharConstant.field-0 c.in-CharConstant.field-1) (base ++ c.args.declared.now.names)
+    runs_at c.args.expr.now (layer.CharConstant c.in-CharConstant.field-0 c.in-CharConstant.field-1) (above base c.args.declared.now)
     (rw (c.in-CharConstant.is, outs-CharConstant) refl) refl
 
 pub expr::check_expr-returns-in-StringConstant-clause-resolved : goal.expr::check_expr-returns-in-StringConstant-clause-resolved
 expr::check_expr-returns-in-StringConstant-clause-resolved t c base =
-    runs_at c.args.expr.now (layer.StringConstant c.in-StringConstant.field-0 c.in-StringConstant.field-1) (base ++ c.args.declared.now.names)
+    runs_at c.args.expr.now (layer.StringConstant c.in-StringConstant.field-0 c.in-StringConstant.field-1) (above base c.args.declared.now)
     (rw (c.in-StringConstant.is, outs-StringConstant) refl) refl
 
 pub expr::check_expr-returns-in-Unit-clause-resolved : goal.expr::check_expr-returns-in-Unit-clause-resolved
 expr::check_expr-returns-in-Unit-clause-resolved t c base =
-    runs_at c.args.expr.now (layer.Unit c.in-Unit.field-0) (base ++ c.args.declared.now.names) (rw (c.in-Unit.is, outs-Unit) refl) refl
+    runs_at c.args.expr.now (layer.Unit c.in-Unit.field-0) (above base c.args.declared.now) (rw (c.in-Unit.is, outs-Unit) refl) refl
 
 pub expr::check_expr-returns-in_ok-check_expr-in-Dot-clause-resolved :
     goal.expr::check_expr-returns-in_ok-check_expr-in-Dot-clause-resolved
 expr::check_expr-returns-in_ok-check_expr-in-Dot-clause-resolved t c =
     counted_runs _ c.args.expr.now (layer.Dot c.in-Dot.lhs c.in-Dot.rhs c.in-Dot.options c.in-Dot.pos)
-    (resolves_expr c.in-Dot.lhs) (dot_resolves (ends_chain c.in-Dot.options) (tests_of c.in-Dot.rhs).link c.in-Dot.pos) c.args.declared.now.names
+    (resolves_expr c.in-Dot.lhs) (dot_resolves (ends_chain c.in-Dot.options) (tests_of c.in-Dot.rhs).link c.in-Dot.pos) c.args.declared.now
     (rw (c.in-Dot.is, outs-Dot) refl) (λ ns. refl) c.in_ok-count_links-in-Dot.ensures.counted
     (rw c.get-in-Dot.ensures at c.in_ok-check_expr-in-Dot.ensures.resolved)
     (rw (c.in_ok-check_expr-in-Dot.ensures.same, c.ends_chain.ensures, c.get-in-Dot-2.ensures)
@@ -378,7 +378,7 @@ pub expr::check_expr-returns-in_ok-check_expr-in-Index-clause-resolved :
     goal.expr::check_expr-returns-in_ok-check_expr-in-Index-clause-resolved
 expr::check_expr-returns-in_ok-check_expr-in-Index-clause-resolved t c =
     counted_runs _ c.args.expr.now (layer.Index c.in-Index.lhs c.in-Index.rhs c.in-Index.options c.in-Index.field-3)
-    (resolves_expr c.in-Index.lhs) (bracket_resolves (ends_chain c.in-Index.options) (tests_of c.in-Index.rhs)) c.args.declared.now.names
+    (resolves_expr c.in-Index.lhs) (bracket_resolves (ends_chain c.in-Index.options) (tests_of c.in-Index.rhs)) c.args.declared.now
     (rw (c.in-Index.is, outs-Index) refl) (λ ns. refl) c.in_ok-count_links-in-Index.ensures.counted
     (rw c.get-in-Index.ensures at c.in_ok-check_expr-in-Index.ensures.resolved)
     (rw (c.in_ok-check_expr-in-Index.ensures.same, c.ends_chain-in-Index.ensures, c.get-in-Index-2.ensures)
@@ -413,7 +413,7 @@ stmt::check_stmt-returns-in_ok-check_target-in-Assignment-clause-refused t c =
 
 pub chain::check_behind_bracket-returns-then-ends-clause-resolved : goal.chain::check_behind_bracket-returns-then-ends-clause-resolved
 chain::check_behind_bracket-returns-then-ends-clause-resolved t c =
-    runs_as _ (resolves_expr c.args.rhs.now) (bracket_resolves c.args.ends (tests_of c.args.rhs.now)) c.args.declared.now.names
+    runs_as _ (resolves_expr c.args.rhs.now) (bracket_resolves c.args.ends (tests_of c.args.rhs.now)) c.args.declared.now
     (λ ns. bracket_last sound c.args.ends c.args.rhs.now ns c.if-ends.true) c.check_expr.ensures.resolved
 
 pub chain::check_behind_bracket-returns-in_err-check_expr-in-Dot-clause-refused :
@@ -428,7 +428,7 @@ pub chain::check_behind_bracket-returns-in_ok-check_expr-in-Dot-clause-resolved 
     goal.chain::check_behind_bracket-returns-in_ok-check_expr-in-Dot-clause-resolved
 chain::check_behind_bracket-returns-in_ok-check_expr-in-Dot-clause-resolved t c =
     bracket_runs _ c.args.rhs.now c.in-Dot.first (layer.Dot c.in-Dot.first c.in-Dot.rest c.in-Dot.options c.in-Dot.dot) c.args.ends
-    (dot_resolves (ends_chain c.in-Dot.options) (tests_of c.in-Dot.rest).link c.in-Dot.dot) _ c.args.declared.now.names c.if-ends.false
+    (dot_resolves (ends_chain c.in-Dot.options) (tests_of c.in-Dot.rest).link c.in-Dot.dot) _ c.args.declared.now c.if-ends.false
     (rw (c.in-Dot.is, outs-Dot) refl) refl
     (rw c.get.ensures at c.in_ok-check_expr-in-Dot.ensures.resolved)
     (rw (c.in_ok-check_expr-in-Dot.ensures.same, c.ends_chain.ensures, c.get-in-Dot.ensures) at c.check_behind_dot.ensures.resolved)
@@ -454,7 +454,7 @@ pub chain::check_behind_bracket-returns-in_ok-check_expr-in-Index-clause-resolve
 chain::check_behind_bracket-returns-in_ok-check_expr-in-Index-clause-resolved t c =
     bracket_runs _ c.args.rhs.now c.in-Index.first
     (layer.Index c.in-Index.first c.in-Index.rest c.in-Index.options c.in-Index.field-3) c.args.ends
-    (bracket_resolves (ends_chain c.in-Index.options) (tests_of c.in-Index.rest)) _ c.args.declared.now.names c.if-ends.false
+    (bracket_resolves (ends_chain c.in-Index.options) (tests_of c.in-Index.rest)) _ c.args.declared.now c.if-ends.false
     (rw (c.in-Index.is, outs-Index) refl) refl
     (rw c.get-in-Index.ensures at c.in_ok-check_expr-in-Index.ensures.resolved)
     (rw (c.in_ok-check_expr-in-Index.ensures.same, c.ends_chain-in-Index.ensures, c.get-in-Index-2.ensures)
@@ -472,13 +472,13 @@ chain::check_behind_bracket-returns-in_ok-check_expr-in-Index-clause-refused t c
 
 pub chain::check_behind_bracket-returns-in_default-clause-resolved : goal.chain::check_behind_bracket-returns-in_default-clause-resolved
 chain::check_behind_bracket-returns-in_default-clause-resolved t c =
-    runs_as _ (resolves_expr c.args.rhs.now) (bracket_resolves c.args.ends (tests_of c.args.rhs.now)) c.args.declared.now.names
+    runs_as _ (resolves_expr c.args.rhs.now) (bracket_resolves c.args.ends (tests_of c.args.rhs.now)) c.args.declared.now
     (λ ns. bracket_apart sound c.args.rhs.now c.args.ends ns c.if-ends.false c.in_default.not-Dot c.in_default.not-Index)
     c.check_expr-in_default.ensures.resolved
 
 pub expr::check_expr-returns-in-ThisPtr-clause-resolved : goal.expr::check_expr-returns-in-ThisPtr-clause-resolved
 expr::check_expr-returns-in-ThisPtr-clause-resolved t c base =
-    runs_at c.args.expr.now (layer.ThisPtr c.in-ThisPtr.field-0) (base ++ c.args.declared.now.names) (rw (c.in-ThisPtr.is, outs-ThisPtr) refl) refl
+    runs_at c.args.expr.now (layer.ThisPtr c.in-ThisPtr.field-0) (above base c.args.declared.now) (rw (c.in-ThisPtr.is, outs-ThisPtr) refl) refl
 
 pub stmt::check_conditionals-returns-in_err-check_conditional-clause-refused :
     goal.stmt::check_conditionals-returns-in_err-check_conditional-clause-refused
@@ -608,7 +608,7 @@ stmt::check_stmt-returns-in_ok-check_expr-in-For-clause-resolved t c =
     let turns = turns_resolve c.in-For.name c.in-For.counter c.in-For.body in
     runs_stmt_at _ c.args.stmt.now (layer.For c.in-For.name c.in-For.counter c.in-For.expr c.in-For.body c.in-For.pos)
     (λ ns. resolves_expr c.in-For.expr ns && turns ns) c.args.declared.now _ (rw (c.in-For.is, outs-For) refl) (λ ns. refl)
-    (both_run _ (resolves_expr c.in-For.expr) turns c.args.declared.now.names c.in_ok-check_expr-in-For.ensures.resolved
+    (both_run _ (resolves_expr c.in-For.expr) turns c.args.declared.now c.in_ok-check_expr-in-For.ensures.resolved
     (rw c.in_ok-check_expr-in-For.ensures.same at c.check_turns.ensures.resolved))
     (rw c.in_ok-check_expr-in-For.ensures.same at c.check_turns.ensures.same)
 
@@ -649,7 +649,7 @@ stmt::check_stmt-returns-in_ok-check_block-in-TryCatch-clause-resolved t c =
           && catch_same sound c.in-TryCatch.variable (resolves_block c.in-TryCatch.branch) ns i,
       ns,
     ))
-    (both_run _ (resolves_block c.in-TryCatch.body) branch c.args.declared.now.names c.in_ok-check_block-in-TryCatch.ensures.resolved
+    (both_run _ (resolves_block c.in-TryCatch.body) branch c.args.declared.now c.in_ok-check_block-in-TryCatch.ensures.resolved
     (rw c.in_ok-check_block-in-TryCatch.ensures.same at c.check_branch.ensures.resolved))
     (rw c.in_ok-check_block-in-TryCatch.ensures.same at c.check_branch.ensures.same)
 
@@ -674,7 +674,7 @@ pub expr::check_expr-returns-in-Variable-clause-resolved : goal.expr::check_expr
 expr::check_expr-returns-in-Variable-clause-resolved t c =
     resolved_expr_at _ c.args.expr.now
     (layer.Variable c.in-Variable.offset c.in-Variable.name c.in-Variable.namespace c.in-Variable.pos)
-    c.args.declared.now.names (rw (c.in-Variable.is, outs-Variable) refl)
+    c.args.declared.now (rw (c.in-Variable.is, outs-Variable) refl)
     (rw c.get.ensures at c.check_variable.ensures.resolved)
 
 pub expr::check_expr-returns-in-Variable-clause-refused : goal.expr::check_expr-returns-in-Variable-clause-refused
@@ -713,7 +713,7 @@ pub stmt::check_stmt-returns-in_ok-check_expr-in-Import-clause-resolved :
     goal.stmt::check_stmt-returns-in_ok-check_expr-in-Import-clause-resolved
 stmt::check_stmt-returns-in_ok-check_expr-in-Import-clause-resolved t c =
     resolved_stmt_at _ c.args.stmt.now (layer.Import c.in-Import.path c.in-Import.alias c.in-Import.field-2)
-    c.args.declared.now.names _ (rw (c.in-Import.is, outs-Import) refl)
+    c.args.declared.now _ (rw (c.in-Import.is, outs-Import) refl)
     (import_runs _ (resolves_expr c.in-Import.path) (name_asked c.in-Import.alias) c.args.declared.now c.import.new.self
     c.in_ok-check_expr-in-Import.ensures.resolved (rw c.in_ok-check_expr-in-Import.ensures.same at c.import.ensures.added))
 
@@ -783,3 +783,15 @@ pub stmt::check_stmt-returns-in_ok-check_block-in-TryCatch-clause-begins :
     goal.stmt::check_stmt-returns-in_ok-check_block-in-TryCatch-clause-begins
 stmt::check_stmt-returns-in_ok-check_block-in-TryCatch-clause-begins t c =
     ok_then _ (continues_same c.args.declared.now _) (rw c.in_ok-check_block-in-TryCatch.ensures.same at c.check_branch.ensures.same)
+
+pub expr::check_call-returns-then-has_good_index-clause-resolved : goal.expr::check_call-returns-then-has_good_index-clause-resolved
+expr::check_call-returns-then-has_good_index-clause-resolved t c =
+    call_runs _ c.args.call.now c.args.pos c.args.declared.now (sym c.is_eval_call.ensures ∙ c.if-is_eval_call.false)
+    (rw c.as_slice.ensures at (sym c.has_good_index.ensures ∙ c.if-has_good_index.true))
+    (rw c.as_slice-then-has_good_index.ensures at c.check_exprs.ensures.resolved)
+
+pub expr::check_call-returns-then-has_good_index-clause-refused : goal.expr::check_call-returns-then-has_good_index-clause-refused
+expr::check_call-returns-then-has_good_index-clause-refused t c =
+    call_refused _ c.args.call.now c.args.pos c.args.declared.now c.args.place (sym c.is_eval_call.ensures ∙ c.if-is_eval_call.false)
+    (rw c.as_slice.ensures at (sym c.has_good_index.ensures ∙ c.if-has_good_index.true))
+    (rw c.as_slice-then-has_good_index.ensures at c.check_exprs.ensures.refused)

@@ -6,4 +6,4 @@ use Rattle.rhai_check.proofs.check.stmt.check_declaration.Goals as goal
 pub returns-then-is_good-clause-resolved : goal.returns-then-is_good-clause-resolved
 returns-then-is_good-clause-resolved c base value =
     let good : is_good c.args.index c.args.ident.now.name c.args.declared.now.names ≡ true = cc in
-    rw (good_above base c.args.index c.args.ident.now.name c.args.declared.now.names good) refl
+    rw (good_above base.names c.args.index c.args.ident.now.name c.args.declared.now.names good) refl

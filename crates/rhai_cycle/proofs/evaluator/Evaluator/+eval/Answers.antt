@@ -114,23 +114,23 @@ run_method-returns-in-OnTarget-clause-runs = bodies.run_method-returns-in-OnTarg
 pub run_method-returns-in-Alone-clause-runs : goal.run_method-returns-in-Alone-clause-runs
 run_method-returns-in-Alone-clause-runs = bodies.run_method-returns-in-Alone-clause-runs
 
-pub run_body-returns-then-not-charge-clause-search : goal.run_body-returns-then-not-charge-clause-search
-run_body-returns-then-not-charge-clause-search = bodies.run_body-returns-then-not-charge-clause-search
+pub run_body-returns-then-not-charge-clause-sight : goal.run_body-returns-then-not-charge-clause-sight
+run_body-returns-then-not-charge-clause-sight = bodies.run_body-returns-then-not-charge-clause-sight
 
-pub run_body-returns-in-Err-clause-search : goal.run_body-returns-in-Err-clause-search
-run_body-returns-in-Err-clause-search = bodies.run_body-returns-in-Err-clause-search
+pub run_body-returns-in-Err-clause-sight : goal.run_body-returns-in-Err-clause-sight
+run_body-returns-in-Err-clause-sight = bodies.run_body-returns-in-Err-clause-sight
 
-pub run_body-returns-in-Ok-None-clause-search : goal.run_body-returns-in-Ok-None-clause-search
-run_body-returns-in-Ok-None-clause-search = bodies.run_body-returns-in-Ok-None-clause-search
+pub run_body-returns-in-Ok-None-clause-sight : goal.run_body-returns-in-Ok-None-clause-sight
+run_body-returns-in-Ok-None-clause-sight = bodies.run_body-returns-in-Ok-None-clause-sight
 
-pub run_body-returns-in-Ok-Some-clause-search : goal.run_body-returns-in-Ok-Some-clause-search
-run_body-returns-in-Ok-Some-clause-search = bodies.run_body-returns-in-Ok-Some-clause-search
+pub run_body-returns-in-Ok-Some-clause-sight : goal.run_body-returns-in-Ok-Some-clause-sight
+run_body-returns-in-Ok-Some-clause-sight = bodies.run_body-returns-in-Ok-Some-clause-sight
 
-pub enter_fresh-returns-clause-search : goal.enter_fresh-returns-clause-search
-enter_fresh-returns-clause-search = bodies.enter_fresh-returns-clause-search
+pub enter_fresh-returns-clause-sight : goal.enter_fresh-returns-clause-sight
+enter_fresh-returns-clause-sight = bodies.enter_fresh-returns-clause-sight
 
-pub enter_on_focus-returns-clause-search : goal.enter_on_focus-returns-clause-search
-enter_on_focus-returns-clause-search = bodies.enter_on_focus-returns-clause-search
+pub enter_on_focus-returns-clause-sight : goal.enter_on_focus-returns-clause-sight
+enter_on_focus-returns-clause-sight = bodies.enter_on_focus-returns-clause-sight
 
 pub run_out-returns-in-Ended-clause-names : goal.run_out-returns-in-Ended-clause-names
 run_out-returns-in-Ended-clause-names = bodies.run_out-returns-in-Ended-clause-names

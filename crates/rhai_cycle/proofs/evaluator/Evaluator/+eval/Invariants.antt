@@ -31,6 +31,7 @@ use Rattle.rhai_cycle.specs.States.{names, state_in, under}
 use Rattle.rhai_cycle.proofs.ChoiceSteps.{until_core}
 use Rattle.rhai_cycle.proofs.PlainLemmas.{Filling}
 use Rattle.rhai_cycle.proofs.evaluator.Evaluator.+eval.Given as goal
+use Rattle.rhai_tree.specs.Names.{naming}
 
 -- what stands behind a link
 abbrev behind_of : Link → Option ExprLayer
@@ -373,7 +374,7 @@ abbrev pub invariant-run_for-turns : goal.invariant-run_for-turns
 invariant-run_for-turns g l = record {
   counts : l.fn.run.global.num_operations + l.turn ≤ l.run.global.num_operations;
   base : l.base + counters l.parts.counter.now + 1 ≡ length (names l.run);
-  names : ChangesNames l.fn.run (turn_names l.parts.variable.now l.parts.counter.now) l.run;
+  names : ChangesNames l.fn.run (naming (turn_names l.parts.variable.now l.parts.counter.now)) l.run;
   steps : (pos : Position) (restoring : Bool) (k : List (Frame g.row.H.Denot)) → Goes (under g.H.Host.name_of l.self g.T.NativeTable.natives)
       (at (OpenStmt (layer.For l.parts.variable.now l.parts.counter.now l.parts.items.now l.parts.body.now pos) restoring) k
       (state_in (g.T.NativeTable.state l.fn.table) l.fn.run))

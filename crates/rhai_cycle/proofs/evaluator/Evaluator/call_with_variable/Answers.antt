@@ -12,7 +12,7 @@ call_on_variable-requires g c = (omega arith, c.requires)
 
 pub returns-clause-names : goal.returns-clause-names
 unfolding KeepsNames
-returns-clause-names g c = stays c.call_on_variable.ensures.search c.call_on_variable.ensures.names
+returns-clause-names g c = stays c.call_on_variable.ensures.sight c.call_on_variable.ensures.names
 
 pub returns-clause-runs : goal.returns-clause-runs
 unfolding GoesOut

@@ -4,10 +4,10 @@ use Rattle.rhai_calls.specs.Marks.{MarkedRuns}
 use Rattle.rhai_steps.specs.Marked.{lending}
 use Rattle.rhai_steps.specs.States.{state_of}
 use Rattle.rhai_context.specs.declared.Context.{Context}
-use Rattle.rhai_cycle.specs.States.{under as under_what_is_read}
 use Rattle.rhai_eval.proofs.Dispatching.{runs_unmarked}
 use Rattle.rhai_eval.proofs.Public.{handed_apart, same_rules}
 use Rattle.rhai_eval.proofs.engine.Engine.enter_on.Goals as goal
+use Rattle.rhai_cycle.specs.States.{under as under_what_is_read}
 
 pub returns-clause-runs : goal.returns-clause-runs
 returns-clause-runs g c scope held =

@@ -3,10 +3,10 @@ use Rattle.rhai_machine.specs.language.Frames.{EnterOnFocus}
 use Rattle.rhai_calls.specs.Marks.{MarkedRuns}
 use Rattle.rhai_steps.specs.Marked.{lending}
 use Rattle.rhai_steps.specs.States.{state_of}
-use Rattle.rhai_cycle.specs.States.{under as under_what_is_read}
 use Rattle.rhai_eval.proofs.Dispatching.{runs_unmarked}
 use Rattle.rhai_eval.proofs.Public.{handed_held, same_rules}
 use Rattle.rhai_eval.proofs.engine.Engine.enter_on_scope.Goals as goal
+use Rattle.rhai_cycle.specs.States.{under as under_what_is_read}
 
 pub returns-clause-runs : goal.returns-clause-runs
 returns-clause-runs g c held =

@@ -3,7 +3,6 @@ use Rattle.rhai_values.specs.declared.base.value.Dynamic.{Dynamic}
 use Rattle.rhai_state.specs.Native.{left_by, was}
 use Rattle.rhai_steps.specs.States.{holding, state_of}
 use Rattle.rhai_cycle.specs.Agreement.{SuitsNames}
-use Rattle.rhai_cycle.specs.States.{under as under_what_is_read}
 use Rattle.rhai_eval.specs.States.{under}
 use Rattle.std.specs.Option.{option_copied}
 use Rattle.rhai_tree.specs.declared.expr.Expr.{out-Expr}
@@ -26,6 +25,7 @@ use borrow.Fn.Enter.{lasts_p}
 use borrow.Fn.Kinds.{ended_of}
 use Rattle.rhai_cycle.proofs.NameLemmas.{at_known}
 use Rattle.rhai_eval.proofs.engine.Engine.eval_dot_index_chain.Goals as goal
+use Rattle.rhai_cycle.specs.States.{under as under_what_is_read}
 
 pub unreachable-requires : goal.unreachable-requires
 unreachable-requires g c =

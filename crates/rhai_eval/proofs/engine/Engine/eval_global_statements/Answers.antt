@@ -8,12 +8,12 @@ use Rattle.rhai_laws.proofs.WantLaws.{runs_up_to_memory}
 use Rattle.rhai_steps.specs.States.{holding, state_of}
 use Rattle.rhai_cycle.specs.Agreement.{SuitsNames}
 use Rattle.rhai_cycle.proofs.NameLemmas.{suits_now}
-use Rattle.rhai_cycle.specs.States.{under as under_what_is_read}
 use Rattle.rhai_eval.specs.States.{under}
 use Rattle.rhai_eval.proofs.Public.{handed_free, same_rules}
 use Rattle.rhai_eval.proofs.Scripts.{script_agrees, script_ends, script_goes, script_memory}
 use Rattle.rhai_eval.proofs.engine.Engine.eval_global_statements.Given.{Over}
 use Rattle.rhai_eval.proofs.engine.Engine.eval_global_statements.Goals as goal
+use Rattle.rhai_cycle.specs.States.{under as under_what_is_read}
 
 -- the statements run, over what the caller handed in
 statements_run : (g : Over) (c : goal.After-top g) →
@@ -80,4 +80,4 @@ returns-clause-memory g c = script_memory _ c.args.map_exit_to_return_value c.fi
 pub run_stmt_block-done-requires : goal.run_stmt_block-done-requires
 unfolding SuitsNames
 run_stmt_block-done-requires g c =
-    record { resolves = rw c.statements.ensures.value (suits_now _ (c.statements.ensures.resolves _)) }
+    record { resolves = rw c.statements.ensures.value (suits_now _ _ (c.statements.ensures.resolves _)) }

@@ -5,7 +5,6 @@ use Rattle.rhai_state.specs.Native.{left_by, was}
 use Rattle.rhai_state.specs.Scope.{names_in}
 use Rattle.rhai_steps.specs.States.{holding, state_of}
 use Rattle.rhai_cycle.specs.Agreement.{SuitsNames}
-use Rattle.rhai_cycle.specs.States.{under as under_what_is_read}
 use Rattle.rhai_cycle.proofs.Chain.{on_done}
 use Rattle.rhai_cycle.proofs.NameLemmas.{stmt_names}
 use Rattle.rhai_eval.specs.States.{under}
@@ -20,6 +19,8 @@ use denote.Triple.Entry.{Args}
 use borrow.Fn.Enter.{lasts_p}
 use borrow.Fn.Kinds.{ended_of}
 use Rattle.rhai_eval.proofs.engine.Engine.eval_stmt.Goals as goal
+use Rattle.rhai_steps.specs.Agreement.{frame_of}
+use Rattle.rhai_cycle.specs.States.{under as under_what_is_read}
 
 -- what stands in the place of `this` as its loan ends, were this the place
 abbrev left_on : (g : Over) → goal.After-give_back_with g → Option (MutBor (Dynamic g.row.H.Denot)) → Option (Dynamic g.row.H.Denot)
@@ -123,13 +124,13 @@ returns-in-None-clause-stays g c = λ none. names_stay (under g.H.Host.name_of c
 
 pub returns-in-Some-clause-names : goal.returns-in-Some-clause-names
 returns-in-Some-clause-names g c = on_done _ _ c.finish-result.ensures.done (λ done. stmt_names c.args.stmt.now (out-Stmt c.args.stmt.now)
-    (names_in c.args.scope.now) (names_in c.give_back_with.new.scope) refl
+    (frame_of c.args.global.now c.args.scope.now) (names_in c.give_back_with.new.scope) refl
     (rw c.give_back_with.ensures.scope (rw c.take_with-run.ensures.run at (c.run_stmt-done.ensures.declared done)))
     (returns-in-Some-clause-stays g c))
 
 pub returns-in-None-clause-names : goal.returns-in-None-clause-names
 returns-in-None-clause-names g c = on_done _ _ c.finish-result-in-None.ensures.done (λ done. stmt_names c.args.stmt.now
-    (out-Stmt c.args.stmt.now) (names_in c.args.scope.now) (names_in c.give_back.new.scope) refl
+    (out-Stmt c.args.stmt.now) (frame_of c.args.global.now c.args.scope.now) (names_in c.give_back.new.scope) refl
     (rw c.give_back.ensures.scope (rw c.take-run.ensures.run at (c.run_stmt-done-in-None.ensures.declared done)))
     (returns-in-None-clause-stays g c))
 

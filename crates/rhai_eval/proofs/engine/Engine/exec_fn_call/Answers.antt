@@ -1,6 +1,5 @@
 use Rattle.std.proofs.Common.{◌≡◌, ◌||◌, [], Option, Some, None, MutBor, ap, false, refl, subst, sym, true, ◌∙◌}
 use Rattle.std.specs.Option.{option_copied, option_map}
-use Rattle.rhai_machine.specs.language.Values.{unit_value as unit}
 use Rattle.rhai_values.specs.declared.base.value.Dynamic.{Dynamic}
 use Rattle.rhai_state.specs.declared.scope.Scope.{Scope}
 use Rattle.rhai_state.specs.Native.{left_by, was}
@@ -22,6 +21,7 @@ use denote.Triple.Entry.{Args}
 use borrow.Fn.Enter.{lasts_p}
 use borrow.Fn.Kinds.{ended_of}
 use Rattle.rhai_eval.proofs.engine.Engine.exec_fn_call.Goals as goal
+use Rattle.rhai_machine.specs.language.Values.{unit_value as unit}
 
 -- what stands in the place of `scope` as its loan ends, were this the place
 abbrev scope_left_1 : (g : Over) → goal.After-finish_on g → Option (MutBor (Scope g.row.H.Denot)) → Option (Scope g.row.H.Denot)

@@ -2,7 +2,6 @@ use Rattle.std.proofs.Common.{◌≡◌, Option, Some, None, MutBor, ap, refl, s
 use Rattle.rhai_values.specs.declared.base.value.Dynamic.{Dynamic}
 use Rattle.rhai_state.specs.Native.{left_by, was}
 use Rattle.rhai_steps.specs.States.{holding, state_of}
-use Rattle.rhai_cycle.specs.States.{under as under_what_is_read}
 use Rattle.rhai_eval.specs.States.{under}
 use Rattle.rhai_machine.specs.language.Runs.{Runs}
 use Rattle.rhai_laws.proofs.KeptLaws.{kept, names_stay}
@@ -16,6 +15,8 @@ use denote.Triple.Entry.{Args}
 use borrow.Fn.Enter.{lasts_p}
 use borrow.Fn.Kinds.{ended_of}
 use Rattle.rhai_eval.proofs.engine.Engine.get_arg_value.Goals as goal
+use Rattle.rhai_cycle.specs.Agreement.{SuitsNames}
+use Rattle.rhai_cycle.specs.States.{under as under_what_is_read}
 
 -- what stands in the place of `this` as its loan ends, were this the place
 abbrev left_on : (g : Over) → goal.After-starting_at g → Option (MutBor (Dynamic g.row.H.Denot)) → Option (Dynamic g.row.H.Denot)
@@ -104,3 +105,11 @@ returns-in-None-clause-kept g c = kept (under g.H.Host.name_of c.args.self.now g
 pub returns-in-None-clause-names : goal.returns-in-None-clause-names
 returns-in-None-clause-names g c = names_stay (under g.H.Host.name_of c.args.self.now g.T.NativeTable.natives)
     (Argument c.args.arg_expr.now) (ended c.finish-result-in-None.result) _ _ tt tt (runs_free g c)
+
+pub run_arg-done-requires : goal.run_arg-done-requires
+unfolding SuitsNames
+run_arg-done-requires g c = rw c.take_with-run.ensures.run c.requires.resolves
+
+pub run_arg-done-requires-in-None : goal.run_arg-done-requires-in-None
+unfolding SuitsNames
+run_arg-done-requires-in-None g c = rw c.take-run.ensures.run c.requires.resolves

@@ -3,7 +3,6 @@ use Rattle.rhai_values.specs.declared.base.value.Dynamic.{Dynamic}
 use Rattle.rhai_state.specs.Native.{left_by, was}
 use Rattle.rhai_steps.specs.States.{holding, state_of}
 use Rattle.rhai_cycle.specs.Agreement.{SuitsNames}
-use Rattle.rhai_cycle.specs.States.{under as under_what_is_read}
 use Rattle.rhai_eval.specs.States.{under}
 use Rattle.std.specs.Option.{option_copied}
 use Rattle.rhai_pointers.specs.Leading.{all_args}
@@ -17,6 +16,7 @@ use denote.Triple.Entry.{Args}
 use borrow.Fn.Enter.{lasts_p}
 use borrow.Fn.Kinds.{ended_of}
 use Rattle.rhai_eval.proofs.engine.Engine.make_function_call.Goals as goal
+use Rattle.rhai_cycle.specs.States.{under as under_what_is_read}
 
 -- what stands in the place of `this` as its loan ends, were this the place
 abbrev left_on : (g : Over) → goal.After-give_back_with g → Option (MutBor (Dynamic g.row.H.Denot)) → Option (Dynamic g.row.H.Denot)

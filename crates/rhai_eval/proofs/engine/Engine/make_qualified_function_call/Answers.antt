@@ -2,7 +2,6 @@ use Rattle.std.proofs.Common.{◌≡◌, ℕ, Bool, true, false, List, Option, S
 use Rattle.rhai_values.specs.declared.base.value.Dynamic.{Dynamic}
 use Rattle.rhai_state.specs.Native.{left_by, was}
 use Rattle.rhai_steps.specs.States.{holding, state_of}
-use Rattle.rhai_cycle.specs.States.{under as under_what_is_read}
 use Rattle.rhai_eval.specs.States.{under}
 use Rattle.rhai_machine.specs.language.Runs.{Runs}
 use Rattle.rhai_laws.proofs.KeptLaws.{kept, names_stay}
@@ -21,6 +20,8 @@ use denote.Triple.Entry.{Args}
 use borrow.Fn.Enter.{lasts_p}
 use borrow.Fn.Kinds.{ended_of}
 use Rattle.rhai_eval.proofs.engine.Engine.make_qualified_function_call.Goals as goal
+use Rattle.rhai_cycle.specs.Agreement.{SuitsNames}
+use Rattle.rhai_cycle.specs.States.{under as under_what_is_read}
 
 -- a call behind a path
 abbrev behind : {H : Type 0} → Namespace → (name : List ℕ) → (args : List Expr) → Position → Control H
@@ -118,3 +119,11 @@ returns-in-None-clause-kept g c = kept (under g.H.Host.name_of c.args.self.now g
 pub returns-in-None-clause-names : goal.returns-in-None-clause-names
 returns-in-None-clause-names g c = names_stay (under g.H.Host.name_of c.args.self.now g.T.NativeTable.natives)
     (behind c.args.namespace.now c.args.fn_name.now c.args.args_expr.now c.args.pos) (ended c.finish-result-in-None.result) _ _ tt tt (runs_free g c)
+
+pub run_qualified_call-done-requires-clause-resolves : goal.run_qualified_call-done-requires-clause-resolves
+unfolding SuitsNames
+run_qualified_call-done-requires-clause-resolves g c = rw c.take_with-run.ensures.run c.requires.resolves
+
+pub run_qualified_call-done-requires-in-None-clause-resolves : goal.run_qualified_call-done-requires-in-None-clause-resolves
+unfolding SuitsNames
+run_qualified_call-done-requires-in-None-clause-resolves g c = rw c.take-run.ensures.run c.requires.resolves

@@ -1,4 +1,3 @@
-use Rattle.std.proofs.Common.{Ok}
 use Rattle.rhai_tree.specs.declared.expr.Expr.{out-Expr}
 use Rattle.rhai_machine.specs.language.Setting.{globals_of}
 use Rattle.rhai_state.specs.Scope.{entries_of}

@@ -16,7 +16,7 @@ use Rattle.rhai_context.specs.declared.Context.{Context}
 use Rattle.rhai_laws.proofs.KeptLaws.{counted, kept, names_stay}
 use Rattle.rhai_steps.specs.Marked.{lending, RunsFrom}
 use Rattle.rhai_methods.specs.Methods.{CallsFrom}
-use Rattle.rhai_cycle.specs.Agreement.{ChangesNames, KeepsNames, RestoresNames, SuitsNames}
+use Rattle.rhai_cycle.specs.Agreement.{ChangesNames, KeepsNames, RestoresNames, SuitsNames, sight_in}
 use Rattle.rhai_cycle.specs.Bodies.{entered}
 use Rattle.rhai_cycle.specs.Calls.{StartsAs}
 use Rattle.rhai_cycle.specs.States.{offer_of, under}
@@ -29,6 +29,9 @@ use Rattle.rhai_cycle.proofs.FocusSteps.{enters_focus, focus_refused, inside_run
 use Rattle.rhai_walk.proofs.Entering.{standing}
 use Rattle.rhai_cycle.proofs.evaluator.Evaluator.+eval.Goals as goal
 use Rattle.rhai_context.specs.Ends.{came, error_in}
+use Rattle.rhai_steps.specs.Agreement.{imports_in, sight_of}
+use Rattle.rhai_cycle.proofs.SightLemmas.{sight_closed}
+use Rattle.rhai_bodies.specs.declared.opening.CallExit.{CallExit}
 
 pub run_body-returns-then-not-charge-clause-runs : goal.run_body-returns-then-not-charge-clause-runs
 run_body-returns-then-not-charge-clause-runs g t c scope held object is_fresh scope_is this_is =
@@ -57,7 +60,7 @@ pub run_body-run_stmt_block-done-requires : goal.run_body-run_stmt_block-done-re
 unfolding ChangesNames KeepsNames RestoresNames SuitsNames
 run_body-run_stmt_block-done-requires g t c =
     let resolved = body_resolves c.args.def.now c.args.args.now (entries_of c.args.run.now.scope) (entries_of c.open_function.new.scope)
-    c.def-def.ensures.resolves (rw (c.in-Ok-Some.field-0-is, c.def-def.ensures.value) at c.in-Ok-Some.ensures.variables) in
+    (imports_in c.open_function.new.global.imports) c.def-def.ensures.resolves (rw (c.in-Ok-Some.field-0-is, c.def-def.ensures.value) at c.in-Ok-Some.ensures.variables) in
     λ κs lives. (
       omega (
         arith,
@@ -66,7 +69,7 @@ run_body-run_stmt_block-done-requires g t c =
         brings_no_charge (option_copied c.args.environ) c.args.level c.charge.new.global c.open_function.new.global
             (rw c.in-Ok-Some.field-0-is at c.in-Ok-Some.ensures.state),
       ),
-      (lives.0, (lives.1, suits_now _ (rw (c.statements_of-statements.ensures, c.def-def.ensures.value) resolved))),
+      (lives.0, (lives.1, suits_now _ _ (rw (c.statements_of-statements.ensures, c.def-def.ensures.value) resolved))),
     )
 
 pub run_body-returns-in-Ok-None-clause-runs : goal.run_body-returns-in-Ok-None-clause-runs
@@ -181,8 +184,7 @@ unfolding ChangesNames KeepsNames RestoresNames SuitsNames
 enter_captured-returns-clause-names g t c done =
     let rules = under g.H.Host.name_of c.args.self.now g.T.NativeTable.natives in
     let result = came c.run_body-done.result c.release.new.run.value c.release.new.run.error in
-    let search = λ (r : Context _). r.global.always_search_scope in
-    stays (ap search c.release.ensures.run ∙ c.run_body-done.ensures.search refl ∙ ap search c.capture-captured.ensures.run)
+    stays (ap sight_in c.release.ensures.run ∙ c.run_body-done.ensures.sight refl ∙ ap sight_in c.capture-captured.ensures.run)
     (names_stay rules (EnterFunction (entry_of c.args.function NoObject false c.args.args.now c.args.pos
     (local_of c.args.run.now.global c.args.run.now.scope (holding None)))) (ended result) _ _ refl tt
     (enter_captured-returns-clause-runs g t c (holding None)))
@@ -318,32 +320,34 @@ run_method-returns-in-Alone-clause-runs g t c scope held k =
     ⨾ (rw c.as_mut_slice-values-in-Alone.ensures.value at c.enter_fresh-done.ensures.runs) scope
     (lending held c.call_method.new.target) k)
 
--- whether variables are searched for is put back
+-- what a checker knows of the state is put back
 
-pub run_body-returns-then-not-charge-clause-search : goal.run_body-returns-then-not-charge-clause-search
-run_body-returns-then-not-charge-clause-search g t c restores = c.if-not-charge.ensures.search
+pub run_body-returns-then-not-charge-clause-sight : goal.run_body-returns-then-not-charge-clause-sight
+run_body-returns-then-not-charge-clause-sight g t c restores = c.if-not-charge.ensures.sight
 
-pub run_body-returns-in-Err-clause-search : goal.run_body-returns-in-Err-clause-search
-run_body-returns-in-Err-clause-search g t c restores = c.open_function.ensures.search ∙ c.if-not-charge.ensures.search
+pub run_body-returns-in-Err-clause-sight : goal.run_body-returns-in-Err-clause-sight
+run_body-returns-in-Err-clause-sight g t c restores = ap sight_of c.in-Err.ensures.same_state ∙ c.if-not-charge.ensures.sight
 
-pub run_body-returns-in-Ok-None-clause-search : goal.run_body-returns-in-Ok-None-clause-search
-run_body-returns-in-Ok-None-clause-search g t c restores = c.open_function.ensures.search ∙ c.if-not-charge.ensures.search
+pub run_body-returns-in-Ok-None-clause-sight : goal.run_body-returns-in-Ok-None-clause-sight
+run_body-returns-in-Ok-None-clause-sight g t c restores =
+    ap sight_of (rw c.in-Ok-None.field-0-is at c.in-Ok-None.ensures.same_state) ∙ c.if-not-charge.ensures.sight
 
-pub run_body-returns-in-Ok-Some-clause-search : goal.run_body-returns-in-Ok-Some-clause-search
+pub run_body-returns-in-Ok-Some-clause-sight : goal.run_body-returns-in-Ok-Some-clause-sight
 unfolding RestoresNames
-run_body-returns-in-Ok-Some-clause-search g t c restores =
-    c.close_body.ensures.search ∙ (c.run_stmt_block-done.ensures.restores restores).search ∙ c.open_function.ensures.search
-    ∙ c.if-not-charge.ensures.search
+run_body-returns-in-Ok-Some-clause-sight g t c restores =
+    let exit_is = rw c.in-Ok-Some.field-0-is at c.in-Ok-Some.ensures.exit in
+    sight_closed c.charge.new.global c.open_function.new.global c.run_stmt_block-done.new.run.global c.close_body.new.global
+    (option_copied c.args.environ) c.args.level c.in-Ok-Some.exit (ap (λ (exit : CallExit). exit.imports_length) exit_is)
+    (rw c.in-Ok-Some.field-0-is at c.in-Ok-Some.ensures.state) (c.run_stmt_block-done.ensures.restores restores).sight
+    c.close_body.ensures.state ∙ c.if-not-charge.ensures.sight
 
-pub enter_fresh-returns-clause-search : goal.enter_fresh-returns-clause-search
-enter_fresh-returns-clause-search g t c =
-    let search = λ (r : Context _). r.global.always_search_scope in
-    ap search c.end_fresh.ensures ∙ c.run_body-done.ensures.search refl ∙ ap search c.put_aside-aside.ensures.rest
+pub enter_fresh-returns-clause-sight : goal.enter_fresh-returns-clause-sight
+enter_fresh-returns-clause-sight g t c =
+    ap sight_in c.end_fresh.ensures ∙ c.run_body-done.ensures.sight refl ∙ ap sight_in c.put_aside-aside.ensures.rest
 
-pub enter_on_focus-returns-clause-search : goal.enter_on_focus-returns-clause-search
-enter_on_focus-returns-clause-search g t c =
-    let search = λ (r : Context _). r.global.always_search_scope in
-    ap search c.leave_focus.ensures.run ∙ c.run_body-done.ensures.search refl ∙ ap search c.lend_focus-aside.ensures.rest
+pub enter_on_focus-returns-clause-sight : goal.enter_on_focus-returns-clause-sight
+enter_on_focus-returns-clause-sight g t c =
+    ap sight_in c.leave_focus.ensures.run ∙ c.run_body-done.ensures.sight refl ∙ ap sight_in c.lend_focus-aside.ensures.rest
 
 pub run_out-returns-in-Ended-clause-names : goal.run_out-returns-in-Ended-clause-names
 unfolding ChangesNames KeepsNames RestoresNames SuitsNames
@@ -351,4 +355,4 @@ run_out-returns-in-Ended-clause-names g t c done = stays refl refl
 
 pub run_out-returns-then-is_fresh-clause-names : goal.run_out-returns-then-is_fresh-clause-names
 unfolding ChangesNames KeepsNames RestoresNames SuitsNames
-run_out-returns-then-is_fresh-clause-names g t c done = stays c.enter_fresh.ensures.search (ap names_in c.enter_fresh.ensures.scope)
+run_out-returns-then-is_fresh-clause-names g t c done = stays c.enter_fresh.ensures.sight (ap names_in c.enter_fresh.ensures.scope)

@@ -65,10 +65,10 @@ run_operation-run_operator-requires g t c =
             (
               form.2,
               (
-                same c.operate_in_place-in_place.ensures.search refl (brings (λ frame h. (operands_resolve c.args.call.now c.args.pos
+                same c.operate_in_place-in_place.ensures.sight refl (brings (λ frame h. (operands_resolve c.args.call.now c.args.pos
                     c.in-Binary.left.now c.in-Binary.right.now frame form.2 h).0) c.requires.resolves),
                 (
-                  same c.operate_in_place-in_place.ensures.search refl (brings (λ frame h. (operands_resolve c.args.call.now
+                  same c.operate_in_place-in_place.ensures.sight refl (brings (λ frame h. (operands_resolve c.args.call.now
                       c.args.pos c.in-Binary.left.now c.in-Binary.right.now frame form.2 h).1) c.requires.resolves),
                   form.0,
                 ),
@@ -173,7 +173,7 @@ run_function-run_call-requires g t c =
         (
           lives.1,
           rw (← c.parts_of_call.ensures.args)
-              (same c.call_at_once-at_once.ensures.search c.call_at_once-at_once.ensures.names
+              (same c.call_at_once-at_once.ensures.sight c.call_at_once-at_once.ensures.names
               (brings (operands_of_call c.args.call.now c.args.pos) c.requires.resolves)),
         ),
       ),
@@ -293,13 +293,13 @@ unfolding ChangesNames KeepsNames RestoresNames SuitsNames
 run_arg-run_expr-requires g t c =
     λ κs lives. (
       omega (arith, ap (λ (global : GlobalRuntimeState _). global.num_operations) (c.literal_arg-in_place.ensures.left_alone c.in-None.is)),
-      (lives.0, (lives.1, same c.literal_arg-in_place.ensures.search refl c.requires)),
+      (lives.0, (lives.1, same c.literal_arg-in_place.ensures.sight refl c.requires)),
     )
 
 pub run_unary-returns-clause-names : goal.run_unary-returns-clause-names
 unfolding ChangesNames KeepsNames RestoresNames SuitsNames
 run_unary-returns-clause-names g t c done = leads_then (c.if-not-run_arg.ensures.names refl)
-    (leads_then (stays c.operate_on_one-called.ensures.search (ap names_in c.operate_on_one-called.ensures.scope))
+    (leads_then (stays c.operate_on_one-called.ensures.sight (ap names_in c.operate_on_one-called.ensures.scope))
     (c.run_out-done.ensures.names done))
 
 pub run_operator-returns-then-operate_known-clause-names : goal.run_operator-returns-then-operate_known-clause-names
@@ -311,36 +311,36 @@ pub run_operator-returns-clause-names : goal.run_operator-returns-clause-names
 unfolding ChangesNames KeepsNames RestoresNames SuitsNames
 run_operator-returns-clause-names g t c done =
     leads_then (leads_then (c.if-not-run_arg.ensures.names refl) (c.if-not-run_arg-2.ensures.names refl))
-    (leads_then (stays c.operate_on_two-called.ensures.search (ap names_in c.operate_on_two-called.ensures.scope))
+    (leads_then (stays c.operate_on_two-called.ensures.sight (ap names_in c.operate_on_two-called.ensures.scope))
     (c.run_out-done.ensures.names done))
 
 pub run_function-returns-in-Some-at_once-clause-names : goal.run_function-returns-in-Some-at_once-clause-names
 unfolding ChangesNames KeepsNames RestoresNames SuitsNames
 run_function-returns-in-Some-at_once-clause-names g t c done =
-    stays c.call_at_once-at_once.ensures.search c.call_at_once-at_once.ensures.names
+    stays c.call_at_once-at_once.ensures.sight c.call_at_once-at_once.ensures.names
 
 pub run_function-returns-clause-names : goal.run_function-returns-clause-names
 unfolding ChangesNames KeepsNames RestoresNames SuitsNames
 run_function-returns-clause-names g t c done =
-    leads_then (stays c.call_at_once-at_once.ensures.search c.call_at_once-at_once.ensures.names) (c.run_call.ensures.names done)
+    leads_then (stays c.call_at_once-at_once.ensures.sight c.call_at_once-at_once.ensures.names) (c.run_call.ensures.names done)
 
 pub run_operation-returns-in-Some-clause-names : goal.run_operation-returns-in-Some-clause-names
 unfolding ChangesNames KeepsNames RestoresNames SuitsNames
-run_operation-returns-in-Some-clause-names g t c done = stays c.operate_in_place-in_place.ensures.search refl
+run_operation-returns-in-Some-clause-names g t c done = stays c.operate_in_place-in_place.ensures.sight refl
 
 pub run_operation-returns-in_default-clause-names : goal.run_operation-returns-in_default-clause-names
 unfolding ChangesNames KeepsNames RestoresNames SuitsNames
 run_operation-returns-in_default-clause-names g t c done =
-    leads_then (stays c.operate_in_place-in_place.ensures.search refl) (c.run_operator.ensures.names done)
+    leads_then (stays c.operate_in_place-in_place.ensures.sight refl) (c.run_operator.ensures.names done)
 
 pub run_arg-returns-in-Some-clause-names : goal.run_arg-returns-in-Some-clause-names
 unfolding ChangesNames KeepsNames RestoresNames SuitsNames
-run_arg-returns-in-Some-clause-names g t c done = stays c.literal_arg-in_place.ensures.search refl
+run_arg-returns-in-Some-clause-names g t c done = stays c.literal_arg-in_place.ensures.sight refl
 
 pub run_arg-returns-in-None-clause-names : goal.run_arg-returns-in-None-clause-names
 unfolding ChangesNames KeepsNames RestoresNames SuitsNames
 run_arg-returns-in-None-clause-names g t c done =
-    leads_then (stays c.literal_arg-in_place.ensures.search refl) (c.run_expr.ensures.names done)
+    leads_then (stays c.literal_arg-in_place.ensures.sight refl) (c.run_expr.ensures.names done)
 
 pub run_function-call_at_once-at_once-requires : goal.run_function-call_at_once-at_once-requires
 unfolding SuitsNames

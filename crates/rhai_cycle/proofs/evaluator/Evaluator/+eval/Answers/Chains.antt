@@ -1,4 +1,4 @@
-use Rattle.std.proofs.Common.{◌≡◌, [], ◌∷◌, false, true, length, Option, Some, None, Ok, Err, is_none, is_some, refl, sym, ap, subst, ◌∙◌}
+use Rattle.std.proofs.Common.{◌≡◌, [], ◌∷◌, false, true, length, Option, Some, None, is_none, is_some, refl, sym, ap, subst, ◌∙◌}
 use Rattle.std.proofs.Common.{arith}
 use Rattle.std.specs.Option.{option_copied, option_map}
 use Rattle.rhai_steps.specs.States.{holding}
@@ -21,7 +21,6 @@ use Rattle.rhai_steps.proofs.Pieces.{charged, refused}
 use Rattle.rhai_operands.proofs.Names.{good_name}
 use Rattle.rhai_chains.specs.Chains.{chain_at, link_seen, new_of}
 use Rattle.rhai_context.specs.Ends.{error_in}
-use Rattle.rhai_context.specs.declared.Context.{Context}
 use Rattle.rhai_cycle.specs.Agreement.{ChangesNames, KeepsNames, RestoresNames, SuitsNames}
 use Rattle.rhai_cycle.specs.Calls.{Collects, RunsUnder, StartsAs}
 use Rattle.rhai_cycle.specs.Chains.{Gathers}
@@ -173,7 +172,7 @@ pub run_link_args-run_more_args-requires : goal.run_link_args-run_more_args-requ
 unfolding ChangesNames KeepsNames RestoresNames SuitsNames
 run_link_args-run_more_args-requires g t c =
     let found = sym c.link_of.ensures ∙ ap (option_map link_seen) c.in-Some.is in
-    let suits = same c.if-not-charge.ensures.search refl c.requires in
+    let suits = same c.if-not-charge.ensures.sight refl c.requires in
     let parts = link_resolves (out-Expr c.args.chain.now) suits.known (Some (link_seen c.in-Some.link)) found suits.holds in
     λ κs lives. (
       omega (arith, ap (λ (global : GlobalRuntimeState _). global.num_operations) (c.if-not-charge.ensures.charged refl)),
@@ -184,7 +183,7 @@ pub run_link_args-run_link_args-requires : goal.run_link_args-run_link_args-requ
 unfolding ChangesNames KeepsNames RestoresNames SuitsNames
 run_link_args-run_link_args-requires g t c =
     let found = sym c.link_of.ensures ∙ ap (option_map link_seen) c.in-Some.is in
-    let suits = still (leads_then (stays c.if-not-charge.ensures.search refl) (c.if-not-run_more_args.ensures.names refl)) c.requires in
+    let suits = still (leads_then (stays c.if-not-charge.ensures.sight refl) (c.if-not-run_more_args.ensures.names refl)) c.requires in
     let parts = link_resolves (out-Expr c.args.chain.now) suits.known (Some (link_seen c.in-Some.link)) found suits.holds in
     let on : (link_seen c.in-Some.link).behind ≡ Some (out-Expr c.in-Some-behind.rest.now) =
     ap (λ o. option_map out-Expr (option_copied o)) c.in-Some-behind.is in
@@ -336,7 +335,7 @@ run_root-walk_variable-requires g t c =
         (
           lives.1,
           (
-            same c.if-not-charge.ensures.search refl (brings (λ frame. good_name c.args.root.now c.in-Variable.offset c.in-Variable.name
+            same c.if-not-charge.ensures.sight refl (brings (λ frame. good_name c.args.root.now c.in-Variable.offset c.in-Variable.name
                 c.in-Variable.namespace c.in-Variable.pos frame (rw (c.in-Variable.is, exprs.outs-Variable) refl)) c.requires.root),
             c.requires.walks,
           ),
@@ -466,7 +465,7 @@ assign_chain-returns-clause-runs g t c restoring k =
 pub run_expr-read_chain-requires : goal.run_expr-read_chain-requires
 unfolding ChangesNames KeepsNames RestoresNames SuitsNames
 run_expr-read_chain-requires g t c =
-    let suits = same c.charge_expr.ensures.search refl c.requires.resolves in
+    let suits = same c.charge_expr.ensures.sight refl c.requires.resolves in
     let few = few_links c.args.expr.now suits.known suits.holds in
     let parts = root_resolves c.args.expr.now c.in-Dot.root suits.known (rw (c.in-Dot.is, exprs.outs-Dot) refl) suits.holds in
     λ κs lives. (
@@ -491,7 +490,7 @@ run_expr-read_chain-requires g t c =
 pub run_expr-read_chain-requires-in-Index : goal.run_expr-read_chain-requires-in-Index
 unfolding ChangesNames KeepsNames RestoresNames SuitsNames
 run_expr-read_chain-requires-in-Index g t c =
-    let suits = same c.charge_expr.ensures.search refl c.requires.resolves in
+    let suits = same c.charge_expr.ensures.sight refl c.requires.resolves in
     let few = few_links c.args.expr.now suits.known suits.holds in
     let parts = root_resolves c.args.expr.now c.in-Index.root suits.known (rw (c.in-Index.is, exprs.outs-Index) refl) suits.holds in
     λ κs lives. (
@@ -550,28 +549,28 @@ run_chain-returns-else-not-run_link_args-clause-names g t c done =
 pub run_link_args-returns-in-Some-behind-clause-names : goal.run_link_args-returns-in-Some-behind-clause-names
 unfolding ChangesNames KeepsNames RestoresNames SuitsNames
 run_link_args-returns-in-Some-behind-clause-names g t c done =
-    leads_then (leads_then (stays c.if-not-charge.ensures.search refl) (c.if-not-run_more_args.ensures.names refl))
+    leads_then (leads_then (stays c.if-not-charge.ensures.sight refl) (c.if-not-run_more_args.ensures.names refl))
     (c.run_link_args.ensures.names done)
 
 pub run_link_args-returns-in-None-clause-names : goal.run_link_args-returns-in-None-clause-names
 unfolding ChangesNames KeepsNames RestoresNames SuitsNames
 run_link_args-returns-in-None-clause-names g t c done =
-    leads_then (stays c.if-not-charge.ensures.search refl) (c.if-not-run_more_args.ensures.names refl)
+    leads_then (stays c.if-not-charge.ensures.sight refl) (c.if-not-run_more_args.ensures.names refl)
 
 pub run_root-returns-else-not-run_expr-clause-names : goal.run_root-returns-else-not-run_expr-clause-names
 unfolding ChangesNames KeepsNames RestoresNames SuitsNames
 run_root-returns-else-not-run_expr-clause-names g t c done =
-    leads_then (c.if-not-run_expr.ensures.names refl) (stays c.walk_value.ensures.search (ap names_in c.walk_value.ensures.scope))
+    leads_then (c.if-not-run_expr.ensures.names refl) (stays c.walk_value.ensures.sight (ap names_in c.walk_value.ensures.scope))
 
 pub run_root-returns-else-not-charge-clause-names : goal.run_root-returns-else-not-charge-clause-names
 unfolding ChangesNames KeepsNames RestoresNames SuitsNames
 run_root-returns-else-not-charge-clause-names g t c done =
-    leads_then (stays c.if-not-charge.ensures.search refl) c.walk_variable.ensures.names
+    leads_then (stays c.if-not-charge.ensures.sight refl) c.walk_variable.ensures.names
 
 pub run_root-returns-else-not-charge-2-clause-names : goal.run_root-returns-else-not-charge-2-clause-names
 unfolding ChangesNames KeepsNames RestoresNames SuitsNames
 run_root-returns-else-not-charge-2-clause-names g t c done =
-    stays (c.walk_this.ensures.search ∙ c.if-not-charge-2.ensures.search) (ap names_in c.walk_this.ensures.scope)
+    stays (c.walk_this.ensures.sight ∙ c.if-not-charge-2.ensures.sight) (ap names_in c.walk_this.ensures.scope)
 
 pub assign_chain-returns-clause-names : goal.assign_chain-returns-clause-names
 unfolding ChangesNames KeepsNames RestoresNames SuitsNames

@@ -158,7 +158,7 @@ run_interpolated-each_part-preserved g t c =
     record {
       counts = omega (arith, c.each_part.invariant.counts, c.if-not-run_expr.ensures.charges refl, c.if-not-join.ensures.counts);
       names = leads_then c.each_part.invariant.names
-          (leads_then (c.if-not-run_expr.ensures.names refl) (stays c.if-not-join.ensures.search refl));
+          (leads_then (c.if-not-run_expr.ensures.names refl) (stays c.if-not-join.ensures.sight refl));
       steps = λ k. c.each_part.invariant.steps k ⨾ rw (drop_item _ _ _ c.each_part-test.true c.part-item.is)
           (c.if-not-run_expr.ensures.runs (TextPart _ _ _ ∷ k) ⨾ c.if-not-join.ensures.runs (offer_of c.args.self.now)
           c.run_expr.new.run.scope (holding c.run_expr.new.run.this) _ k);

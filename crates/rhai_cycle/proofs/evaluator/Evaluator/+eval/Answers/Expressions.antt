@@ -142,7 +142,7 @@ unfolding ChangesNames KeepsNames RestoresNames SuitsNames
 run_expr-run_fn_call_expr-requires g t c =
     let suits = expr_suits c.args.expr.now (layer.Expr::FnCall c.in-FnCall.call c.in-FnCall.pos)
     (rw (c.in-FnCall.is, exprs.outs-FnCall) refl)
-    c.charge_expr.ensures.search c.requires.resolves in
+    c.charge_expr.ensures.sight c.requires.resolves in
     λ κs lives. (
       omega (
         arith,
@@ -156,7 +156,7 @@ pub run_expr-run_stmt_block-requires : goal.run_expr-run_stmt_block-requires
 unfolding ChangesNames KeepsNames RestoresNames SuitsNames
 run_expr-run_stmt_block-requires g t c =
     let suits = expr_suits c.args.expr.now (layer.Stmt c.in-Stmt.block) (rw (c.in-Stmt.is, exprs.outs-Stmt) refl)
-    c.charge_expr.ensures.search c.requires.resolves in
+    c.charge_expr.ensures.sight c.requires.resolves in
     λ κs lives. (
       omega (
         arith,
@@ -170,7 +170,7 @@ pub run_expr-run_until-requires : goal.run_expr-run_until-requires
 unfolding ChangesNames KeepsNames RestoresNames SuitsNames
 run_expr-run_until-requires g t c =
     let suits = expr_suits c.args.expr.now (layer.And c.in-And.parts c.in-And.field-1) (rw (c.in-And.is, exprs.outs-And) refl)
-    c.charge_expr.ensures.search c.requires.resolves in
+    c.charge_expr.ensures.sight c.requires.resolves in
     λ κs lives. (
       omega (
         arith,
@@ -184,7 +184,7 @@ pub run_expr-run_until-requires-in-Or : goal.run_expr-run_until-requires-in-Or
 unfolding ChangesNames KeepsNames RestoresNames SuitsNames
 run_expr-run_until-requires-in-Or g t c =
     let suits = expr_suits c.args.expr.now (layer.Or c.in-Or.parts c.in-Or.field-1) (rw (c.in-Or.is, exprs.outs-Or) refl)
-    c.charge_expr.ensures.search c.requires.resolves in
+    c.charge_expr.ensures.sight c.requires.resolves in
     λ κs lives. (
       omega (
         arith,
@@ -199,7 +199,7 @@ unfolding ChangesNames KeepsNames RestoresNames SuitsNames
 run_expr-run_coalesce-requires g t c =
     let suits = expr_suits c.args.expr.now (layer.Coalesce c.in-Coalesce.parts c.in-Coalesce.field-1)
     (rw (c.in-Coalesce.is, exprs.outs-Coalesce) refl)
-    c.charge_expr.ensures.search c.requires.resolves in
+    c.charge_expr.ensures.sight c.requires.resolves in
     λ κs lives. (
       omega (
         arith,
@@ -213,7 +213,7 @@ pub run_expr-run_array-requires : goal.run_expr-run_array-requires
 unfolding ChangesNames KeepsNames RestoresNames SuitsNames
 run_expr-run_array-requires g t c =
     let suits = expr_suits c.args.expr.now (layer.Array c.in-Array.items c.in-Array.pos) (rw (c.in-Array.is, exprs.outs-Array) refl)
-    c.charge_expr.ensures.search c.requires.resolves in
+    c.charge_expr.ensures.sight c.requires.resolves in
     λ κs lives. (
       omega (
         arith,
@@ -228,7 +228,7 @@ unfolding ChangesNames KeepsNames RestoresNames SuitsNames
 run_expr-run_map-requires g t c =
     let suits = expr_suits c.args.expr.now (layer.Map c.in-Map.entries c.in-Map.field-1 c.in-Map.pos)
     (rw (c.in-Map.is, exprs.outs-Map) refl)
-    c.charge_expr.ensures.search c.requires.resolves in
+    c.charge_expr.ensures.sight c.requires.resolves in
     λ κs lives. (
       omega (
         arith,
@@ -243,7 +243,7 @@ unfolding ChangesNames KeepsNames RestoresNames SuitsNames
 run_expr-run_interpolated-requires g t c =
     let suits = expr_suits c.args.expr.now (layer.InterpolatedString c.in-InterpolatedString.parts c.in-InterpolatedString.pos)
     (rw (c.in-InterpolatedString.is, exprs.outs-InterpolatedString) refl)
-    c.charge_expr.ensures.search c.requires.resolves in
+    c.charge_expr.ensures.sight c.requires.resolves in
     λ κs lives. (
       omega (
         arith,
@@ -255,78 +255,78 @@ run_expr-run_interpolated-requires g t c =
 
 pub run_expr-read_expr-requires : goal.run_expr-read_expr-requires
 unfolding ChangesNames KeepsNames RestoresNames SuitsNames
-run_expr-read_expr-requires g t c = same c.charge_expr.ensures.search refl c.requires.resolves
+run_expr-read_expr-requires g t c = same c.charge_expr.ensures.sight refl c.requires.resolves
 
 pub run_condition-run_expr-requires : goal.run_condition-run_expr-requires
 unfolding ChangesNames KeepsNames RestoresNames SuitsNames
 run_condition-run_expr-requires g t c =
     λ κs lives. (
       omega (arith, ap (λ (global : GlobalRuntimeState _). global.num_operations) (c.holds_at_once.ensures.left_alone c.in-None.is)),
-      (lives.0, (lives.1, same c.holds_at_once.ensures.search refl c.requires.resolves)),
+      (lives.0, (lives.1, same c.holds_at_once.ensures.sight refl c.requires.resolves)),
     )
 
 pub run_expr-returns-in-FnCall-clause-names : goal.run_expr-returns-in-FnCall-clause-names
 unfolding ChangesNames KeepsNames RestoresNames SuitsNames
 run_expr-returns-in-FnCall-clause-names g t c done =
-    leads_then (stays c.charge_expr.ensures.search refl) (c.run_fn_call_expr.ensures.names done)
+    leads_then (stays c.charge_expr.ensures.sight refl) (c.run_fn_call_expr.ensures.names done)
 
 pub run_expr-returns-in-And-clause-names : goal.run_expr-returns-in-And-clause-names
 unfolding ChangesNames KeepsNames RestoresNames SuitsNames
 run_expr-returns-in-And-clause-names g t c done =
-    leads_then (stays c.charge_expr.ensures.search refl) (c.run_until.ensures.names done)
+    leads_then (stays c.charge_expr.ensures.sight refl) (c.run_until.ensures.names done)
 
 pub run_expr-returns-in-Or-clause-names : goal.run_expr-returns-in-Or-clause-names
 unfolding ChangesNames KeepsNames RestoresNames SuitsNames
 run_expr-returns-in-Or-clause-names g t c done =
-    leads_then (stays c.charge_expr.ensures.search refl) (c.run_until-in-Or.ensures.names done)
+    leads_then (stays c.charge_expr.ensures.sight refl) (c.run_until-in-Or.ensures.names done)
 
 pub run_expr-returns-in-Coalesce-clause-names : goal.run_expr-returns-in-Coalesce-clause-names
 unfolding ChangesNames KeepsNames RestoresNames SuitsNames
 run_expr-returns-in-Coalesce-clause-names g t c done =
-    leads_then (stays c.charge_expr.ensures.search refl) (c.run_coalesce.ensures.names done)
+    leads_then (stays c.charge_expr.ensures.sight refl) (c.run_coalesce.ensures.names done)
 
 pub run_expr-returns-in-Array-clause-names : goal.run_expr-returns-in-Array-clause-names
 unfolding ChangesNames KeepsNames RestoresNames SuitsNames
 run_expr-returns-in-Array-clause-names g t c done =
-    leads_then (stays c.charge_expr.ensures.search refl) (c.run_array.ensures.names done)
+    leads_then (stays c.charge_expr.ensures.sight refl) (c.run_array.ensures.names done)
 
 pub run_expr-returns-in-Map-clause-names : goal.run_expr-returns-in-Map-clause-names
 unfolding ChangesNames KeepsNames RestoresNames SuitsNames
 run_expr-returns-in-Map-clause-names g t c done =
-    leads_then (stays c.charge_expr.ensures.search refl) (c.run_map.ensures.names done)
+    leads_then (stays c.charge_expr.ensures.sight refl) (c.run_map.ensures.names done)
 
 pub run_expr-returns-in-InterpolatedString-clause-names : goal.run_expr-returns-in-InterpolatedString-clause-names
 unfolding ChangesNames KeepsNames RestoresNames SuitsNames
 run_expr-returns-in-InterpolatedString-clause-names g t c done =
-    leads_then (stays c.charge_expr.ensures.search refl) (c.run_interpolated.ensures.names done)
+    leads_then (stays c.charge_expr.ensures.sight refl) (c.run_interpolated.ensures.names done)
 
 pub run_expr-returns-in-Dot-clause-names : goal.run_expr-returns-in-Dot-clause-names
 unfolding ChangesNames KeepsNames RestoresNames SuitsNames
 run_expr-returns-in-Dot-clause-names g t c done =
-    leads_then (stays c.charge_expr.ensures.search refl) (c.read_chain.ensures.names done)
+    leads_then (stays c.charge_expr.ensures.sight refl) (c.read_chain.ensures.names done)
 
 pub run_expr-returns-in-Index-clause-names : goal.run_expr-returns-in-Index-clause-names
 unfolding ChangesNames KeepsNames RestoresNames SuitsNames
 run_expr-returns-in-Index-clause-names g t c done =
-    leads_then (stays c.charge_expr.ensures.search refl) (c.read_chain-in-Index.ensures.names done)
+    leads_then (stays c.charge_expr.ensures.sight refl) (c.read_chain-in-Index.ensures.names done)
 
 pub run_expr-returns-in-Stmt-clause-names : goal.run_expr-returns-in-Stmt-clause-names
 unfolding ChangesNames KeepsNames RestoresNames SuitsNames
 run_expr-returns-in-Stmt-clause-names g t c done =
-    leads_then (stays c.charge_expr.ensures.search refl) (put_back (c.run_stmt_block.ensures.restores refl))
+    leads_then (stays c.charge_expr.ensures.sight refl) (put_back (c.run_stmt_block.ensures.restores refl))
 
 pub run_expr-returns-in_default-clause-names : goal.run_expr-returns-in_default-clause-names
 unfolding ChangesNames KeepsNames RestoresNames SuitsNames
-run_expr-returns-in_default-clause-names g t c done = stays c.charge_expr.ensures.search refl
+run_expr-returns-in_default-clause-names g t c done = stays c.charge_expr.ensures.sight refl
 
 pub run_condition-returns-in-Some-clause-names : goal.run_condition-returns-in-Some-clause-names
 unfolding ChangesNames KeepsNames RestoresNames SuitsNames
-run_condition-returns-in-Some-clause-names g t c = holds_of_all _ (stays c.holds_at_once.ensures.search refl)
+run_condition-returns-in-Some-clause-names g t c = holds_of_all _ (stays c.holds_at_once.ensures.sight refl)
 
 pub run_condition-returns-else-not-run_expr-clause-names : goal.run_condition-returns-else-not-run_expr-clause-names
 unfolding ChangesNames KeepsNames RestoresNames SuitsNames
 run_condition-returns-else-not-run_expr-clause-names g t c =
-    holds_of_all _ (leads_then (stays c.holds_at_once.ensures.search refl) (c.if-not-run_expr.ensures.names refl))
+    holds_of_all _ (leads_then (stays c.holds_at_once.ensures.sight refl) (c.if-not-run_expr.ensures.names refl))
 
 pub run_condition-holds_at_once-requires : goal.run_condition-holds_at_once-requires
 unfolding SuitsNames

@@ -16,7 +16,6 @@ use Rattle.rhai_pointers.specs.Keywords.{word_of}
 use Rattle.rhai_pointers.specs.Leading.{all_args, seen, variable_read}
 use Rattle.rhai_pointers.proofs.LeadingLemmas.{lent_leads, this_goes, values_go, variable_goes}
 use Rattle.rhai_dispatch.specs.Going.{GoesOut}
-use Rattle.rhai_context.specs.declared.Context.{Context}
 use Rattle.rhai_cycle.specs.Agreement.{ChangesNames, KeepsNames, RestoresNames, SuitsNames}
 use Rattle.rhai_cycle.specs.Calls.{Collects, RunsUnder, StartsAs, purpose_of}
 use Rattle.rhai_cycle.specs.States.{under}
@@ -304,7 +303,7 @@ run_named-run_more_args-requires g t c =
           lives.1,
           (
             omega arith,
-            same c.if-not-charge.ensures.search refl (brings (λ frame h. this_resolves _ (option_copied c.args.first) c.args.rest.now
+            same c.if-not-charge.ensures.sight refl (brings (λ frame h. this_resolves _ (option_copied c.args.first) c.args.rest.now
                 c.args.run.now.this c.in-Some.this_at frame found h) c.requires.1.1.1.1),
           ),
         ),
@@ -329,7 +328,7 @@ run_named-run_more_args-requires-in-Some-first_variable g t c =
           lives.1,
           (
             omega arith,
-            same c.if-not-charge-2.ensures.search refl (brings (λ frame h. (first_resolves args first.arg leading.rest frame
+            same c.if-not-charge-2.ensures.sight refl (brings (λ frame h. (first_resolves args first.arg leading.rest frame
                 first.comes_first h).1) c.requires.1.1.1.1),
           ),
         ),
@@ -345,7 +344,7 @@ run_named-call_with_variable-called-requires g t c =
     let first = lent_leads _ args leading found in (
       omega arith,
       still (c.if-not-run_more_args-2.ensures.names refl)
-          (same c.if-not-charge-2.ensures.search refl (brings (λ frame h. good_name first.arg
+          (same c.if-not-charge-2.ensures.sight refl (brings (λ frame h. good_name first.arg
           leading.offset leading.name leading.namespace leading.at frame first.is_variable
           (first_resolves args first.arg leading.rest frame first.comes_first h).0) c.requires.1.1.1.1)),
     )
@@ -641,26 +640,26 @@ run_keyword-returns-in-None-clause-names g t c done =
 pub run_pointer-returns-clause-names : goal.run_pointer-returns-clause-names
 unfolding ChangesNames KeepsNames RestoresNames SuitsNames
 run_pointer-returns-clause-names g t c done = leads_then (c.if-not-run_more_args.ensures.names refl)
-    (leads_then (stays c.use_pointer-called.ensures.search (ap names_in c.use_pointer-called.ensures.scope))
+    (leads_then (stays c.use_pointer-called.ensures.sight (ap names_in c.use_pointer-called.ensures.scope))
     (c.run_out-done.ensures.names done))
 
 pub run_named-returns-in-Some-clause-names : goal.run_named-returns-in-Some-clause-names
 unfolding ChangesNames KeepsNames RestoresNames SuitsNames
 run_named-returns-in-Some-clause-names g t c done =
-    leads_then (leads_then (stays c.if-not-charge.ensures.search refl) (c.if-not-run_more_args.ensures.names refl))
-    (leads_then (stays c.call_with_this-called.ensures.search (ap names_in c.call_with_this-called.ensures.scope))
+    leads_then (leads_then (stays c.if-not-charge.ensures.sight refl) (c.if-not-run_more_args.ensures.names refl))
+    (leads_then (stays c.call_with_this-called.ensures.sight (ap names_in c.call_with_this-called.ensures.scope))
     (c.run_out-done.ensures.names done))
 
 pub run_named-returns-else-not-run_more_args-2-clause-names : goal.run_named-returns-else-not-run_more_args-2-clause-names
 unfolding ChangesNames KeepsNames RestoresNames SuitsNames
 run_named-returns-else-not-run_more_args-2-clause-names g t c done =
-    leads_then (leads_then (stays c.if-not-charge-2.ensures.search refl) (c.if-not-run_more_args-2.ensures.names refl))
+    leads_then (leads_then (stays c.if-not-charge-2.ensures.sight refl) (c.if-not-run_more_args-2.ensures.names refl))
     (leads_then c.call_with_variable-called.ensures.names (c.run_out-done-in-Some-first_variable.ensures.names done))
 
 pub run_on_values-returns-clause-names : goal.run_on_values-returns-clause-names
 unfolding ChangesNames KeepsNames RestoresNames SuitsNames
 run_on_values-returns-clause-names g t c done = leads_then (c.if-not-run_all_args.ensures.names refl)
-    (leads_then (stays c.call_with-called.ensures.search (ap names_in c.call_with-called.ensures.scope))
+    (leads_then (stays c.call_with-called.ensures.sight (ap names_in c.call_with-called.ensures.scope))
     (c.run_out-done.ensures.names done))
 
 pub run_all_args-returns-in_default-clause-names : goal.run_all_args-returns-in_default-clause-names

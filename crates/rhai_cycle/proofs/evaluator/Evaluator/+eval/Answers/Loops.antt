@@ -318,7 +318,7 @@ run_return-run_expr-requires g t c =
 
 pub while_turn-returns-then-charge-clause-names : goal.while_turn-returns-then-charge-clause-names
 unfolding ChangesNames KeepsNames RestoresNames SuitsNames
-while_turn-returns-then-charge-clause-names g t c = stays c.if-charge.ensures.search refl
+while_turn-returns-then-charge-clause-names g t c = stays c.if-charge.ensures.sight refl
 
 pub while_turn-returns-else-holds-clause-names : goal.while_turn-returns-else-holds-clause-names
 unfolding KeepsNames

@@ -10,7 +10,7 @@ use Rattle.rhai_bodies.specs.Opening.{entered_global}
 use Rattle.rhai_context.specs.declared.Context.{Context}
 use Rattle.rhai_context.specs.Ends.{came, error_in}
 use Rattle.rhai_laws.proofs.KeptLaws.{counted}
-use Rattle.rhai_cycle.specs.Agreement.{ChangesNames, KeepsNames, RestoresNames, SuitsNames}
+use Rattle.rhai_cycle.specs.Agreement.{ChangesNames, KeepsNames, RestoresNames, SuitsNames, sight_in}
 use Rattle.rhai_cycle.specs.Bodies.{entered}
 use Rattle.rhai_cycle.specs.States.{names, under}
 use Rattle.rhai_cycle.proofs.BodyLemmas.{early_ends, passed_charged, was_charged, whole_ends}
@@ -20,6 +20,9 @@ use Rattle.rhai_steps.proofs.Agreeing.{brings, leads_then, stays, still}
 use Rattle.rhai_cycle.proofs.PlainLemmas.{filling_begins, filling_ends, filling_fails, filling_grows, filling_stops, has_room}
 use Rattle.rhai_cycle.proofs.PlainLemmas.{entered_resolves, plain_ends, plain_fails, plain_stops}
 use Rattle.rhai_cycle.proofs.evaluator.Evaluator.+eval.Goals as goal
+use Rattle.rhai_steps.specs.Agreement.{imports_in}
+use Rattle.rhai_cycle.proofs.SightLemmas.{sight_closed}
+use Rattle.rhai_bodies.specs.declared.opening.CallExit.{CallExit}
 
 -- a call whose function is known
 
@@ -99,7 +102,7 @@ unfolding ChangesNames KeepsNames RestoresNames SuitsNames
 run_plain_call-run_stmt_block-done-requires g t c =
     let rules = under g.H.Host.name_of c.args.self.now g.T.NativeTable.natives in
     let resolved = entered_resolves rules c.as_slice-args.result.now c.run_parameters.new.variables _ _ _ c.definition_of-def.result.now
-    (rw c.definition_of-def.ensures.value c.definition_of-def.ensures.resolves) c.if-not-run_parameters.ensures.fills in
+    (imports_in c.ends_before.new.global.imports) (rw c.definition_of-def.ensures.value c.definition_of-def.ensures.resolves) c.if-not-run_parameters.ensures.fills in
     let room = was_charged c.run_parameters.new.run.global.num_operations c.args.self.now.limits.now.max_operations
     c.ends_before.result c.in_default.is (λ full. (c.ends_before.ensures.spent full).0) in
     λ κs lives. (
@@ -113,7 +116,7 @@ run_plain_call-run_stmt_block-done-requires g t c =
       ),
       (
         lives.0,
-        (lives.1, suits_now _ (rw (c.statements_of-statements.ensures, c.enter_plain-entered.ensures.run) resolved)),
+        (lives.1, suits_now _ _ (rw (c.statements_of-statements.ensures, c.enter_plain-entered.ensures.run) resolved)),
       ),
     )
 
@@ -137,12 +140,15 @@ pub run_plain_call-returns-clause-names : goal.run_plain_call-returns-clause-nam
 unfolding ChangesNames KeepsNames RestoresNames SuitsNames
 run_plain_call-returns-clause-names g t c done =
     let lent = c.lend_variables-variables.ensures.run in
-    let search = ap (λ (global : GlobalRuntimeState _). global.always_search_scope) c.leave_plain.ensures.state
-    ∙ (c.run_stmt_block-done.ensures.restores refl).search
-    ∙ ap (λ (r : Context _). r.global.always_search_scope) c.enter_plain-entered.ensures.run ∙ c.ends_before.ensures.search in
-    leads_then (stays (ap (λ (r : Context _). r.global.always_search_scope) lent) (ap (λ (r : Context _). names r) lent))
+    let before = c.ends_before.new.global in
+    let sight = sight_closed before c.enter_plain-entered.new.run.global c.run_stmt_block-done.new.run.global c.leave_plain.new.run.global None
+    (deeper before.level) c.enter_plain-entered.result.exit
+    (ap (λ (exit : CallExit). exit.imports_length) (c.enter_plain-entered.ensures.exit c.args.run.now.scope))
+    (ap (λ (r : Context _). r.global) c.enter_plain-entered.ensures.run) (c.run_stmt_block-done.ensures.restores refl).sight
+    c.leave_plain.ensures.state ∙ c.ends_before.ensures.sight in
+    leads_then (stays (ap sight_in lent) (ap (λ (r : Context _). names r) lent))
     (leads_then (c.if-not-run_parameters.ensures.names refl)
-    (stays search (ap names_in c.leave_plain.ensures.scope
+    (stays sight (ap names_in c.leave_plain.ensures.scope
     ∙ ap (λ caller. names_in (scope_of caller.variables)) c.enter_plain-entered.ensures.caller)))
 
 pub run_plain_call-returns-in-Some-clause-names : goal.run_plain_call-returns-in-Some-clause-names
@@ -150,9 +156,9 @@ unfolding ChangesNames KeepsNames RestoresNames SuitsNames
 run_plain_call-returns-in-Some-clause-names g t c done =
     let lent = c.lend_variables-variables.ensures.run in
     let kept = c.keep_variables-in-Some.ensures in
-    leads_then (stays (ap (λ (r : Context _). r.global.always_search_scope) lent) (ap (λ (r : Context _). names r) lent))
+    leads_then (stays (ap sight_in lent) (ap (λ (r : Context _). names r) lent))
     (leads_then (c.if-not-run_parameters.ensures.names refl)
-    (stays (ap (λ (r : Context _). r.global.always_search_scope) kept ∙ c.ends_before.ensures.search)
+    (stays (ap sight_in kept ∙ c.ends_before.ensures.sight)
     (ap (λ (r : Context _). names r) kept)))
 
 pub run_plain_call-returns-clause-runs : goal.run_plain_call-returns-clause-runs

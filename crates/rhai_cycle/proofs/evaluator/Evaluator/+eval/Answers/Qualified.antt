@@ -1,11 +1,11 @@
-use Rattle.std.proofs.Common.{◌≡◌, false, true, refl, sym, ap, ◌∙◌, arith}
+use Rattle.std.proofs.Common.{refl, arith}
 use Rattle.rhai_machine.specs.machine.Memory.{◌⨾◌}
 use Rattle.rhai_machine.specs.language.Arguments.{operation_in}
 use Rattle.rhai_machine.specs.language.Calls.{behind_path}
 use Rattle.rhai_machine.specs.language.Runs.{Steps}
 use Rattle.rhai_machine.specs.language.Variables.{path_of}
 use Rattle.rhai_operands.proofs.Names.{good_name}
-use Rattle.rhai_steps.specs.States.{holding, state_of}
+use Rattle.rhai_steps.specs.States.{holding}
 use Rattle.rhai_dispatch.specs.Behind.{last_of, purpose_of}
 use Rattle.rhai_dispatch.specs.Going.{GoesOut}
 use Rattle.rhai_dispatch.proofs.Behind.{before_resolves, behind_begins, behind_goes, behind_spent, good_last}
@@ -31,7 +31,7 @@ run_qualified_call-run_more_args-requires g t c =
           lives.1,
           (
             omega arith,
-            rw (c.last_read.ensures.others) (same c.charge_last.ensures.search refl
+            rw (c.last_read.ensures.others) (same c.charge_last.ensures.sight refl
                 (brings (λ frame. before_resolves frame c.args.args.now c.args.run.now.this) c.requires.1.1.1.1.0)),
           ),
         ),
@@ -43,7 +43,7 @@ unfolding ChangesNames KeepsNames RestoresNames SuitsNames
 run_qualified_call-call_behind-called-requires g t c = (
   omega arith,
   rw (c.last_read.ensures.last)
-      (still (leads_then (stays c.charge_last.ensures.search refl) (c.if-not-run_more_args.ensures.names refl))
+      (still (leads_then (stays c.charge_last.ensures.sight refl) (c.if-not-run_more_args.ensures.names refl))
       (brings (λ frame. good_last frame (λ e offset name namespace pos. good_name e offset name namespace pos frame) c.args.args.now
       c.args.run.now.this) c.requires.1.1.1.1.0)),
 )
@@ -94,5 +94,5 @@ run_qualified_call-returns-clause-runs g t c token captures other k =
 pub run_qualified_call-returns-clause-names : goal.run_qualified_call-returns-clause-names
 unfolding ChangesNames KeepsNames RestoresNames SuitsNames
 run_qualified_call-returns-clause-names g t c done =
-    leads_then (leads_then (stays c.charge_last.ensures.search refl) (c.if-not-run_more_args.ensures.names refl))
+    leads_then (leads_then (stays c.charge_last.ensures.sight refl) (c.if-not-run_more_args.ensures.names refl))
     (c.run_out-done.ensures.names done)

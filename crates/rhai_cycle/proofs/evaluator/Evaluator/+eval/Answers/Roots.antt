@@ -1,4 +1,4 @@
-use Rattle.std.proofs.Common.{◌≡◌, false, None, Some, refl, sym, ap, ◌∙◌}
+use Rattle.std.proofs.Common.{false, None, Some, refl, ap}
 use Rattle.rhai_tree.specs.declared.expr.Expr.{out-Expr}
 use Rattle.rhai_machine.specs.language.Runs.{at}
 use Rattle.rhai_tree.specs.Positions.{position_of}
@@ -39,7 +39,7 @@ walk_variable-give_variable-requires g t c = rw c.walk_chain-mark.ensures.scope 
 pub walk_variable-returns-clause-names : goal.walk_variable-returns-clause-names
 unfolding ChangesNames KeepsNames RestoresNames SuitsNames
 walk_variable-returns-clause-names g t c =
-    stays c.walk_chain-mark.ensures.search (lent_back (globals_in c.args.self.now.offered) c.args.run.now.global
+    stays c.walk_chain-mark.ensures.sight (lent_back (globals_in c.args.self.now.offered) c.args.run.now.global
     (variable_named c.args.name.now c.args.namespace.now c.args.pos)
     c.args.run.now.scope c.lend_variable-lent.new.scope c.give_variable.new.scope c.in-Some.value c.walk_chain-mark.new.focus c.in-Some.index c.in-Some.ensures.lends
     (rw c.walk_chain-mark.ensures.scope at c.give_variable.ensures.back))

@@ -1,14 +1,12 @@
-use Rattle.std.proofs.Common.{◌≡◌, ◌≤◌, ◌+◌, ◌∷◌, ℕ, zero, suc, add-one, drop, map, not, None, Err, refl, sym, true, ap, ◌∙◌, arith}
-use Rattle.std.proofs.Common.{rules as common_rules}
+use Rattle.std.proofs.Common.{◌≡◌, ◌≤◌, ◌+◌, ◌∷◌, ℕ, zero, suc, add-one, drop, not, Err, refl, sym, true, ap, ◌∙◌, arith}
 use Rattle.rhai_values.specs.declared.base.value.Dynamic.{Dynamic}
 use Rattle.rhai_steps.specs.States.{holding}
-use Rattle.rhai_tree.specs.Forms.{catch_of}
+use Rattle.rhai_tree.specs.Forms.{catch_of, name_asked}
 use Rattle.rhai_tree.specs.declared.expr.Stmt.{out-Stmt}
 use Rattle.rhai_tree.specs.declared.expr.Expr.TheOpen as layer
 use Rattle.rhai_tree.specs.declared.expr.Expr.TheVariants as exprs
 use Rattle.rhai_tree.specs.declared.expr.Stmt.TheVariants as stmts
-use Rattle.rhai_tree.specs.declared.expr.Expr.TheViews.{the_lemmas}
-use Rattle.rhai_tree.specs.Frame.{resolves_stmt, var_names}
+use Rattle.rhai_tree.specs.Frame.{var_names}
 use Rattle.rhai_tree.proofs.Statements.{for_resolves, share_resolves, switch_resolves, try_resolves}
 use Rattle.rhai_state.specs.declared.state.GlobalRuntimeState.{GlobalRuntimeState}
 use Rattle.rhai_machine.specs.machine.Point.{after}
@@ -30,15 +28,17 @@ use Rattle.rhai_tree.proofs.Links.{few_in_target}
 use Rattle.rhai_cycle.proofs.Conditions.{chooses}
 use Rattle.rhai_cycle.proofs.ImportSteps.{begins_path, imports, not_imported}
 use Rattle.rhai_cycle.proofs.NameLemmas.{any_item, at_known, broken_suits, declared_resolves, first_suits, names_restored, rest_suits, returned_suits, stmt_declares}
-use Rattle.rhai_cycle.proofs.NameLemmas.{stmt_keeps, stmt_suits, var_good, var_value}
+use Rattle.rhai_cycle.proofs.NameLemmas.{stmt_keeps, stmt_suits, var_good, var_value, stmt_imports}
 use Rattle.rhai_cycle.proofs.FormNames.{block_suits, catches, chosen_suits}
-use Rattle.rhai_steps.proofs.Agreeing.{brings, leads_by, leads_then, put_back, same, stays, still}
+use Rattle.rhai_steps.proofs.Agreeing.{brings, leads_by, leads_then, put_back, same, stays, still, changed, imported}
 use Rattle.rhai_cycle.proofs.Chain.{flat_fails, drop_item, drop_all, begins_stmt, opens_stmt, refuses_stmt, restores, enters_empty}
 use Rattle.rhai_cycle.proofs.Chain.{enters_plain, enters_restoring, has_some, is_empty_list, is_not_empty, left_state, not_declared, begins_value}
 use Rattle.rhai_cycle.proofs.ThisSteps.{this_begins, this_unbound}
 use Rattle.rhai_cycle.proofs.VariableSteps.{declared}
 use Rattle.rhai_cycle.proofs.evaluator.Evaluator.+eval.Invariants.{last_of}
 use Rattle.rhai_cycle.proofs.evaluator.Evaluator.+eval.Goals as goal
+use Rattle.rhai_tree.specs.Names.{naming, with_import}
+use Rattle.rhai_cycle.proofs.SightLemmas.{imports_begin, sight_left}
 
 pub run_stmt-returns-then-not-charge_stmt-clause-runs : goal.run_stmt-returns-then-not-charge_stmt-clause-runs
 run_stmt-returns-then-not-charge_stmt-clause-runs g t c =
@@ -104,7 +104,7 @@ unfolding ChangesNames KeepsNames RestoresNames SuitsNames
 run_stmt-run_assignment-requires g t c =
     let form : out-Stmt c.args.stmt.now ≡ layer.Assignment c.in-Assignment.op c.in-Assignment.lhs c.in-Assignment.rhs =
     rw (c.in-Assignment.is, stmts.outs-Assignment) refl in
-    let suits = same c.charge_stmt.ensures.search refl c.requires.resolves in
+    let suits = same c.charge_stmt.ensures.sight refl c.requires.resolves in
     let few = few_in_target c.in-Assignment.lhs suits.known (sides_resolve c.args.stmt.now c.in-Assignment.op c.in-Assignment.lhs
     c.in-Assignment.rhs suits.known form suits.holds).0 in
     λ κs lives. (
@@ -178,7 +178,7 @@ unfolding ChangesNames KeepsNames RestoresNames SuitsNames
 run_stmt-run_switch-requires g t c =
     let form : out-Stmt c.args.stmt.now ≡ layer.Switch c.in-Switch.expr c.in-Switch.expressions c.in-Switch.cases c.in-Switch.ranges
     c.in-Switch.def_case c.in-Switch.pos = rw (c.in-Switch.is, stmts.outs-Switch) refl in
-    let suits = same c.charge_stmt.ensures.search refl c.requires.resolves in
+    let suits = same c.charge_stmt.ensures.sight refl c.requires.resolves in
     λ κs lives. (
       omega (
         arith,
@@ -214,7 +214,7 @@ unfolding ChangesNames KeepsNames RestoresNames SuitsNames
 run_stmt-run_for-requires g t c =
     let form : out-Stmt c.args.stmt.now ≡ layer.For c.in-For.name c.in-For.counter c.in-For.expr c.in-For.body c.in-For.pos =
     rw (c.in-For.is, stmts.outs-For) refl in
-    let suits = same c.charge_stmt.ensures.search refl c.requires.resolves in
+    let suits = same c.charge_stmt.ensures.sight refl c.requires.resolves in
     λ κs lives. (
       omega (
         arith,
@@ -248,7 +248,7 @@ unfolding ChangesNames KeepsNames RestoresNames SuitsNames
 run_stmt-run_try-requires g t c =
     let form : out-Stmt c.args.stmt.now ≡ layer.TryCatch c.in-TryCatch.body c.in-TryCatch.variable c.in-TryCatch.branch
     c.in-TryCatch.field-3 = rw (c.in-TryCatch.is, stmts.outs-TryCatch) refl in
-    let suits = same c.charge_stmt.ensures.search refl c.requires.resolves in
+    let suits = same c.charge_stmt.ensures.sight refl c.requires.resolves in
     let resolves = try_resolves c.args.stmt.now suits.known suits.holds c.in-TryCatch.body c.in-TryCatch.variable c.in-TryCatch.branch
     c.in-TryCatch.field-3 form in
     λ κs lives. (
@@ -276,7 +276,7 @@ pub run_stmt-share_variables-requires : goal.run_stmt-share_variables-requires
 unfolding ChangesNames KeepsNames RestoresNames SuitsNames
 run_stmt-share_variables-requires g t c =
     let form : out-Stmt c.args.stmt.now ≡ layer.Share c.in-Share.variables = rw (c.in-Share.is, stmts.outs-Share) refl in
-    rw c.as_slice-names.ensures (same c.charge_stmt.ensures.search refl
+    rw c.as_slice-names.ensures (same c.charge_stmt.ensures.sight refl
     (brings (λ frame h. share_resolves c.args.stmt.now frame h c.in-Share.variables form) c.requires.resolves))
 
 pub run_stmt-returns-in-Share-clause-runs : goal.run_stmt-returns-in-Share-clause-runs
@@ -309,7 +309,7 @@ run_stmt-run_var-requires g t c =
         lives.0,
         (
           lives.1,
-          same c.charge_stmt.ensures.search refl (brings (λ frame. declared_resolves c.args.stmt.now frame c.in-Var.ident c.in-Var.value
+          same c.charge_stmt.ensures.sight refl (brings (λ frame. declared_resolves c.args.stmt.now frame c.in-Var.ident c.in-Var.value
               c.in-Var.index c.in-Var.options c.in-Var.pos (rw (c.in-Var.is, stmts.outs-Var) refl)) c.requires.resolves),
         ),
       ),
@@ -318,7 +318,7 @@ run_stmt-run_var-requires g t c =
 pub run_stmt-returns-in-Var-clause-names : goal.run_stmt-returns-in-Var-clause-names
 unfolding ChangesNames KeepsNames RestoresNames SuitsNames
 run_stmt-returns-in-Var-clause-names g t c done = stmt_declares c.args.stmt.now (names c.args.run.now) c.in-Var.ident c.in-Var.value
-    c.in-Var.index c.in-Var.options c.in-Var.pos (rw (c.in-Var.is, stmts.outs-Var) refl) c.charge_stmt.ensures.search
+    c.in-Var.index c.in-Var.options c.in-Var.pos (rw (c.in-Var.is, stmts.outs-Var) refl) c.charge_stmt.ensures.sight
     (c.run_var.ensures.names done)
 
 pub run_stmt-returns-in-Var-clause-runs : goal.run_stmt-returns-in-Var-clause-runs
@@ -357,42 +357,43 @@ run_assignment-returns-in-Some-clause-runs g t c restoring =
 pub run_assignment-assign_evaluated-requires : goal.run_assignment-assign_evaluated-requires
 unfolding ChangesNames KeepsNames RestoresNames SuitsNames
 run_assignment-assign_evaluated-requires g t c =
-    let search = c.assign_at_once-at_once.ensures.search in
+    let sight = c.assign_at_once-at_once.ensures.sight in
     let stay = c.assign_at_once-at_once.ensures.keeps.names in
     λ κs lives. (
       omega (arith, c.assign_at_once-at_once.ensures.keeps.counts),
-      (lives.0, (lives.1, (same search stay c.requires.resolves_target, same search stay c.requires.resolves))),
+      (lives.0, (lives.1, (same sight stay c.requires.resolves_target, same sight stay c.requires.resolves))),
     )
 
 pub run_assignment-returns-in-Some-clause-names : goal.run_assignment-returns-in-Some-clause-names
 unfolding ChangesNames KeepsNames RestoresNames SuitsNames
 run_assignment-returns-in-Some-clause-names g t c done =
-    stays c.assign_at_once-at_once.ensures.search c.assign_at_once-at_once.ensures.keeps.names
+    stays c.assign_at_once-at_once.ensures.sight c.assign_at_once-at_once.ensures.keeps.names
 
 pub run_assignment-returns-clause-names : goal.run_assignment-returns-clause-names
 unfolding ChangesNames KeepsNames RestoresNames SuitsNames
 run_assignment-returns-clause-names g t c done =
-    leads_then (stays c.assign_at_once-at_once.ensures.search c.assign_at_once-at_once.ensures.keeps.names)
+    leads_then (stays c.assign_at_once-at_once.ensures.sight c.assign_at_once-at_once.ensures.keeps.names)
     (c.assign_evaluated.ensures.names done)
 
 pub assign_evaluated-returns-else-not-flatten_at-clause-names : goal.assign_evaluated-returns-else-not-flatten_at-clause-names
 unfolding ChangesNames KeepsNames RestoresNames SuitsNames
 assign_evaluated-returns-else-not-flatten_at-clause-names g t c done =
-    leads_then (c.if-not-run_expr.ensures.names refl) (stays c.assign_left.ensures.search c.assign_left.ensures.names)
+    leads_then (c.if-not-run_expr.ensures.names refl) (stays c.assign_left.ensures.sight c.assign_left.ensures.names)
 
 pub assign_evaluated-returns-else-not-flatten_at-2-clause-names : goal.assign_evaluated-returns-else-not-flatten_at-2-clause-names
 unfolding ChangesNames KeepsNames RestoresNames SuitsNames
 assign_evaluated-returns-else-not-flatten_at-2-clause-names g t c done =
-    leads_then (c.if-not-run_expr-2.ensures.names refl) (stays c.assign_left_to_this.ensures.search refl)
+    leads_then (c.if-not-run_expr-2.ensures.names refl) (stays c.assign_left_to_this.ensures.sight refl)
 
 pub run_import-returns-clause-names : goal.run_import-returns-clause-names
 unfolding ChangesNames KeepsNames RestoresNames SuitsNames
 run_import-returns-clause-names g t c done =
-    leads_then (c.if-not-run_expr.ensures.names refl) (stays c.import_module.ensures.search refl)
+    leads_by (with_import (name_asked c.args.alias.now)) (c.if-not-run_expr.ensures.names refl)
+    (imported (name_asked c.args.alias.now) (c.import_module.ensures.sight done) refl)
 
 pub run_stmt_block-returns-then-is_empty-clause-restores : goal.run_stmt_block-returns-then-is_empty-clause-restores
 unfolding RestoresNames
-run_stmt_block-returns-then-is_empty-clause-restores g t c restoring = record { search = refl; frame = refl }
+run_stmt_block-returns-then-is_empty-clause-restores g t c restoring = record { sight = refl; names = refl }
 
 pub run_if-run_stmt_block-requires : goal.run_if-run_stmt_block-requires
 unfolding ChangesNames KeepsNames RestoresNames SuitsNames
@@ -537,8 +538,8 @@ run_var-returns-then-not-flatten_at-clause-runs g t c k =
 
 pub run_var-returns-clause-names : goal.run_var-returns-clause-names
 unfolding ChangesNames KeepsNames RestoresNames SuitsNames
-run_var-returns-clause-names g t c done = leads_by (var_names c.args.index c.args.ident.now.name) (c.if-not-run_expr.ensures.names refl)
-    (stays c.declare.ensures.search (c.declare.ensures.names done))
+run_var-returns-clause-names g t c done = leads_by (naming (var_names c.args.index c.args.ident.now.name)) (c.if-not-run_expr.ensures.names refl)
+    (changed (var_names c.args.index c.args.ident.now.name) c.declare.ensures.sight (c.declare.ensures.names done))
 
 pub run_var-returns-clause-runs : goal.run_var-returns-clause-runs
 unfolding Steps
@@ -609,7 +610,7 @@ run_stmt_block-returns-in_default-clause-runs g t c =
 pub run_stmt_block-returns-in_default-clause-restores : goal.run_stmt_block-returns-in_default-clause-restores
 unfolding ChangesNames KeepsNames RestoresNames SuitsNames
 run_stmt_block-returns-in_default-clause-restores g t c restoring =
-    record { search = c.open_list.ensures.search; frame = c.open_list.ensures.names }
+    record { sight = c.open_list.ensures.sight; names = c.open_list.ensures.names }
 
 pub run_stmt_block-returns-clause-runs : goal.run_stmt_block-returns-clause-runs
 unfolding after Steps
@@ -629,8 +630,10 @@ unfolding ChangesNames KeepsNames RestoresNames SuitsNames
 run_stmt_block-returns-clause-restores g t c restoring =
     let rules = under g.H.Host.name_of c.args.self.now g.T.NativeTable.natives in
     record {
-      search = ap (λ (global : GlobalRuntimeState _). global.always_search_scope) c.leave_list.ensures.global ∙ c.in-Some.ensures.searches;
-      frame = names_restored c.args.run.now.scope.entries c.run_statements-done.new.run.scope.entries _ _ c.leave_list.ensures.scope
+      sight = sight_left c.args.run.now.global c.run_statements-done.new.run.global c.leave_list.new.global c.in-Some.saved
+          (ap (λ s. s.imports_length) c.in-Some.ensures.saved) c.in-Some.ensures.searches
+          (imports_begin rules _ _ _ _ tt (rw c.in-Some.ensures.deeper at c.run_statements-done.ensures.runs)) c.leave_list.ensures.global;
+      names = names_restored c.args.run.now.scope.entries c.run_statements-done.new.run.scope.entries _ _ c.leave_list.ensures.scope
           (ap (λ s. s.scope_length) c.in-Some.ensures.saved)
           (names_begin rules _ _ _ _ tt (rw c.in-Some.ensures.scope at c.run_statements-done.ensures.runs));
     }
@@ -656,7 +659,7 @@ run_stmt_block-run_statements-done-requires g t c =
     let some = has_some c.args.statements.now (is_not_empty _ (sym c.is_empty.ensures ∙ c.if-is_empty.false)) in
     λ κs lives. (
       omega (arith, ap (λ (global : GlobalRuntimeState _). global.num_operations) c.in-Some.ensures.deeper),
-      (lives.0, (lives.1, (some, same c.open_list.ensures.search c.open_list.ensures.names c.requires.resolves))),
+      (lives.0, (lives.1, (some, same c.open_list.ensures.sight c.open_list.ensures.names c.requires.resolves))),
     )
 
 pub run_statements-each_stmt-init : goal.run_statements-each_stmt-init
@@ -702,7 +705,7 @@ pub run_stmt-run_expr-requires : goal.run_stmt-run_expr-requires
 unfolding ChangesNames KeepsNames RestoresNames SuitsNames
 run_stmt-run_expr-requires g t c =
     let suits = stmt_suits c.args.stmt.now (layer.Expr c.in-Expr.expr) (rw (c.in-Expr.is, stmts.outs-Expr) refl)
-    c.charge_stmt.ensures.search c.requires.resolves in
+    c.charge_stmt.ensures.sight c.requires.resolves in
     λ κs lives. (
       omega (
         arith,
@@ -717,7 +720,7 @@ unfolding ChangesNames KeepsNames RestoresNames SuitsNames
 run_stmt-run_fn_call_expr-requires g t c =
     let suits = stmt_suits c.args.stmt.now (layer.Stmt::FnCall c.in-FnCall.call c.in-FnCall.pos)
     (rw (c.in-FnCall.is, stmts.outs-FnCall) refl)
-    c.charge_stmt.ensures.search c.requires.resolves in
+    c.charge_stmt.ensures.sight c.requires.resolves in
     λ κs lives. (
       omega (
         arith,
@@ -731,7 +734,7 @@ pub run_stmt-run_stmt_block-requires : goal.run_stmt-run_stmt_block-requires
 unfolding ChangesNames KeepsNames RestoresNames SuitsNames
 run_stmt-run_stmt_block-requires g t c =
     let suits = stmt_suits c.args.stmt.now (layer.Block c.in-Block.block) (rw (c.in-Block.is, stmts.outs-Block) refl)
-    c.charge_stmt.ensures.search c.requires.resolves in
+    c.charge_stmt.ensures.sight c.requires.resolves in
     λ κs lives. (
       omega (
         arith,
@@ -746,7 +749,7 @@ unfolding ChangesNames KeepsNames RestoresNames SuitsNames
 run_stmt-run_if-requires g t c =
     let suits = stmt_suits c.args.stmt.now (layer.If c.in-If.test c.in-If.body c.in-If.branch c.in-If.field-3)
     (rw (c.in-If.is, stmts.outs-If) refl)
-    c.charge_stmt.ensures.search c.requires.resolves in
+    c.charge_stmt.ensures.sight c.requires.resolves in
     let test = brings (λ frame h. (both _ _ h).0) suits in
     let body = brings (λ frame h. (both _ _ (both _ _ h).1).0) suits in
     let branch = brings (λ frame h. (both _ _ (both _ _ h).1).1) suits in
@@ -764,7 +767,7 @@ unfolding ChangesNames KeepsNames RestoresNames SuitsNames
 run_stmt-run_while-requires g t c =
     let suits = stmt_suits c.args.stmt.now (layer.While c.in-While.test c.in-While.body c.in-While.field-2)
     (rw (c.in-While.is, stmts.outs-While) refl)
-    c.charge_stmt.ensures.search c.requires.resolves in
+    c.charge_stmt.ensures.sight c.requires.resolves in
     λ κs lives. (
       omega (
         arith,
@@ -779,7 +782,7 @@ unfolding ChangesNames KeepsNames RestoresNames SuitsNames
 run_stmt-run_do-requires g t c =
     let suits = stmt_suits c.args.stmt.now (layer.Do c.in-Do.test c.in-Do.body c.in-Do.options c.in-Do.field-3)
     (rw (c.in-Do.is, stmts.outs-Do) refl)
-    c.charge_stmt.ensures.search c.requires.resolves in
+    c.charge_stmt.ensures.sight c.requires.resolves in
     λ κs lives. (
       omega (
         arith,
@@ -794,7 +797,7 @@ unfolding ChangesNames KeepsNames RestoresNames SuitsNames
 run_stmt-run_break-requires g t c =
     let suits = stmt_suits c.args.stmt.now (layer.BreakLoop c.in-BreakLoop.value c.in-BreakLoop.options c.in-BreakLoop.pos)
     (rw (c.in-BreakLoop.is, stmts.outs-BreakLoop) refl)
-    c.charge_stmt.ensures.search c.requires.resolves in
+    c.charge_stmt.ensures.sight c.requires.resolves in
     λ κs lives. (
       omega (
         arith,
@@ -809,7 +812,7 @@ unfolding ChangesNames KeepsNames RestoresNames SuitsNames
 run_stmt-run_return-requires g t c =
     let suits = stmt_suits c.args.stmt.now (layer.Return c.in-Return.value c.in-Return.options c.in-Return.pos)
     (rw (c.in-Return.is, stmts.outs-Return) refl)
-    c.charge_stmt.ensures.search c.requires.resolves in
+    c.charge_stmt.ensures.sight c.requires.resolves in
     λ κs lives. (
       omega (
         arith,
@@ -824,7 +827,7 @@ unfolding ChangesNames KeepsNames RestoresNames SuitsNames
 run_stmt-run_import-requires g t c =
     let suits = stmt_suits c.args.stmt.now (layer.Import c.in-Import.path c.in-Import.alias c.in-Import.pos)
     (rw (c.in-Import.is, stmts.outs-Import) refl)
-    c.charge_stmt.ensures.search c.requires.resolves in
+    c.charge_stmt.ensures.sight c.requires.resolves in
     λ κs lives. (
       omega (
         arith,
@@ -838,88 +841,88 @@ pub run_stmt-returns-in-Noop-clause-names : goal.run_stmt-returns-in-Noop-clause
 unfolding ChangesNames KeepsNames RestoresNames SuitsNames
 run_stmt-returns-in-Noop-clause-names g t c done =
     stmt_keeps c.args.stmt.now (layer.Noop c.in-Noop.field-0) (names c.args.run.now)
-    (rw (c.in-Noop.is, stmts.outs-Noop) refl) refl c.charge_stmt.ensures.search (stays refl refl)
+    (rw (c.in-Noop.is, stmts.outs-Noop) refl) (λ frame. refl) c.charge_stmt.ensures.sight (stays refl refl)
 
 pub run_stmt-returns-else-not-run_expr-clause-names : goal.run_stmt-returns-else-not-run_expr-clause-names
 unfolding ChangesNames KeepsNames RestoresNames SuitsNames
 run_stmt-returns-else-not-run_expr-clause-names g t c done =
     stmt_keeps c.args.stmt.now (layer.Expr c.in-Expr.expr) (names c.args.run.now)
-    (rw (c.in-Expr.is, stmts.outs-Expr) refl) refl c.charge_stmt.ensures.search (c.if-not-run_expr.ensures.names refl)
+    (rw (c.in-Expr.is, stmts.outs-Expr) refl) (λ frame. refl) c.charge_stmt.ensures.sight (c.if-not-run_expr.ensures.names refl)
 
 pub run_stmt-returns-in-FnCall-clause-names : goal.run_stmt-returns-in-FnCall-clause-names
 unfolding ChangesNames KeepsNames RestoresNames SuitsNames
 run_stmt-returns-in-FnCall-clause-names g t c done =
     stmt_keeps c.args.stmt.now (layer.Stmt::FnCall c.in-FnCall.call c.in-FnCall.pos) (names c.args.run.now)
-    (rw (c.in-FnCall.is, stmts.outs-FnCall) refl) refl c.charge_stmt.ensures.search (c.run_fn_call_expr.ensures.names done)
+    (rw (c.in-FnCall.is, stmts.outs-FnCall) refl) (λ frame. refl) c.charge_stmt.ensures.sight (c.run_fn_call_expr.ensures.names done)
 
 pub run_stmt-returns-in-Block-clause-names : goal.run_stmt-returns-in-Block-clause-names
 unfolding ChangesNames KeepsNames RestoresNames SuitsNames
 run_stmt-returns-in-Block-clause-names g t c done =
     stmt_keeps c.args.stmt.now (layer.Block c.in-Block.block) (names c.args.run.now)
-    (rw (c.in-Block.is, stmts.outs-Block) refl) refl c.charge_stmt.ensures.search (put_back (c.run_stmt_block.ensures.restores refl))
+    (rw (c.in-Block.is, stmts.outs-Block) refl) (λ frame. refl) c.charge_stmt.ensures.sight (put_back (c.run_stmt_block.ensures.restores refl))
 
 pub run_stmt-returns-in-Assignment-clause-names : goal.run_stmt-returns-in-Assignment-clause-names
 unfolding ChangesNames KeepsNames RestoresNames SuitsNames
 run_stmt-returns-in-Assignment-clause-names g t c done =
     stmt_keeps c.args.stmt.now (layer.Assignment c.in-Assignment.op c.in-Assignment.lhs c.in-Assignment.rhs) (names c.args.run.now)
-    (rw (c.in-Assignment.is, stmts.outs-Assignment) refl) refl c.charge_stmt.ensures.search (c.run_assignment.ensures.names done)
+    (rw (c.in-Assignment.is, stmts.outs-Assignment) refl) (λ frame. refl) c.charge_stmt.ensures.sight (c.run_assignment.ensures.names done)
 
 pub run_stmt-returns-in-If-clause-names : goal.run_stmt-returns-in-If-clause-names
 unfolding ChangesNames KeepsNames RestoresNames SuitsNames
 run_stmt-returns-in-If-clause-names g t c done =
     stmt_keeps c.args.stmt.now (layer.If c.in-If.test c.in-If.body c.in-If.branch c.in-If.field-3) (names c.args.run.now)
-    (rw (c.in-If.is, stmts.outs-If) refl) refl c.charge_stmt.ensures.search (c.run_if.ensures.names done)
+    (rw (c.in-If.is, stmts.outs-If) refl) (λ frame. refl) c.charge_stmt.ensures.sight (c.run_if.ensures.names done)
 
 pub run_stmt-returns-in-While-clause-names : goal.run_stmt-returns-in-While-clause-names
 unfolding ChangesNames KeepsNames RestoresNames SuitsNames
 run_stmt-returns-in-While-clause-names g t c done =
     stmt_keeps c.args.stmt.now (layer.While c.in-While.test c.in-While.body c.in-While.field-2) (names c.args.run.now)
-    (rw (c.in-While.is, stmts.outs-While) refl) refl c.charge_stmt.ensures.search (c.run_while.ensures.names done)
+    (rw (c.in-While.is, stmts.outs-While) refl) (λ frame. refl) c.charge_stmt.ensures.sight (c.run_while.ensures.names done)
 
 pub run_stmt-returns-in-Do-clause-names : goal.run_stmt-returns-in-Do-clause-names
 unfolding ChangesNames KeepsNames RestoresNames SuitsNames
 run_stmt-returns-in-Do-clause-names g t c done =
     stmt_keeps c.args.stmt.now (layer.Do c.in-Do.test c.in-Do.body c.in-Do.options c.in-Do.field-3) (names c.args.run.now)
-    (rw (c.in-Do.is, stmts.outs-Do) refl) refl c.charge_stmt.ensures.search (c.run_do.ensures.names done)
+    (rw (c.in-Do.is, stmts.outs-Do) refl) (λ frame. refl) c.charge_stmt.ensures.sight (c.run_do.ensures.names done)
 
 pub run_stmt-returns-in-Switch-clause-names : goal.run_stmt-returns-in-Switch-clause-names
 unfolding ChangesNames KeepsNames RestoresNames SuitsNames
 run_stmt-returns-in-Switch-clause-names g t c done =
     stmt_keeps c.args.stmt.now (layer.Switch c.in-Switch.expr c.in-Switch.expressions c.in-Switch.cases c.in-Switch.ranges
     c.in-Switch.def_case c.in-Switch.pos) (names c.args.run.now)
-    (rw (c.in-Switch.is, stmts.outs-Switch) refl) refl c.charge_stmt.ensures.search (c.run_switch.ensures.names done)
+    (rw (c.in-Switch.is, stmts.outs-Switch) refl) (λ frame. refl) c.charge_stmt.ensures.sight (c.run_switch.ensures.names done)
 
 pub run_stmt-returns-in-For-clause-names : goal.run_stmt-returns-in-For-clause-names
 unfolding ChangesNames KeepsNames RestoresNames SuitsNames
 run_stmt-returns-in-For-clause-names g t c done =
     stmt_keeps c.args.stmt.now (layer.For c.in-For.name c.in-For.counter c.in-For.expr c.in-For.body c.in-For.pos) (names c.args.run.now)
-    (rw (c.in-For.is, stmts.outs-For) refl) refl c.charge_stmt.ensures.search (c.run_for.ensures.names done)
+    (rw (c.in-For.is, stmts.outs-For) refl) (λ frame. refl) c.charge_stmt.ensures.sight (c.run_for.ensures.names done)
 
 pub run_stmt-returns-in-TryCatch-clause-names : goal.run_stmt-returns-in-TryCatch-clause-names
 unfolding ChangesNames KeepsNames RestoresNames SuitsNames
 run_stmt-returns-in-TryCatch-clause-names g t c done =
     stmt_keeps c.args.stmt.now (layer.TryCatch c.in-TryCatch.body c.in-TryCatch.variable c.in-TryCatch.branch c.in-TryCatch.field-3)
     (names c.args.run.now)
-    (rw (c.in-TryCatch.is, stmts.outs-TryCatch) refl) refl c.charge_stmt.ensures.search (c.run_try.ensures.names done)
+    (rw (c.in-TryCatch.is, stmts.outs-TryCatch) refl) (λ frame. refl) c.charge_stmt.ensures.sight (c.run_try.ensures.names done)
 
 pub run_stmt-returns-in-Share-clause-names : goal.run_stmt-returns-in-Share-clause-names
 unfolding ChangesNames KeepsNames RestoresNames SuitsNames
 run_stmt-returns-in-Share-clause-names g t c done =
     stmt_keeps c.args.stmt.now (layer.Share c.in-Share.variables) (names c.args.run.now)
-    (rw (c.in-Share.is, stmts.outs-Share) refl) refl c.charge_stmt.ensures.search
-    (stays c.share_variables.ensures.search c.share_variables.ensures.names)
+    (rw (c.in-Share.is, stmts.outs-Share) refl) (λ frame. refl) c.charge_stmt.ensures.sight
+    (stays c.share_variables.ensures.sight c.share_variables.ensures.names)
 
 pub run_stmt-returns-in-Export-clause-names : goal.run_stmt-returns-in-Export-clause-names
 unfolding ChangesNames KeepsNames RestoresNames SuitsNames
 run_stmt-returns-in-Export-clause-names g t c done =
     stmt_keeps c.args.stmt.now (layer.Export c.in-Export.ident c.in-Export.alias c.in-Export.field-2) (names c.args.run.now)
-    (rw (c.in-Export.is, stmts.outs-Export) refl) refl c.charge_stmt.ensures.search (stays refl c.export_variable.ensures.names)
+    (rw (c.in-Export.is, stmts.outs-Export) refl) (λ frame. refl) c.charge_stmt.ensures.sight (stays refl c.export_variable.ensures.names)
 
 pub run_stmt-returns-in-Import-clause-names : goal.run_stmt-returns-in-Import-clause-names
 unfolding ChangesNames KeepsNames RestoresNames SuitsNames
 run_stmt-returns-in-Import-clause-names g t c done =
-    stmt_keeps c.args.stmt.now (layer.Import c.in-Import.path c.in-Import.alias c.in-Import.pos) (names c.args.run.now)
-    (rw (c.in-Import.is, stmts.outs-Import) refl) refl c.charge_stmt.ensures.search (c.run_import.ensures.names done)
+    stmt_imports c.args.stmt.now (names c.args.run.now) c.in-Import.path c.in-Import.alias c.in-Import.pos
+    (rw (c.in-Import.is, stmts.outs-Import) refl) c.charge_stmt.ensures.sight (c.run_import.ensures.names done)
 
 pub run_statements-run_stmt-requires : goal.run_statements-run_stmt-requires
 unfolding ChangesNames KeepsNames RestoresNames SuitsNames

@@ -11,7 +11,7 @@ use Rattle.rhai_laws.proofs.KeptLaws.{counted, names_stay}
 use Rattle.rhai_steps.specs.States.{holding}
 use Rattle.rhai_context.specs.Ends.{came}
 use Rattle.rhai_steps.proofs.Agreeing.{leads_then, put_back, stays, still}
-use Rattle.rhai_cycle.specs.Agreement.{ChangesNames, KeepsNames, RestoresNames, SuitsNames}
+use Rattle.rhai_cycle.specs.Agreement.{ChangesNames, KeepsNames, RestoresNames, SuitsNames, sight_in}
 use Rattle.rhai_cycle.specs.States.{under}
 use Rattle.rhai_cycle.proofs.NameLemmas.{names_restored}
 use Rattle.rhai_cycle.proofs.FormNames.{block_suits, branch_begins, branch_suits, catches, nothing_bound}
@@ -71,7 +71,7 @@ run_branch-returns-then-not-bind_caught-clause-runs g t c k =
 pub run_branch-run_stmt_block-done-requires : goal.run_branch-run_stmt_block-done-requires
 unfolding ChangesNames KeepsNames RestoresNames SuitsNames
 run_branch-run_stmt_block-done-requires g t c =
-    let suits = branch_suits c.args.branch.now c.args.run.now.global.source c.args.caught c.args.run.now.global.always_search_scope
+    let suits = branch_suits c.args.branch.now c.args.run.now.global.source c.args.caught (sight_in c.args.run.now)
     c.args.variable.now (entries_of c.args.run.now.scope) _ c.requires.resolves (c.if-not-bind_caught.ensures.bound refl) in
     λ κs lives. (omega arith, (lives.0, (lives.1, rw c.as_slice-statements.ensures (block_suits c.args.branch.now suits))))
 
@@ -105,10 +105,10 @@ unfolding ChangesNames KeepsNames RestoresNames SuitsNames
 run_branch-returns-clause-names g t c done =
     let old = c.args.run.now in
     let back = c.run_stmt_block-done.ensures.restores refl in
-    stays back.search (names_restored old.scope.entries c.run_stmt_block-done.new.run.scope.entries c.leave_branch.new.scope.entries
+    stays back.sight (names_restored old.scope.entries c.run_stmt_block-done.new.run.scope.entries c.leave_branch.new.scope.entries
     c.len-base.result c.leave_branch.ensures.scope c.len-base.ensures
     (branch_begins (catch_variable (out-Expr c.args.variable.now)) old.global.source c.args.caught (entries_of old.scope) _ _
-    (c.if-not-bind_caught.ensures.bound refl) back.frame))
+    (c.if-not-bind_caught.ensures.bound refl) back.names))
 
 pub run_try-run_stmt_block-requires : goal.run_try-run_stmt_block-requires
 unfolding ChangesNames KeepsNames RestoresNames SuitsNames

@@ -14,7 +14,7 @@ use Rattle.rhai_walks.specs.Left.{turns_in}
 use Rattle.rhai_walks.specs.Loops.{loop_in}
 use Rattle.rhai_walks.specs.declared.parts.ForParts.{ForParts}
 use Rattle.rhai_context.specs.Ends.{came}
-use Rattle.rhai_steps.proofs.Agreeing.{behind, leads_by, leads_then, put_back, same, stays}
+use Rattle.rhai_steps.proofs.Agreeing.{behind, leads_by, leads_then, put_back, same, changed}
 use Rattle.rhai_cycle.specs.Agreement.{ChangesNames, KeepsNames, RestoresNames, SuitsNames}
 use Rattle.rhai_cycle.specs.States.{offer_of, under}
 use Rattle.rhai_cycle.proofs.Turns.{body_charges}
@@ -25,6 +25,7 @@ use Rattle.rhai_cycle.proofs.ForSteps.{body_ends, empty_charged, empty_refused, 
 use Rattle.rhai_cycle.proofs.ForSteps.{if_well, on_turn, starts_not, turns_end}
 use Rattle.rhai_cycle.proofs.evaluator.Evaluator.+eval.Goals as goal
 use Rattle.rhai_cycle.proofs.Chain.{flat_fails}
+use Rattle.rhai_tree.specs.Names.{naming}
 
 pub run_for-returns-then-not-has_room-clause-runs : goal.run_for-returns-then-not-has_room-clause-runs
 unfolding after Steps
@@ -87,7 +88,8 @@ run_for-turns-init g t c =
         ap length pushed,
         turn_count parts.variable.now parts.counter.now (map name_of (entries_of old.scope)),
       );
-      names = leads_by (turn_names parts.variable.now parts.counter.now) (c.if-not-run_expr.ensures.names refl) (stays refl pushed);
+      names = leads_by (naming (turn_names parts.variable.now parts.counter.now)) (c.if-not-run_expr.ensures.names refl)
+          (changed (turn_names parts.variable.now parts.counter.now) refl pushed);
       steps = λ pos restoring k.
           has_room rules loop k pos restoring _ (c.if-not-has_room.ensures.room refl)
           ⨾ c.if-not-run_expr.ensures.runs (ForItems loop ∷ k)
@@ -108,7 +110,7 @@ run_for-run_for_turn-requires g t c =
         (
           lives.1,
           (
-            behind (turn_names parts.variable.now parts.counter.now) (λ frame h. h) c.turns.invariant.names c.requires.resolves_body,
+            behind (naming (turn_names parts.variable.now parts.counter.now)) (λ frame h. h) c.turns.invariant.names c.requires.resolves_body,
             c.turns.invariant.base,
           ),
         ),
@@ -131,7 +133,7 @@ unfolding after Steps ChangesNames KeepsNames RestoresNames SuitsNames
 run_for-turns-preserved g t c =
     record {
       counts = omega (arith, c.turns.invariant.counts, c.run_for_turn.ensures.charges c.in_default-run_for_turn.is, c.next_number-turn.ensures);
-      base = c.turns.invariant.base ∙ ap length (sym (c.run_for_turn.ensures.names_stay c.in_default-run_for_turn.is).frame);
+      base = c.turns.invariant.base ∙ ap length (sym (c.run_for_turn.ensures.names_stay c.in_default-run_for_turn.is).names);
       names = leads_then c.turns.invariant.names (put_back (c.run_for_turn.ensures.names_stay c.in_default-run_for_turn.is));
       steps = λ pos restoring k.
           c.turns.invariant.steps pos restoring k
@@ -206,7 +208,7 @@ run_for_turn-run_stmt_block-done-requires g t c =
         (
           lives.1,
           rw c.as_slice-statements.ensures
-              (same c.enter_turn.ensures.search c.enter_turn.ensures.names (block_suits c.args.parts.body.now c.requires.resolves)),
+              (same c.enter_turn.ensures.sight c.enter_turn.ensures.names (block_suits c.args.parts.body.now c.requires.resolves)),
         ),
       ),
     )
@@ -247,20 +249,20 @@ run_for_turn-returns-clause-counts g t c =
 pub run_for_turn-returns-clause-names_stay : goal.run_for_turn-returns-clause-names_stay
 unfolding ChangesNames KeepsNames RestoresNames SuitsNames
 run_for_turn-returns-clause-names_stay g t c none =
-    back_over c.enter_turn.ensures.search c.enter_turn.ensures.names (c.run_stmt_block-done.ensures.restores refl)
+    back_over c.enter_turn.ensures.sight c.enter_turn.ensures.names (c.run_stmt_block-done.ensures.restores refl)
 
 pub run_for_turn-returns-clause-names : goal.run_for_turn-returns-clause-names
 unfolding ChangesNames KeepsNames RestoresNames SuitsNames
 run_for_turn-returns-clause-names g t c =
-    if_well _ (back_over c.enter_turn.ensures.search c.enter_turn.ensures.names (c.run_stmt_block-done.ensures.restores refl))
+    if_well _ (back_over c.enter_turn.ensures.sight c.enter_turn.ensures.names (c.run_stmt_block-done.ensures.restores refl))
 
 pub run_for_turn-returns-in_default-clause-names : goal.run_for_turn-returns-in_default-clause-names
 unfolding ChangesNames KeepsNames RestoresNames SuitsNames
-run_for_turn-returns-in_default-clause-names g t c done = record { search = refl; frame = refl }
+run_for_turn-returns-in_default-clause-names g t c done = record { sight = refl; names = refl }
 
 pub run_for_turn-returns-then-charge-clause-names_stay : goal.run_for_turn-returns-then-charge-clause-names_stay
 unfolding ChangesNames KeepsNames RestoresNames SuitsNames
-run_for_turn-returns-then-charge-clause-names_stay g t c none = record { search = c.charge.ensures.search; frame = refl }
+run_for_turn-returns-then-charge-clause-names_stay g t c none = record { sight = c.charge.ensures.sight; names = refl }
 
 pub run_for-run_expr-requires : goal.run_for-run_expr-requires
 unfolding SuitsNames
