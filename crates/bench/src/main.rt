@@ -22,7 +22,7 @@ use std::rt::Env;
 use std::{env, io};
 
 fn main(rt: HostRuntime) -> io::Result<ExitCode> {
-    match asked(&rt)? {
+    match work_asked(&rt)? {
         Some((work, number)) => {
             work.run(&rt, number)?;
             Ok(ExitCode::SUCCESS)
@@ -36,8 +36,8 @@ fn main(rt: HostRuntime) -> io::Result<ExitCode> {
     }
 }
 
-/// The work of the arguments and how long it is; None where they say none.
-fn asked<R: Env + AllocGlobal>(rt: &R) -> io::Result<Option<(Work, u32)>> {
+/// Reads the work of the arguments and how long it is. None where they say none.
+fn work_asked<R: Env + AllocGlobal>(rt: &R) -> io::Result<Option<(Work, u32)>> {
     let Some(word) = env::args(rt)?.nth(1) else {
         return Ok(None);
     };
@@ -46,6 +46,6 @@ fn asked<R: Env + AllocGlobal>(rt: &R) -> io::Result<Option<(Work, u32)>> {
     };
     match env::args(rt)?.nth(2) {
         Some(number) => Ok(number.parse::<u32>().ok().map(|number| (work, number))),
-        None => Ok(Some((work, work.usual()))),
+        None => Ok(Some((work, work.usual_length()))),
     }
 }

@@ -27,7 +27,7 @@ pub enum Work {
 }
 
 impl Work {
-    /// The work of a word.
+    /// Finds the work of a word.
     pub fn named(word: &str) -> Option<Work> {
         match word {
             "loop" => Some(Work::Loop),
@@ -44,8 +44,8 @@ impl Work {
         }
     }
 
-    /// How long the work is where no argument says it.
-    pub fn usual(self) -> u32 {
+    /// Tells how long the work is where no argument says it.
+    pub fn usual_length(self) -> u32 {
         match self {
             Work::Loop | Work::Native | Work::Natives | Work::Item => 1_000_000,
             Work::Range | Work::Walk | Work::Switch | Work::Throw => 1_000_000,

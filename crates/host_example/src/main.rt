@@ -21,7 +21,7 @@ fn main(rt: HostRuntime) -> io::Result<()> {
     }
 }
 
-/// `let total = price + price; total += price; total - price`
+/// Builds `let total = price + price; total += price; total - price`.
 fn script(alloc: Global) -> Result<Items<Stmt>, AllocError> {
     let mut tree = Builder::new(alloc);
     let prices = [tree.variable("price", 0, 13), tree.variable("price", 0, 21)];

@@ -23,7 +23,7 @@ impl Lists for Named {
         rhai_lists::scripts_of(list)
     }
 
-    /// All but those that are there for the checker alone.
+    /// Returns all lists but those that are there for the checker alone.
     fn refused() -> &'static [&'static str] {
         &[
             "calls", "fewer", "order", "kept", "block", "walks", "choices", "caught", "cells",

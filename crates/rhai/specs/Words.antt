@@ -21,16 +21,19 @@ abbrev pub Does : (State Native H : Type 0) → Type 0
 Does State Native H = State → Native → List (Union H) → Option (Done State H)
 
 module _ {H : Type 0} where
-  -- the data that they answer
+  -- a datum that a native answers: `()`
   abbrev pub unit : Datum H
   unit = datum.Unit
 
+  -- an integer
   abbrev pub integer : ℤ → Datum H
   integer number = datum.Int number
 
+  -- a text, by its bytes
   abbrev pub text : List ℕ → Datum H
   text bytes = datum.Text bytes
 
+  -- a value of the host's own type
   abbrev pub host : H → Datum H
   host own = datum.Host own
 

@@ -1,7 +1,7 @@
-//! A script evaluator, by the names that a host uses: what trees are built of, their checker, values,
-//! scopes and errors, the engine and its runs, and tables of natives. It only shows what the crates below
-//! it hold, but for a host's first needs: a type of values and a table for a host that has none of its own,
-//! and the functions of a tree as a library.
+//! A script evaluator, by the names that a host uses: what trees are built of, their checker, values, scopes
+//! and errors, the engine and its runs, and tables of natives. It only shows what the crates below it have,
+//! but for a host's first needs: a type of values and a table for a host that has none of its own, and the
+//! functions of a tree as a library.
 #![tactic(auto)]
 
 mod library;

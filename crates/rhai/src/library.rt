@@ -9,8 +9,8 @@ use rhai_eval::check::{CheckedFn, CheckedTree};
 use rhai_eval::state::{Module, ModuleFn};
 use std::alloc::{AllocError, Global};
 
-/// A library with the functions of a tree, in their order, without an environment, to be pushed onto `lib`
-/// of a run's state.
+/// Builds a library with the functions of a tree, in their order and without an environment. It is to be
+/// pushed onto `lib` of a run's state.
 ///
 /// # Errors
 /// `AllocError` where there is no memory.
@@ -33,7 +33,8 @@ pub fn library_of<H: Drop>(alloc: Global, tree: &CheckedTree) -> Result<Module<H
     })
 }
 
-/// The function of a tree that has a name and so many parameters; of several the last. It takes no memory.
+/// Finds the function of a tree that has a name and so many parameters; of several the last. It takes no
+/// memory.
 pub fn function_of<'t>(
     tree: &'t CheckedTree,
     name: &str,

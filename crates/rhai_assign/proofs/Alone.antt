@@ -1,5 +1,6 @@
 -- A restoring list of one assignment, which is done where it is entered.
-use Rattle.std.proofs.Common.{◌≡◌, ◌≤◌, ◌<◌, ◌+◌, ◌-◌, ◌∷◌, ◌∙◌, ℕ, [], true, IsTrue, List, get_or, length, map, take, Ok, refl, sym, ap, arith}
+use Rattle.std.proofs.Common.{◌≡◌, ◌≤◌, ◌<◌, ◌+◌, ◌-◌, ◌∷◌, ◌∙◌, ℕ, [], true, IsTrue, List, get_or, length, map, take, Ok, refl, sym, ap}
+use Rattle.std.proofs.Common.{arith}
 use Rattle.std.proofs.Math.Seq.{take-length}
 use Rattle.std.proofs.lemmas.Bool.{lt-ltb}
 use Rattle.std.proofs.lemmas.List.{length-map}
@@ -71,8 +72,10 @@ module _ {S H : Type 0} (rules : Rules S H) (t : S) (old new : GlobalRuntimeStat
   opens k = next (next (next (rw (lt-ltb _ _ room, is) here)))
 
   -- and what it leaves is taken back, which is the level alone
-  left : state_of t new later held ≡ record (state_of t (record new { scope_level = deeper old.scope_level }) later held)
-      { local = restored_by (saved_by (local_of old before held)) (local_of (record new { scope_level = deeper old.scope_level }) later held) }
+  left : state_of t new later held ≡ record (state_of t (record new { scope_level = deeper old.scope_level }) later held) {
+    local = restored_by (saved_by (local_of old before held)) (local_of (record new
+        { scope_level = deeper old.scope_level }) later held);
+  }
   left = rw (
     charged,
     all_taken (entries_of later) (length (entries_of before)) (as_many (entries_of before) (entries_of later) names),

@@ -8,7 +8,7 @@ use Rattle.rhai_values.specs.Cells.{value_of_cell}
 use Rattle.rhai_machine.specs.language.Values.{Cells}
 use Rattle.rhai_machine.specs.language.Places.{InCell, focus_in_cell, is_constant, target}
 use Rattle.rhai_machine.specs.language.Places.{unless_constant}
-use Rattle.rhai_assign.specs.Chains.{InOwnCell}
+use Rattle.rhai_assign.specs.FocusTargets.{InOwnCell}
 
 or_false : (a b : Bool) → (a || b) ≡ false → b ≡ false
 or_false true b is = cc

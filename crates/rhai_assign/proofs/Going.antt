@@ -31,10 +31,10 @@ use Rattle.rhai_machine.specs.language.Frames.{Assignment, AskUpdate, Core, Fram
 use Rattle.rhai_machine.specs.language.Runs.{Runs, Steps}
 use Rattle.rhai_steps.specs.States.{state_of}
 use Rattle.rhai_assign.specs.declared.place.Place as code
-use Rattle.rhai_assign.specs.Chains.{AssignsAtOnce, FollowsFocus, FollowsThis}
-use Rattle.rhai_assign.specs.Follows.{Follows, FollowsAssign, Does, Wants}
+use Rattle.rhai_assign.specs.FocusTargets.{AssignsAtOnce, FollowsFocus, FollowsThis}
+use Rattle.rhai_assign.specs.Follows.{Follows, FollowsAssign, Does, FindsNoMemory}
 use Rattle.rhai_assign.specs.Lending.{placed}
-use Rattle.rhai_assign.specs.Targets.{IsPut, entries_put, place_in, there_at}
+use Rattle.rhai_assign.specs.Targets.{IsPut, entries_put, place_in, value_standing_at}
 use Rattle.rhai_assign.proofs.Lent.{as_it_was}
 use Rattle.rhai_assign.proofs.Places.{local_put}
 use Rattle.rhai_assign.proofs.Updates.{follows_alike, same_core}
@@ -57,7 +57,7 @@ module _ {S H : Type 0} (rules : Rules S H) where
   -- what was lent from a place of the code has gone back there
   pub goes_back : (start : List (Frame H) → Local H → Core H) (place : code.Place) (v w : Dynamic H) (t called : S)
       (old lent : GlobalRuntimeState H) (taken store : CellStore H) (before mid later : Scope H) (held : Held H)
-      (r : Result (Dynamic H) (EvalAltResult H)) → there_at place before old.cells ≡ Some v →
+      (r : Result (Dynamic H) (EvalAltResult H)) → value_standing_at place before old.cells ≡ Some v →
       entries_of mid ≡ entries_put (place_in place) unit_value (entries_of before) →
       cells_of taken ≡ while_lent (place_in place) (cells_of old.cells) → IsPut place w mid later lent.cells store →
       Follows rules start (placed (place_in place) v (state_of t (record old { cells = taken }) mid held)) r
@@ -93,7 +93,7 @@ module _ {S H : Type 0} (rules : Rules S H) where
     -- or it may not be assigned to
     pub focus_fails : (e : EvalAltResult H) → (is_out_of_memory e ≡ false → wanted ≡ Err e) →
         FollowsFocus rules root op v old (Err e) old
-    focus_fails (error.ErrorOutOfMemory pos) is = Wants pos refl refl
+    focus_fails (error.ErrorOutOfMemory pos) is = FindsNoMemory pos refl refl
     focus_fails e is = Does (λ k. same_core rules _ _ old (starts (Err e) (is refl) k))
 
   module _ (op : OpAssignment) (pos : Position) (v : Dynamic H) (old : State S H) where
@@ -118,7 +118,7 @@ module _ {S H : Type 0} (rules : Rules S H) where
     -- or it may not be assigned to
     pub this_fails : (e : EvalAltResult H) → (is_out_of_memory e ≡ false → wanted_this ≡ Err e) →
         FollowsThis rules op pos v old (Err e) old
-    this_fails (error.ErrorOutOfMemory at) is = Wants at refl refl
+    this_fails (error.ErrorOutOfMemory at) is = FindsNoMemory at refl refl
     this_fails e is = Does (λ k. same_core rules _ _ old (starts_this (Err e) (is refl) k))
 
   module _ (root : Expr) (op : OpAssignment) (v t : Dynamic H) (s : State S H) (is_unit : t ≡ unit_value) where

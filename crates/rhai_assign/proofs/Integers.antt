@@ -97,7 +97,7 @@ module _ {H : Type 0} where
   knows_by token v o w (Some m) None left right is = cc
   knows_by token v o w (Some m) (Some n) left right is = knows_two token v o w m n left right is
 
-  -- the target of a variable whose entry holds an integer
+  -- the target of a variable whose entry has an integer
   entry_found : (cells : Cells H) (path : List Name) (name : Name) (pos : Position) (entries : List (ScopeEntry H)) (i : ℕ) (v : Dynamic H)
       (m : ℤ) → entry_named path name entries ≡ Some i → option_map value_of (slice_get entries i) ≡ Some v → is_constant v.mode ≡ false →
       v.value ≡ value.Int m → named_target cells path name pos entries ≡ Some (target (InEntry i) v)

@@ -27,7 +27,7 @@ use Rattle.rhai_machine.specs.language.Frames.{Frame, Back, core}
 use Rattle.rhai_steps.specs.States.{local_of, surroundings_of}
 use Rattle.rhai_assign.specs.declared.place.Place as code
 use Rattle.rhai_assign.specs.declared.place.Place.TheVariants as place
-use Rattle.rhai_assign.specs.Targets.{IsPut, entries_put, own_cell, place_in, stands, there_at}
+use Rattle.rhai_assign.specs.Targets.{IsPut, entries_put, own_cell, place_in, stands, value_standing_at}
 use Rattle.rhai_assign.specs.Keeps.{Charges, KeepsHeld}
 use Rattle.rhai_assign.specs.Lending.{cells_seen, IsFree, IsLentFrom, IsOwnCell}
 use Rattle.rhai_assign.specs.Updates.{is_barred_for}
@@ -148,7 +148,7 @@ module _ {H : Type 0} where
 
   -- with its value back at its place the state is as it was
   pub as_it_was : (place : code.Place) (v : Dynamic H) (g : GlobalRuntimeState H) (store : CellStore H) (before mid : Scope H)
-      (held : Held H) → there_at place before g.cells ≡ Some v →
+      (held : Held H) → value_standing_at place before g.cells ≡ Some v →
       entries_of mid ≡ entries_put (place_in place) unit_value (entries_of before) →
       cells_of store ≡ while_lent (place_in place) (cells_of g.cells) →
       put (place_in place) v (local_of (record g { cells = store }) mid held) ≡ local_of g before held

@@ -16,15 +16,15 @@ use Rattle.rhai_state.specs.Errors.{is_out_of_memory}
 use Rattle.rhai_state.specs.Native.{MayLeave, Natives, Request, Reply, Faults, Named, Obeys, effect, request}
 use Rattle.rhai_machine.specs.machine.Machine.{Charge, Go, Native}
 use Rattle.rhai_machine.specs.machine.Point.{Point, after}
-use Rattle.rhai_machine.specs.machine.Memory.{here, next, starved, starved_at, ◌⨾◌}
+use Rattle.rhai_machine.specs.machine.Memory.{here, next, out_in_native, out_of_memory_in_native, ◌⨾◌}
 use Rattle.rhai_machine.specs.language.Setting.{Setting, Rules, limit_under}
 use Rattle.rhai_machine.specs.language.State.{Held, State, Local}
 use Rattle.rhai_machine.specs.language.Values.{Cells, is_handle}
 use Rattle.rhai_machine.specs.language.Places.{put, while_lent}
 use Rattle.rhai_machine.specs.language.Frames.{Attempt, InPlace, AsValue, Update, Frame, Core, core, AskUpdate, QuestionUpdate}
 use Rattle.rhai_machine.specs.language.Frames.{FireUpdate, Fail}
-use Rattle.rhai_machine.specs.language.Assignment.{answered_core, barred_core, call_update, fire_update, left_in, lent_core, native_of}
-use Rattle.rhai_machine.specs.language.Language.{machine, move, want}
+use Rattle.rhai_machine.specs.language.Assignment.{answered_core, barred_core, call_update, fire_update, target_left, lent_core, native_of}
+use Rattle.rhai_machine.specs.language.Language.{machine, move, without_memory}
 use Rattle.rhai_machine.specs.language.Runs.{at, with_core, Goes, Steps}
 use Rattle.rhai_steps.specs.States.{local_of, state_of}
 use Rattle.rhai_steps.proofs.Pieces.{faulted, step_by}
@@ -44,11 +44,11 @@ module _ {H : Type 0} (s : Setting H) where
   plain_move (value.Cell id) u k l h = cc
   plain_move _ u k l h = refl
 
-  -- a native that wants memory leaves the target written back
-  wants_answered : (attempt : Attempt) (pos : Position) (u : Update H) (k : List (Frame H)) (l : Local H) →
-      want pos (answered_core s attempt (Faults (error.ErrorOutOfMemory pos)) u k l) ≡ core (Fail (error.ErrorOutOfMemory pos)) k l
-  wants_answered InPlace pos u k l = refl
-  wants_answered AsValue pos u k l = refl
+  -- a native that runs out of memory leaves the target written back
+  runs_out_answered : (attempt : Attempt) (pos : Position) (u : Update H) (k : List (Frame H)) (l : Local H) →
+      without_memory pos (answered_core s attempt (Faults (error.ErrorOutOfMemory pos)) u k l) ≡ core (Fail (error.ErrorOutOfMemory pos)) k l
+  runs_out_answered InPlace pos u k l = refl
+  runs_out_answered AsValue pos u k l = refl
 
 -- what is asked of a table under two names that are the same
 pub asked_alike : {S H : Type 0} (host : H → List ℕ) (natives : Natives S H) (t : S) (shown name : List ℕ) (target : Dynamic H)
@@ -95,9 +95,9 @@ module _ {S H : Type 0} (rules : Rules S H) where
   asks_update t old mid scope held u room counted free allowed k = questions_update t old mid scope held u false room counted free allowed k
 
   -- a target that is a bare handle is refused
-  fires_held : (u : Update H) (k : List (Frame H)) (now : State S H) → is_handle u.target.value ≡ true →
+  refuses_handle : (u : Update H) (k : List (Frame H)) (now : State S H) → is_handle u.target.value ≡ true →
       Goes rules (at (FireUpdate u) k now) (at (Fail (error.ErrorDataRace (native_of u.attempt u.operator) u.at)) k now)
-  fires_held u k now handle = step_by rules _ _ _ (handle_move rules.setting u.target.value u k now.local handle) here
+  refuses_handle u k now handle = step_by rules _ _ _ (handle_move rules.setting u.target.value u k now.local handle) here
 
   -- the call of the native
   abbrev call_of : Update H → State S H → Request H
@@ -113,25 +113,25 @@ module _ {S H : Type 0} (rules : Rules S H) where
   fires_update u k now r v t plain obeys p is =
       step_by rules _ _ _ (plain_move rules.setting u.target.value u k now.local plain) (rw (obeys, is) here)
 
-  -- or it wants memory, and its target is written back too
-  starves : (p q : Point S (Core H)) (call : Request H) (f : Reply H → Option (Dynamic H) → Core H) (pos : Position) →
+  -- or it runs out of memory, and its target is written back too
+  stops_of_memory : (p q : Point S (Core H)) (call : Request H) (f : Reply H → Option (Dynamic H) → Core H) (pos : Position) →
       move rules.setting p.core ≡ Native call f →
       (e : EvalAltResult H) (first : Option (Dynamic H)) (state : S) →
       MayLeave rules.setting.host_type rules.natives p.table call first state →
-      Goes rules (starved_at (machine rules) pos f e first state p) q → Goes rules p q
-  starves p q call f pos is e first state may go = starved {call = call} {f = f} {at = pos} is e first state may go
+      Goes rules (out_of_memory_in_native (machine rules) pos f e first state p) q → Goes rules p q
+  stops_of_memory p q call f pos is e first state may go = out_in_native {call = call} {f = f} {at = pos} is e first state may go
 
-  fires_starved : (u : Update H) (k : List (Frame H)) (now new : State S H) (v : Dynamic H) (pos : Position) →
+  fires_without_memory : (u : Update H) (k : List (Frame H)) (now new : State S H) (v : Dynamic H) (pos : Position) →
       is_handle u.target.value ≡ false →
       new ≡ record now { table = new.table; local = put u.place v now.local } →
       MayLeave rules.setting.host_type rules.natives now.table (call_of u now) (Some v) new.table →
       Goes rules (at (FireUpdate u) k now) (at (Fail (error.ErrorOutOfMemory pos)) k new)
-  fires_starved u k now new v pos plain is may =
-      starves (at (FireUpdate u) k now) (at (Fail (error.ErrorOutOfMemory pos)) k new) (call_of u now)
-      (λ reply left. lent_core rules.setting reply (left_in u left) u k now.local) pos
+  fires_without_memory u k now new v pos plain is may =
+      stops_of_memory (at (FireUpdate u) k now) (at (Fail (error.ErrorOutOfMemory pos)) k new) (call_of u now)
+      (λ reply left. lent_core rules.setting reply (target_left u left) u k now.local) pos
       (plain_move rules.setting u.target.value u k now.local plain)
       (error.ErrorOutOfMemory pos) (Some v) new.table may
-      (rw (wants_answered rules.setting u.attempt pos (record u { target = v }) k (put u.place v now.local), is) here)
+      (rw (runs_out_answered rules.setting u.attempt pos (record u { target = v }) k (put u.place v now.local), is) here)
 
   -- an update that is not charged, and one whose target is a bare handle
   pub refuses_update : (t : S) (old new : GlobalRuntimeState H) (scope : Scope H) (held : Held H) (u : Update H)
@@ -152,7 +152,7 @@ module _ {S H : Type 0} (rules : Rules S H) where
     unfolding Steps
     holds_update name e allowed handle named race k =
         asks_update t old mid scope held u room counted free allowed k
-        ⨾ fires_held u k (lent u t mid scope held) handle
+        ⨾ refuses_handle u k (lent u t mid scope held) handle
         ⨾ faulted rules e (error.ErrorDataRace (native_of u.attempt u.operator) u.at) (rw named at race) k (lent u t mid scope held)
 
     -- one whose native is barred from its target
@@ -202,9 +202,9 @@ module _ {S H : Type 0} (rules : Rules S H) where
       unfolding Steps
       asked answer name rest obeys may named only = record {
         answered = answers_update answer name rest obeys named only;
-        starved = λ pos k.
+        out_in_native = λ pos k.
             asks_update t old mid scope held u room counted free allowed k
-            ⨾ fires_starved u k (lent u t mid scope held) left w pos plain left_is
+            ⨾ fires_without_memory u k (lent u t mid scope held) left w pos plain left_is
             (subst (λ (cells : Cells H). MayLeave rules.setting.host_type rules.natives t
             (request cells (Named (native_of u.attempt u.operator)) (Some u.target) (u.operand ∷ []) u.at) (Some w) called)
             (sym (lent_cells u.place cell u.target (local_of mid scope held) from own)) (rw (named, only) at may));

@@ -17,23 +17,23 @@ use Rattle.rhai_state.specs.Native.{Reply, Missing}
 use Rattle.rhai_operators.specs.Answers as operators
 use Rattle.rhai_operators.specs.Answers.{Answer, op_assign_of}
 use Rattle.rhai_machine.specs.machine.Point.{Point, after}
-use Rattle.rhai_machine.specs.machine.Memory.{here, next, wanting, ◌⨾◌}
+use Rattle.rhai_machine.specs.machine.Memory.{here, next, out_before_step, ◌⨾◌}
 use Rattle.rhai_machine.specs.language.Setting.{Rules, globals_of, limit_under}
 use Rattle.rhai_machine.specs.language.State.{Held, State, Local, HasMemory, Answers}
 use Rattle.rhai_machine.specs.language.Values.{unit_value}
 use Rattle.rhai_machine.specs.language.Places.{Place, Target, target_of, put}
-use Rattle.rhai_machine.specs.language.Calls.{applied, operation_at, placed_if_none, replied, sized}
+use Rattle.rhai_machine.specs.language.Calls.{applied, operation_at, with_position, replied, sized}
 use Rattle.rhai_machine.specs.language.Frames.{Control, Assignment, AsValue, InPlace, Update, Frame, Core, core, ended}
 use Rattle.rhai_machine.specs.language.Frames.{Assign, Store, AskUpdate, Fail}
 use Rattle.rhai_machine.specs.language.Assignment.{assign_core, changed_core, fault_core, if_fast, native_of, store_core}
 use Rattle.rhai_machine.specs.language.Assignment.{update_core, value_core, variable_of_assignment, written_core}
 use Rattle.rhai_machine.specs.language.Runs.{at, with_core, Goes, Runs, Steps}
 use Rattle.rhai_steps.specs.States.{state_of, surroundings_of}
-use Rattle.rhai_steps.proofs.Pieces.{charged, or_wants, refused, told}
+use Rattle.rhai_steps.proofs.Pieces.{charged, or_runs_out, refused, told}
 use Rattle.rhai_assign.specs.declared.place.Update as code
-use Rattle.rhai_assign.specs.Follows.{Asked, Follows, FollowsAssign, FollowsUpdate, Does, Wants}
+use Rattle.rhai_assign.specs.Follows.{Asked, Follows, FollowsAssign, FollowsUpdate, Does, FindsNoMemory}
 use Rattle.rhai_assign.specs.Lending.{placed}
-use Rattle.rhai_assign.specs.Updates.{Becomes, changed_of, finished, unless, update_of}
+use Rattle.rhai_assign.specs.Updates.{Becomes, changed_of, finished, error_unless, update_of}
 use Rattle.rhai_assign.proofs.Lent.{put_twice}
 use Rattle.rhai_assign.proofs.Writes.{changes, no_function, other, valued, wrote_memory}
 
@@ -80,21 +80,21 @@ module _ {S H : Type 0} (rules : Rules S H) where
 
     -- it told a fault
     pub failed_by : (missing : Bool) (e error placed : EvalAltResult H) →
-        Goes rules p (with_core (fault_core rules.setting missing (placed_if_none u.at e) u k now.local) now) →
-        unless missing e ≡ Some error → placed ≡ placed_if_none u.at error → Goes rules p (at (ended (Err placed)) k now)
+        Goes rules p (with_core (fault_core rules.setting missing (with_position u.at e) u k now.local) now) →
+        error_unless missing e ≡ Some error → placed ≡ with_position u.at error → Goes rules p (at (ended (Err placed)) k now)
     failed_by missing e error placed go is at = go ⨾ same_core _ _ now (other rules.setting missing e error placed u k now.local is at)
 
     -- it is missing, and the native `op` is asked
     pub goes_on_by : (missing : Bool) (e placed : EvalAltResult H) (q : Point S (Core H)) →
         Goes rules p (with_core (fault_core rules.setting missing placed u k now.local) now) →
-        unless missing e ≡ None → Goes rules (at (AskUpdate (record u { attempt = AsValue })) k now) q → Goes rules p q
+        error_unless missing e ≡ None → Goes rules (at (AskUpdate (record u { attempt = AsValue })) k now) q → Goes rules p q
     goes_on_by missing e placed q go is further =
         go ⨾ same_core _ _ now (no_function rules.setting missing e placed u k now.local is) ⨾ further
 
   -- where memory runs out a control ends so
-  pub wants : (c : Control H) (old : State S H) (pos : Position) → Steps rules c old (Fail (error.ErrorOutOfMemory pos)) old
+  pub ends_of_memory : (c : Control H) (old : State S H) (pos : Position) → Steps rules c old (Fail (error.ErrorOutOfMemory pos)) old
   unfolding Steps
-  wants c old pos k = wanting {at = pos} here
+  ends_of_memory c old pos k = out_before_step {at = pos} here
 
   -- the native `op` gave a value, which is written and measured, or there is an error
   pub valued_by : (update : code.Update) (place : Place) (start s : State S H) (v w later operand : Dynamic H)
@@ -119,7 +119,7 @@ module _ {S H : Type 0} (rules : Rules S H) where
       ⨾ told rules result (finished (sized rules.setting.limits x update.target_at)) measured k (placed place x s))
   valued_by update place start s v w later operand answer (Err (error.ErrorOutOfMemory pos)) result asked replies memory wrote measured
       fault left = λ k.
-      rw (fault, left) (asked.starved pos k)
+      rw (fault, left) (asked.out_in_native pos k)
   valued_by update place start s v w later operand None (Err e) result asked replies memory wrote measured fault left =
       absurd (false≢true (memory refl))
   valued_by update place start s v w later operand (Some reply) (Err e) result asked replies memory wrote measured fault left = λ k.
@@ -134,14 +134,14 @@ module _ {S H : Type 0} (rules : Rules S H) where
       Runs rules (AskUpdate (update_of update InPlace place v operand)) start result new
   unfolding Steps
   missing_by update place v w operand start now new result asked (Does go) = λ k. asked.answered k ⨾ go k
-  missing_by update place v w operand start now new result asked (Wants pos is same) = λ k. rw (is, same) (asked.starved pos k)
+  missing_by update place v w operand start now new result asked (FindsNoMemory pos is same) = λ k. rw (is, same) (asked.out_in_native pos k)
 
   -- a part that begins as another one goes on as that one does
   pub follows_alike : (start other : List (Frame H) → Local H → Core H) (old new : State S H)
       (result : Result (Dynamic H) (EvalAltResult H)) → ((k : List (Frame H)) → start k old.local ≡ other k old.local) →
       Follows rules other old result new → Follows rules start old result new
   follows_alike start other old new result alike (Does go) = Does (λ k. same_core _ _ old (alike k) ⨾ go k)
-  follows_alike start other old new result alike (Wants pos is same) = Wants pos is same
+  follows_alike start other old new result alike (FindsNoMemory pos is same) = FindsNoMemory pos is same
 
   -- an assignment without an operator writes its value
   pub writes : (assignment : Assignment) (target : Target H) (v : Dynamic H) (old new : State S H) → assignment.op.op ≡ None →
@@ -172,13 +172,13 @@ module _ {S H : Type 0} (rules : Rules S H) where
         let e : wanted ≡ Some outcome = sym (value (rw is had)) ∙ is in
         lands _ _ t t _ _ (ap (λ (a : Answer H). update_core rules.setting a u k before) e ∙ written memory k) refl (sym counts))
 
-    -- a built-in has the answer, or wanted memory, and then nothing is written
+    -- a built-in has the answer, or ran out of memory, and then nothing is written
     pub built : (result : Result (Dynamic H) (EvalAltResult H)) →
         Becomes (written_core (applied rules.setting.limits outcome u.at) u.place) before result after →
         IfErr result (λ _. after ≡ before) →
         Follows rules (update_core rules.setting wanted u) (now n before) result (now m after)
     built (Ok x) written left = built_told (Ok x) tt written
-    built (Err (error.ErrorOutOfMemory pos)) written left = Wants pos refl (rw (left, counts) refl)
+    built (Err (error.ErrorOutOfMemory pos)) written left = FindsNoMemory pos refl (rw (left, counts) refl)
     built (Err e) written left = built_told (Err e) refl written
 
   -- there is no built-in, and the native is asked
@@ -216,7 +216,7 @@ module _ {S H : Type 0} (rules : Rules S H) where
       unfolding Steps
       misses e is k =
           charged rules t old mid scope held (Assign assignment v) (Store assignment v) assignment.at (λ j. refl) room counted k
-          ⨾ or_wants rules (Store assignment v) k (state_of t mid scope held) e
+          ⨾ or_runs_out rules (Store assignment v) k (state_of t mid scope held) e
           (λ m. store_step assignment v k (state_of t mid scope held) (Err e) (is m))
 
       -- or whose target is found, and goes on from there
@@ -229,6 +229,6 @@ module _ {S H : Type 0} (rules : Rules S H) where
       assigns target result new is (Does go) k =
           charged rules t old mid scope held (Assign assignment v) (Store assignment v) assignment.at (λ j. refl) room counted k
           ⨾ store_step assignment v k (state_of t mid scope held) (Ok target) is ⨾ go k
-      assigns target result new is (Wants pos same left) k = rw (same, left)
+      assigns target result new is (FindsNoMemory pos same left) k = rw (same, left)
           (charged rules t old mid scope held (Assign assignment v) (Store assignment v) assignment.at (λ j. refl) room counted k
-          ⨾ wanting {at = pos} here)
+          ⨾ out_before_step {at = pos} here)

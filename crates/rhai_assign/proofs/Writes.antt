@@ -10,12 +10,12 @@ use Rattle.rhai_operators.specs.Answers as operators
 use Rattle.rhai_machine.specs.language.Setting.{Setting}
 use Rattle.rhai_machine.specs.language.State.{Local, HasMemory}
 use Rattle.rhai_machine.specs.language.Places.{Place, put}
-use Rattle.rhai_machine.specs.language.Calls.{applied, placed_if_none, sized}
+use Rattle.rhai_machine.specs.language.Calls.{applied, with_position, sized}
 use Rattle.rhai_machine.specs.language.Frames.{AsValue, Update, Frame, Control, Core, core, ended, AskUpdate, Back, Fail}
 use Rattle.rhai_machine.specs.language.Assignment.{changed_core, done, fault_core, value_core, written_core}
-use Rattle.rhai_assign.specs.Updates.{changed_of, finished, unless}
+use Rattle.rhai_assign.specs.Updates.{changed_of, finished, error_unless}
 
--- a position changes nothing of a want of memory
+-- a position changes nothing of an error that memory ran out
 placed_memory : {H : Type 0} (pos : Position) (e : EvalAltResult H) → is_out_of_memory (at_position pos e) ≡ is_out_of_memory e
 placed_memory pos (error.ErrorOutOfMemory at) = refl
 placed_memory pos _ = refl
@@ -47,13 +47,13 @@ module _ {H : Type 0} (s : Setting H) where
 
   -- its fault says that there is no such function, or anything else
   pub other : (missing : Bool) (e error placed : EvalAltResult H) (u : Update H) (k : List (Frame H)) (l : Local H) →
-      unless missing e ≡ Some error →
-      placed ≡ placed_if_none u.at error → fault_core s missing (placed_if_none u.at e) u k l ≡ core (ended (Err placed)) k l
+      error_unless missing e ≡ Some error →
+      placed ≡ with_position u.at error → fault_core s missing (with_position u.at e) u k l ≡ core (ended (Err placed)) k l
   other true e error placed u k l is at = cc
   other false e error placed u k l is at = let same : e ≡ error = cc in rw (at, same) refl
 
   pub no_function : (missing : Bool) (e placed : EvalAltResult H) (u : Update H) (k : List (Frame H)) (l : Local H) →
-      unless missing e ≡ None →
+      error_unless missing e ≡ None →
       fault_core s missing placed u k l ≡ core (AskUpdate (record u { attempt = AsValue })) k l
   no_function true e placed u k l is = refl
   no_function false e placed u k l is = cc

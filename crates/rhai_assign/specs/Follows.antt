@@ -15,12 +15,11 @@ use Rattle.rhai_machine.specs.language.Assignment.{answered_core, assign_core, i
 use Rattle.rhai_machine.specs.language.Runs.{at, with_core, Goes, Steps}
 
 module _ {S H : Type 0} (rules : Rules S H) where
-  -- The machine goes from a core, over any stack, to how the part ended; or the part wanted memory before it did anything, where
-  -- the machine has done so already.
+  -- the machine goes from a core, over any stack, to how the part ended; or memory ran out before the part did anything
   pub data Follows (start : List (Frame H) → Local H → Core H) (old : State S H) (result : Result (Dynamic H) (EvalAltResult H)) (new :
       State S H) : Type 0 where
     Does : ((k : List (Frame H)) → Goes rules (with_core (start k old.local) old) (at (ended result) k new)) → Follows start old result new
-    Wants : (pos : Position) → result ≡ Err (error.ErrorOutOfMemory pos) → new ≡ old → Follows start old result new
+    FindsNoMemory : (pos : Position) → result ≡ Err (error.ErrorOutOfMemory pos) → new ≡ old → Follows start old result new
 
   -- an update, from where its built-in operator is tried
   abbrev pub FollowsUpdate : Update H → State S H → Result (Dynamic H) (EvalAltResult H) → State S H → Type 0
@@ -35,13 +34,12 @@ module _ {S H : Type 0} (rules : Rules S H) where
   abbrev pub FollowsAssign : Assignment → Target H → Dynamic H → State S H → Result (Dynamic H) (EvalAltResult H) → State S H → Type 0
   FollowsAssign assignment target v = Follows (assign_core rules.setting assignment.op.op assignment target v)
 
-  -- from a control to a core, over any stack
+  -- the machine goes from a control to a core, over any stack
   abbrev pub Comes : Control H → State S H → (List (Frame H) → Local H → Core H) → State S H → Type 0
   Comes c old end new = (k : List (Frame H)) → Goes rules (at c k old) (with_core (end k new.local) new)
 
-  -- a native was asked for an update, and left a value in the target: the machine comes to what it answered, where it found
-  -- memory, and may as well come to want of memory
+  -- a native was asked for an update and left a value in the target: the machine comes to its answer, and may run out of memory too
   pub record Asked (u : Update H) (old : State S H) (answer : Option (Reply H)) (left : Dynamic H) (new : State S H) : Type 0 where
     pub answered : IfSome answer (λ reply. Comes (AskUpdate u) old
         (answered_core rules.setting u.attempt reply (record u { target = left })) new)
-    pub starved : (pos : Position) → Steps rules (AskUpdate u) old (Fail (error.ErrorOutOfMemory pos)) new
+    pub out_in_native : (pos : Position) → Steps rules (AskUpdate u) old (Fail (error.ErrorOutOfMemory pos)) new

@@ -39,7 +39,7 @@ module _ {H : Type 0} where
   assigned_by (Some token) (Some target) (Some y) = op_assign_of token target.value y
   assigned_by _ _ _ = None
 
-  -- what an assignment to a variable is given so, where an entry has it
+  -- what the built-in gives for an assignment to a variable that an entry has, of an operand that stands
   abbrev pub assigned : Option Token → (lhs rhs : ExprLayer) → List (ScopeEntry H) → Cells H → Answer H
   assigned op (layer.Variable offset name namespace pos) rhs entries cells =
       assigned_by op (named_target cells namespace.path name pos entries) (standing rhs entries)

@@ -16,7 +16,7 @@ module _ {H : Type 0} (old new : GlobalRuntimeState H) where
     pub counts : old.num_operations ≤ new.num_operations
     pub rest : new ≡ record old { num_operations = new.num_operations }
 
-  -- the count never falls, and what is held stays held
+  -- the count never falls, and a cell that is held stays held
   pub record KeepsHeld : Type 0 where
     pub counts : old.num_operations ≤ new.num_operations
     pub held : (number : ℕ) → IsHeld (cells_of old.cells) number → IsHeld (cells_of new.cells) number

@@ -1,4 +1,4 @@
-pub mod Chains
+pub mod FocusTargets
 pub mod Follows
 pub mod InPlace
 pub mod Keeps

@@ -17,6 +17,7 @@ use Rattle.rhai_machine.specs.language.Places.{Place, InEntry, InCell, InThis, I
 use Rattle.rhai_assign.specs.declared.place.Place as code
 use Rattle.rhai_assign.specs.declared.place.Place.TheVariants as place
 
+-- a place of the code as the machine has it
 abbrev pub place_in : code.Place → Place
 place_in (place.InEntry index) = InEntry index
 place_in (place.InCell id) = InCell id.number
@@ -27,6 +28,7 @@ own_cell (place.InEntry index) = None
 own_cell (place.InCell id) = Some id
 
 module _ {H : Type 0} where
+  -- the target, where one was found
   abbrev pub if_found : Result (Target H) (EvalAltResult H) → Option (Target H)
   if_found (Ok target) = Some target
   if_found (Err e) = None
@@ -36,7 +38,7 @@ module _ {H : Type 0} where
   target_there cells name at (Some index) (Some v) = if_found (target_at cells name at index v.value v)
   target_there cells name at _ _ = None
 
-  -- that of a variable which an entry has, and which has no path then
+  -- the target of a variable of a name that an entry has, where it has no path and may be assigned to
   abbrev pub named_target : Cells H → (path : List (List ℕ)) → List ℕ → Position → List (ScopeEntry H) → Option (Target H)
   named_target cells path name at entries =
       target_there cells name at (entry_named path name entries) (value_in entries (entry_named path name entries))
@@ -56,36 +58,40 @@ module _ {H : Type 0} where
   abbrev pub standing : Place → List (ScopeEntry H) → Cells H → Dynamic H
   standing place entries cells = unwrap_or (there place entries cells) unit_value
 
-  -- an entry or a cell that there is, held or not
+  -- the place is an entry or a cell that there is, held or not
   abbrev pub IsKnown : Place → List (ScopeEntry H) → Cells H → Type 0
   IsKnown (InEntry index) entries cells = index < length entries
   IsKnown (InCell number) entries cells = number < length cells
   IsKnown InThis entries cells = ⊥
   IsKnown InFocus entries cells = ⊥
 
-  -- the entries and the cells once a value is written to a place
+  -- the entries once a value is written to a place
   abbrev pub entries_put : Place → Dynamic H → List (ScopeEntry H) → List (ScopeEntry H)
   entries_put (InEntry index) v entries = revalued entries index (slice_get entries index) v
   entries_put (InCell number) v entries = entries
   entries_put InThis v entries = entries
   entries_put InFocus v entries = entries
 
+  -- the cells once a value is written to a place
   abbrev pub cells_put : Place → Dynamic H → Cells H → Cells H
   cells_put (InEntry index) v cells = cells
   cells_put (InCell number) v cells = with_value cells number v
   cells_put InThis v cells = cells
   cells_put InFocus v cells = cells
 
-  -- the same of a place, a scope and a store of cells in the code
-  abbrev pub there_at : code.Place → Scope H → CellStore H → Option (Dynamic H)
-  there_at place scope cells = there (place_in place) (entries_of scope) (cells_of cells)
+  -- the value at a place of the code, None where there is none
+  abbrev pub value_standing_at : code.Place → Scope H → CellStore H → Option (Dynamic H)
+  value_standing_at place scope cells = there (place_in place) (entries_of scope) (cells_of cells)
 
+  -- there is a value at a place of the code
   abbrev pub stands_at : code.Place → Scope H → CellStore H → Bool
   stands_at place scope cells = stands (place_in place) (entries_of scope) (cells_of cells)
 
+  -- the value at a place of the code that has one
   abbrev pub standing_at : code.Place → Scope H → CellStore H → Dynamic H
   standing_at place scope cells = standing (place_in place) (entries_of scope) (cells_of cells)
 
+  -- the place of the code is an entry or a cell that there is, held or not
   abbrev pub IsKnownAt : code.Place → Scope H → CellStore H → Type 0
   IsKnownAt place scope cells = IsKnown (place_in place) (entries_of scope) (cells_of cells)
 
@@ -94,13 +100,13 @@ module _ {H : Type 0} where
     pub entries : entries_of after ≡ entries_put (place_in place) v (entries_of before)
     pub cells : cells_of new ≡ cells_put (place_in place) v (cells_of old)
 
-  -- a place that was found has the target's value; else there is none, and the error is the machine's, want of memory aside
+  -- a place that was found has the target's value; else there is none, and the error is the machine's, unless memory ran out
   abbrev pub Finds : Result code.Place (EvalAltResult H) → List (ScopeEntry H) → Cells H → Result (Target H) (EvalAltResult H) → Type 0
   Finds (Ok p) entries cells wanted =
       (wanted ≡ Ok (target (place_in p) (standing (place_in p) entries cells))) × (stands (place_in p) entries cells ≡ true)
   Finds (Err e) entries cells wanted = (is_ok wanted ≡ false) × (is_out_of_memory e ≡ false → wanted ≡ Err e)
 
-  -- the same of a target that is there or not
+  -- a place that was found has the target's value; where none was found there is no target
   abbrev pub FindsNamed : Option code.Place → List (ScopeEntry H) → Cells H → Option (Target H) → Type 0
   FindsNamed (Some p) entries cells wanted =
       (wanted ≡ Some (target (place_in p) (standing (place_in p) entries cells))) × (stands (place_in p) entries cells ≡ true)

@@ -32,24 +32,25 @@ module _ {H : Type 0} where
   finished (Ok v) = Ok unit_value
   finished (Err e) = Err e
 
-  -- a native's value went through its measurement: the target is measured
+  -- how an update ends whose native changed the target: after the native's value the target is measured
   abbrev pub changed_of : Limits → Result (Dynamic H) (EvalAltResult H) → (target : Dynamic H) → Position →
       Result (Dynamic H) (EvalAltResult H)
   changed_of limits (Ok v) target at = finished (sized limits target at)
   changed_of limits (Err e) target at = Err e
 
-  abbrev pub unless : Bool → EvalAltResult H → Option (EvalAltResult H)
-  unless true e = None
-  unless false e = Some e
+  -- an error, None where the condition is true
+  abbrev pub error_unless : Bool → EvalAltResult H → Option (EvalAltResult H)
+  error_unless true e = None
+  error_unless false e = Some e
 
   -- a fault, unless it says that no function has the name
   abbrev pub other_fault : List ℕ → EvalAltResult H → Option (EvalAltResult H)
-  other_fault name e = unless (says_missing name e) e
+  other_fault name e = error_unless (says_missing name e) e
 
   -- the native of a name is barred from a target that is no handle where it is a constant
   abbrev pub is_barred_for : {S : Type 0} → (H → List ℕ) → Natives S H → S → (name : List ℕ) → Dynamic H → Bool
   is_barred_for host natives t name target = is_barred (natives.pure t (OfName name (own_type_name host target.value) 2)) target
 
-  -- a core over any stack is the end of a part, want of memory aside
+  -- a core over any stack is the end of a part, unless memory ran out in it
   abbrev pub Becomes : (List (Frame H) → Local H → Core H) → Local H → Result (Dynamic H) (EvalAltResult H) → Local H → Type 0
   Becomes start old result new = HasMemory result → (k : List (Frame H)) → start k old ≡ core (ended result) k new

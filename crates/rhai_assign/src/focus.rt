@@ -1,4 +1,4 @@
-//! Assignment to what a chain works on. Ports what upstream's chains ask of `eval_op_assignment`.
+//! Assignment to the focus of a chain. Ports what upstream's chains ask of `eval_op_assignment`.
 
 ghost use Rattle.std.specs.Prelude.{◌≡◌, [], Some, false};
 ghost use Rattle.rhai_tree.specs.declared.expr.Expr.{out-Expr};
@@ -13,7 +13,7 @@ ghost use Rattle.rhai_machine.specs.language.Setting.{rules_of};
 ghost use Rattle.rhai_machine.specs.language.Values.{unit_value as unit};
 ghost use Rattle.rhai_steps.specs.Agreement.{KeepsSight};
 ghost use Rattle.rhai_steps.specs.States.{state_of};
-ghost use Rattle.rhai_assign.specs.Chains.{AssignsAtOnce, FindsFocus, FollowsFocus, IsWritable};
+ghost use Rattle.rhai_assign.specs.FocusTargets.{AssignsAtOnce, FindsFocus, FollowsFocus, IsWritable};
 ghost use Rattle.rhai_assign.specs.Follows.{FollowsAssign};
 ghost use Rattle.rhai_assign.specs.Keeps.{KeepsHeld};
 ghost use Rattle.rhai_assign.specs.Lending.{placed};
@@ -34,7 +34,7 @@ use rhai_values::cells::{CellStore, put_back};
 use std::alloc::Global;
 use std::mem::replace;
 
-/// A constant without a name that is assigned to.
+/// Makes the error of an assignment to a constant without a name.
 #[cold]
 #[inline(never)]
 pub(crate) fn nameless_constant<H>(alloc: Global, pos: Position) -> EvalAltResult<H>
@@ -46,7 +46,7 @@ pub(crate) fn nameless_constant<H>(alloc: Global, pos: Position) -> EvalAltResul
     }
 }
 
-/// A constant that a chain assigns to, with the name of the chain's root.
+/// Makes the error of a chain that assigns to a constant, with the name of the chain's root.
 #[cold]
 #[inline(never)]
 fn constant_of<H>(alloc: Global, root: &Expr) -> EvalAltResult<H>
@@ -60,7 +60,7 @@ fn constant_of<H>(alloc: Global, root: &Expr) -> EvalAltResult<H>
     }
 }
 
-/// The target in the cell of a handle, which may make a constant of it too.
+/// Finds the target in the cell of a handle, which may make a constant of it too.
 fn target_in_cell<H: Host>(
     alloc: Global,
     cells: &CellStore<H>,
@@ -88,8 +88,8 @@ fn target_in_cell<H: Host>(
     }
 }
 
-/// Where the target of a chain's focus is: in the cell that the focus is a handle of, or None where it
-/// is the focus itself.
+/// Finds where the target of a chain's focus is. It is in the cell that the focus is a handle of, or, for
+/// None, the focus itself.
 fn focus_target<H: Host>(
     alloc: Global,
     cells: &CellStore<H>,
@@ -151,9 +151,9 @@ pub(crate) fn assign_in_cell<H: Host, T: NativeTable<H>>(
     result
 }
 
-/// Assigns a value to what a chain works on: as it is, or by an operator as `assign_variable` does. A
-/// handle stands for the value of its cell, which is held so long. The root of the chain tells which
-/// constant it is that may not be assigned to.
+/// Assigns a value to the focus of a chain: as it is, or by an operator as `assign_variable` does. A handle
+/// stands for the value of its cell, which is held so long. The root of the chain tells which constant it is
+/// that may not be assigned to.
 ///
 /// # Errors
 /// At the root's start: `ErrorAssignmentToConstant` for a constant, by its own mode or for a handle by
@@ -191,9 +191,9 @@ pub fn assign_focus<H: Host, T: NativeTable<H>>(
     }
 }
 
-/// Assigns a value to a `()` that was just inserted, as `assign_focus` does. No built-in operator takes
-/// it, so under either setting of fast operators an operator is its natives' alone, and memory runs out
-/// in the assignment only where the machine may want it too.
+/// Assigns a value to a `()` that was just inserted, as `assign_focus` does. No built-in operator takes it,
+/// so under either setting of fast operators an operator is its natives' alone, and memory runs out in the
+/// assignment only where it may run out in the machine too.
 ///
 /// # Errors
 /// What the natives of the operator answer, at the operator, and `ErrorDataTooLarge` for a value above a

@@ -23,7 +23,7 @@ use crate::place::{Place, find_named, value_at};
 use crate::write::write_outcome;
 use rhai_context::ends::{put_unit, settle, write_number};
 use rhai_operands::operands::{integer_at, integer_in_place, operand_in_place};
-use rhai_operands::operators::assign_known;
+use rhai_operands::operators::compute_known;
 use rhai_operators::builtin_op_assign;
 use rhai_state::error::EvalAltResult;
 use rhai_state::limits::Limits;
@@ -31,7 +31,7 @@ use rhai_state::scope::Scope;
 use rhai_state::state::GlobalRuntimeState;
 use rhai_state::table::NativeTable;
 use rhai_steps::charges::{charge_all, track_operation};
-use rhai_steps::variables::place_by_offset;
+use rhai_steps::variables::index_by_offset;
 use rhai_tree::expr::{Expr, Namespace, OpAssignment};
 use rhai_tree::position::Position;
 use rhai_tree::token::Token;
@@ -47,8 +47,8 @@ pub(crate) struct Ready<H> {
     pub(crate) outcome: Result<Dynamic<H>, EvalAltResult<H>>,
 }
 
-/// What a built-in gives for a variable and an operand as it stands. None where no entry has the variable
-/// or it may not be assigned to, the operand has to be evaluated, or there is no built-in for them.
+/// Computes what a built-in gives for a variable and an operand as it stands. None where no entry has the
+/// variable or it may not be assigned to, the operand has to be evaluated, or there is no built-in for them.
 fn prepare<H: Host>(
     alloc: Global,
     global: &GlobalRuntimeState<H>,
@@ -75,7 +75,7 @@ fn prepare<H: Host>(
     Some(Ready { place, outcome })
 }
 
-/// The integer that a value is, None where it is a constant or of another type.
+/// Returns the integer that a value is, None where it is a constant or of another type.
 fn writable_integer<H: Host>(value: &Dynamic<H>) -> Option<i64>
     ensures { result ≡ writable_in value.now }
 {
@@ -85,9 +85,10 @@ fn writable_integer<H: Host>(value: &Dynamic<H>) -> Option<i64>
     }
 }
 
-/// Assigns to a variable that holds an integer, by an operator whose value is an integer as it stands, and makes so
-/// many charges at once: those of the value and of the variable, and what was to be charged before. False where that
-/// is not so, or the limit has no room for all of them: then nothing is changed. The table is not called.
+/// Assigns to a variable whose value is an integer, by an operator whose operand is an integer as it stands.
+/// It makes so many charges at once: those of the operand and of the variable, and what was to be charged
+/// before. False where that is not so, or the limit has no room for all of them: then nothing is changed. The
+/// table is not called.
 #[inline(always)]
 pub(crate) fn assign_integer<H: Host, T: NativeTable<H>>(
     limits: &Limits,
@@ -129,7 +130,7 @@ pub(crate) fn assign_integer<H: Host, T: NativeTable<H>>(
     let Some(token) = op.op else {
         return false;
     };
-    let Some(index) = place_by_offset(global, scope, *offset, name, namespace) else {
+    let Some(index) = index_by_offset(global, scope, *offset, name, namespace) else {
         return false;
     };
     let target = writable_integer(scope.value_at(index));
@@ -140,7 +141,7 @@ pub(crate) fn assign_integer<H: Host, T: NativeTable<H>>(
     if operand.is_none() {
         return false;
     }
-    let Some(value) = assign_known(token, target, operand) else {
+    let Some(value) = compute_known(token, target, operand) else {
         return false;
     };
     if !charge_all(limits, global, charges) {
@@ -151,10 +152,10 @@ pub(crate) fn assign_integer<H: Host, T: NativeTable<H>>(
     true
 }
 
-/// An assignment by a built-in operator of values of any type, charged at the value and then at the
-/// variable.
+/// Assigns to a variable by a built-in operator, on values of any type. It is charged at the value and then
+/// at the variable.
 #[inline(never)]
-fn assign_prepared<H: Host, T: NativeTable<H>>(
+fn assign_values<H: Host, T: NativeTable<H>>(
     limits: &Limits,
     alloc: Global,
     global: &mut GlobalRuntimeState<H>,
@@ -204,7 +205,7 @@ fn assign_prepared<H: Host, T: NativeTable<H>>(
     Some(write_outcome(limits, alloc, global, scope, place, op.position, outcome))
 }
 
-/// The same, where how it ended goes into the run's places.
+/// Assigns to a variable as `assign_values` does. How it ended goes into the run's places.
 #[inline(never)]
 fn assign_others<H: Host, T: NativeTable<H>>(
     limits: &Limits,
@@ -232,15 +233,15 @@ fn assign_others<H: Host, T: NativeTable<H>>(
         (state_of (T.state _table.now) global.old scope.old held)
         (came done out.new place.new) (state_of (T.state _table.now) global.new scope.new held)) }
 {
-    match assign_prepared(limits, alloc, global, _table, scope, *op, lhs, rhs) {
+    match assign_values(limits, alloc, global, _table, scope, *op, lhs, rhs) {
         Some(answer) => Some(settle(place, out, answer)),
         None => None,
     }
 }
 
-/// An assignment by a built-in operator, whose value is an operand as it stands, charged at the value
-/// and then at the variable; how it ended stands in the run's places. None for any other assignment: then
-/// nothing is charged. The table is not called.
+/// Assigns to a variable by a built-in operator, whose value is an operand as it stands. It is charged at the
+/// value and then at the variable; how it ended stands in the run's places. None for any other assignment:
+/// then nothing is charged. The table is not called.
 ///
 /// # Errors
 /// `ErrorTooManyOperations` at the value or the variable where the count has reached the limit. At the

@@ -1,5 +1,5 @@
-//! The value that a part left in the run is assigned, to a variable or to `this`. How that ended stands in the
-//! run.
+//! The value that a part left in the run is assigned, to a variable or to `this`. How that ended stands in
+//! the run.
 
 ghost use Rattle.std.specs.Prelude.{◌≡◌, ◌≤◌, IsTrue, true};
 ghost use Rattle.rhai_state.specs.Scope.{names_in};
@@ -34,7 +34,7 @@ use std::num::NonZeroUsize;
 ///
 /// # Errors
 /// Those of `assign_variable`.
-pub fn assign_left<H: Host, T: NativeTable<H>>(
+pub fn assign_from_run<H: Host, T: NativeTable<H>>(
     limits: &Limits,
     alloc: Global,
     offered: &Offered<'_, H>,
@@ -72,7 +72,7 @@ pub fn assign_left<H: Host, T: NativeTable<H>>(
 /// # Errors
 /// `ErrorTooManyOperations` where the count has reached the limit, then `ErrorUnboundThis` where there is no
 /// `this` any more, both at `this`, and those of `assign_this`.
-pub fn assign_left_to_this<H: Host, T: NativeTable<H>>(
+pub fn assign_this_from_run<H: Host, T: NativeTable<H>>(
     limits: &Limits,
     alloc: Global,
     global: &mut GlobalRuntimeState<H>,

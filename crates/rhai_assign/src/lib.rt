@@ -1,4 +1,4 @@
-//! Assignment to a variable, to `this`, and to what a chain works on: of a value as it is, or by an operator,
+//! Assignment to a variable, to `this`, and to the focus of a chain: of a value as it is, or by an operator,
 //! for which the built-in is tried first, then the native `op=` on the target, then the native `op`
 //! for a new value. The target is lent to an update wherever it stands. Ports upstream's
 //! `eval_op_assignment`. The contracts cite the machine's specs/language, Places, Chains and

@@ -1,4 +1,5 @@
-//! Restoring lists as they are entered. One whose only statement is an assignment between integers is done at once.
+//! Restoring lists as they are entered. One whose only statement is an assignment between integers is done at
+//! once.
 
 ghost use Rattle.std.specs.Prelude.{◌≡◌, ◌≤◌, IfSome, IsTrue, None, Ok, map, true, false};
 ghost use Rattle.rhai_tree.specs.Frame.{all_resolve, resolves_stmt};
@@ -21,8 +22,9 @@ use rhai_steps::variables::{Saved, enter_list};
 use rhai_tree::expr::Stmt;
 use rhai_values::base::value::Host;
 
-/// Does a restoring list whose only statement is an assignment as `assign_integer` does it, under fast operators. False
-/// for any other list, and where the limit has no room for its charges: then nothing is changed.
+/// Runs a restoring list whose only statement is an assignment as `assign_integer` does it, under fast
+/// operators. False for any other list, and where the limit has no room for its charges: then nothing is
+/// changed.
 #[inline(always)]
 fn assign_alone<H: Host, T: NativeTable<H>>(
     limits: &Limits,
@@ -56,8 +58,8 @@ fn assign_alone<H: Host, T: NativeTable<H>>(
     assign_integer(limits, global, table, scope, op, lhs, rhs, 3)
 }
 
-/// Enters a restoring list, one level deeper. None where it was done at once: then its value is `()`. Asked: it is
-/// not empty. The table is not called.
+/// Enters a restoring list, one level deeper. None where it was done at once: then its value is `()`. Asked:
+/// it is not empty. The table is not called.
 pub fn open_list<H: Host, T: NativeTable<H>>(
     limits: &Limits,
     global: &mut GlobalRuntimeState<H>,

@@ -54,7 +54,7 @@ fn call_on<H: Host, T: NativeTable<H>>(
     table.call(cells, name, Some(&mut *target), rest, pos)
 }
 
-/// The name of the native that changes a target: the operator's text with `=` behind it.
+/// Builds the name of the native that changes a target: the operator's text with `=` behind it.
 pub(crate) fn assigning_name(alloc: Global, token: Token) -> Result<Shared<Text>, AllocError>
     ensures { IfOk result (λ name. name ≡ native_of InPlace token) }
 {
@@ -63,7 +63,7 @@ pub(crate) fn assigning_name(alloc: Global, token: Token) -> Result<Shared<Text>
     Shared::new(alloc, Text::from_string(text))
 }
 
-/// Whether an error says that no function has the name.
+/// Tells whether an error says that no function has the name.
 fn says_missing<H: Host>(name: &Shared<Text>, error: &EvalAltResult<H>) -> bool
     ensures { result ≡ missing_said name.now error.now }
 {
@@ -76,7 +76,7 @@ fn says_missing<H: Host>(name: &Shared<Text>, error: &EvalAltResult<H>) -> bool
     }
 }
 
-/// A native's fault, unless it says that no function has the name.
+/// Returns a native's fault, unless it says that no function has the name.
 pub(crate) fn unless_missing<H: Host>(
     name: &Shared<Text>,
     error: EvalAltResult<H>,
@@ -90,8 +90,8 @@ pub(crate) fn unless_missing<H: Host>(
     }
 }
 
-/// Whether a native is barred from a target, which is no handle where it is a constant: it is one, and
-/// the native is not pure.
+/// Tells whether a native is barred from a target: that is a constant, and the native is not pure. A target
+/// that is a constant is no handle.
 fn is_barred<H: Host, T: NativeTable<H>>(table: &T, name: &str, target: &Dynamic<H>) -> bool
     ensures { result ≡ is_barred_for H.name_of T.natives (T.state table.now) name.now target.now }
 {
@@ -139,7 +139,7 @@ pub(crate) fn ask_native<H: Host, T: NativeTable<H>>(
     Ok(call_on(cells, table, target, name.get().as_str(), rest, update.at))
 }
 
-/// What the answer of the native `op` comes to. It is read while the target is back in its own cell, to
+/// Reads what the answer of the native `op` comes to. It is read while the target is back in its own cell, to
 /// which the operand may lead.
 pub(crate) fn outcome_of<H: Host>(
     limits: &Limits,

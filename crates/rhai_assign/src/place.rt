@@ -15,7 +15,7 @@ ghost use Rattle.rhai_steps.specs.Offers.{globals_in};
 ghost use Rattle.rhai_steps.specs.States.{surroundings_of};
 ghost use Rattle.rhai_state.specs.Errors.{is_out_of_memory};
 ghost use Rattle.rhai_assign.specs.Targets.{Finds, FindsNamed, IsKnownAt, IsPut, entries_put, named_target, own_cell};
-ghost use Rattle.rhai_assign.specs.Targets.{place_in, stands_at, there, there_at};
+ghost use Rattle.rhai_assign.specs.Targets.{place_in, stands_at, there, value_standing_at};
 
 use rhai_functions::function::Offered;
 use rhai_state::error::EvalAltResult;
@@ -53,7 +53,7 @@ pub(crate) struct Update {
     pub(crate) target_at: Position,
 }
 
-/// The cell of a place, if it is one.
+/// Returns the cell of a place, if it is one.
 pub(crate) fn cell_of(place: Place) -> Option<CellId>
     ensures { result ≡ own_cell place }
 {
@@ -63,14 +63,14 @@ pub(crate) fn cell_of(place: Place) -> Option<CellId>
     }
 }
 
-/// Whether a target is a constant, by its own mode or by that of its cell's value.
+/// Tells whether a target is a constant, by its own mode or by that of its cell's value.
 pub(crate) fn is_constant(mode: AccessMode, inner: AccessMode) -> bool
     ensures { result ≡ (constant_at mode || constant_at inner) }
 {
     matches!(mode, AccessMode::ReadOnly) || matches!(inner, AccessMode::ReadOnly)
 }
 
-/// A place, unless it is a constant's.
+/// Refuses a place that is a constant's, and returns any other.
 fn unless_constant<H: Host>(
     constant: bool,
     place: Place,
@@ -86,7 +86,7 @@ fn unless_constant<H: Host>(
     Ok(place)
 }
 
-/// The place of a variable whose value is in a cell.
+/// Finds the place of a variable whose value is in a cell.
 fn find_in_cell<H: Host>(
     cells: &CellStore<H>,
     mode: AccessMode,
@@ -106,7 +106,7 @@ fn find_in_cell<H: Host>(
     }
 }
 
-/// The place of the variable at an entry, as it is assigned to.
+/// Finds the place of the variable at an entry, as it is assigned to.
 fn entry_target<H: Host>(
     cells: &CellStore<H>,
     index: usize,
@@ -125,8 +125,8 @@ fn entry_target<H: Host>(
     }
 }
 
-/// The place of a variable that an entry has and that may be assigned to, None for any other. It is found as
-/// `entry_of_variable` says, which asks the same of its offset.
+/// Finds the place of a variable that an entry has and that may be assigned to. None for any other. It is
+/// found as `entry_of_variable` says, which asks the same of its offset.
 pub(crate) fn find_named<H: Host>(
     global: &GlobalRuntimeState<H>,
     scope: &Scope<H>,
@@ -149,7 +149,7 @@ pub(crate) fn find_named<H: Host>(
     }
 }
 
-/// What an assignment to a variable is refused with that no entry has: what else it means is a constant.
+/// Tells why a variable that no entry has is not assigned to: what else it means is a constant.
 #[cold]
 #[inline(never)]
 fn no_target<H: Host>(
@@ -174,7 +174,7 @@ fn no_target<H: Host>(
     }
 }
 
-/// The place of a variable, as it is assigned to. It is found as `entry_of_variable` says, which asks
+/// Finds the place of a variable, as it is assigned to. It is found as `entry_of_variable` says, which asks
 /// the same of its offset.
 pub(crate) fn find_target<H: Host>(
     alloc: Global,
@@ -197,14 +197,14 @@ pub(crate) fn find_target<H: Host>(
     }
 }
 
-/// The value at a place. Asked: there is one.
+/// Returns the value at a place. Asked: there is one.
 pub(crate) fn value_at<'a, H: Host>(
     cells: &'a CellStore<H>,
     scope: &'a Scope<H>,
     place: Place,
 ) -> &'a Dynamic<H>
     requires { stands_at place scope.now cells.now ≡ true }
-    ensures { there_at place scope.now cells.now ≡ Some result.now }
+    ensures { value_standing_at place scope.now cells.now ≡ Some result.now }
 {
     match place {
         Place::InEntry(index) => scope.value_at(index),
@@ -235,7 +235,7 @@ pub(crate) fn take<H: Host>(
     place: Place,
 ) -> Dynamic<H>
     requires { stands_at place scope.old cells.old ≡ true }
-    ensures value { there_at place scope.old cells.old ≡ Some result }
+    ensures value { value_standing_at place scope.old cells.old ≡ Some result }
     ensures entries { entries_of scope.new ≡ entries_put (place_in place) unit (entries_of scope.old) }
     ensures cells { cells_of cells.new ≡ while_lent (place_in place) (cells_of cells.old) }
 {

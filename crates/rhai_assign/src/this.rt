@@ -6,7 +6,7 @@ ghost use Rattle.rhai_machine.specs.language.Places.{focus_in_cell, this_target 
 ghost use Rattle.rhai_machine.specs.language.Setting.{rules_of};
 ghost use Rattle.rhai_steps.specs.Agreement.{KeepsSight};
 ghost use Rattle.rhai_steps.specs.States.{state_of};
-ghost use Rattle.rhai_assign.specs.Chains.{FindsThis, FollowsThis};
+ghost use Rattle.rhai_assign.specs.FocusTargets.{FindsThis, FollowsThis};
 ghost use Rattle.rhai_assign.specs.Keeps.{KeepsHeld};
 
 use crate::focus::{assign_in_cell, nameless_constant};
@@ -24,7 +24,7 @@ use rhai_values::base::value::{CellId, Dynamic, Host, Union};
 use rhai_values::cells::CellStore;
 use std::alloc::Global;
 
-/// The target in the cell of a handle, which may make a constant of it too.
+/// Finds the target in the cell of a handle, which may make a constant of it too.
 fn target_in_cell<H: Host>(
     alloc: Global,
     cells: &CellStore<H>,
@@ -52,8 +52,8 @@ fn target_in_cell<H: Host>(
     }
 }
 
-/// Where the target of an assignment to `this` is: in the cell that it is a handle of, or None where it is
-/// `this` itself.
+/// Finds where the target of an assignment to `this` is. It is in the cell that `this` is a handle of, or,
+/// for None, `this` itself.
 fn this_target<H: Host>(
     alloc: Global,
     cells: &CellStore<H>,

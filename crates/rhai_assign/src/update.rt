@@ -17,7 +17,7 @@ ghost use Rattle.rhai_assign.specs.Updates.{update_of};
 
 use crate::native::{ask_native, assigning_name, outcome_of, unless_missing};
 use crate::place::{Place, Update, cell_of, put, take};
-use crate::write::{changed, write_lent, write_value};
+use crate::write::{measure_changed, write_lent, write_value};
 use rhai_operators::builtin_op_assign;
 use rhai_state::error::EvalAltResult;
 use rhai_state::limits::Limits;
@@ -25,7 +25,7 @@ use rhai_state::scope::Scope;
 use rhai_state::state::GlobalRuntimeState;
 use rhai_state::table::{Answer, NativeTable};
 use rhai_steps::errors::shared_text;
-use rhai_steps::replies::placed as at_call;
+use rhai_steps::replies::position_if_none as at_call;
 use rhai_steps::values::{let_go, list_of, unit_value};
 use rhai_tree::expr::OpAssignment;
 use rhai_tree::position::Position;
@@ -33,7 +33,7 @@ use rhai_values::base::value::{AccessMode, CellId, Dynamic, Host};
 use std::alloc::Global;
 use std::mem::replace;
 
-/// The native `op` of an update gives the target's new value.
+/// Updates a target by the native `op`, which gives its new value.
 fn update_by_value<H: Host, T: NativeTable<H>>(
     limits: &Limits,
     alloc: Global,
@@ -63,8 +63,8 @@ fn update_by_value<H: Host, T: NativeTable<H>>(
     write_value(limits, alloc, target, update, outcome)
 }
 
-/// An update whose native `op=` is missing: the built-in on the target as that native left it,
-/// or else the native `op`.
+/// Updates a target whose native `op=` is missing. The built-in is tried on the target as that native left
+/// it, or else the native `op`.
 fn update_again<H: Host, T: NativeTable<H>>(
     limits: &Limits,
     alloc: Global,
@@ -92,8 +92,8 @@ fn update_again<H: Host, T: NativeTable<H>>(
     }
 }
 
-/// The native `op=` of an update changes the target; where it is missing, the update goes on
-/// without it.
+/// Updates a target by the native `op=`, which changes it. Where it is missing, the update goes on without
+/// it.
 fn update_in_place<H: Host, T: NativeTable<H>>(
     limits: &Limits,
     alloc: Global,
@@ -120,7 +120,7 @@ fn update_in_place<H: Host, T: NativeTable<H>>(
     };
     match ask_native(limits, global, table, target, update, &name, rest)? {
         Answer::Missing => update_again(limits, alloc, global, table, target, update, rest),
-        Answer::Value(value) => changed(limits, alloc, update, value, target),
+        Answer::Value(value) => measure_changed(limits, alloc, update, value, target),
         Answer::Fault(error) => match unless_missing(&name, error) {
             Some(error) => Err(at_call(error, update.at)),
             None => update_by_value(limits, alloc, global, table, target, update, rest),
@@ -129,7 +129,7 @@ fn update_in_place<H: Host, T: NativeTable<H>>(
     }
 }
 
-/// An update by its natives.
+/// Updates a target by the natives of the operator.
 pub(crate) fn update_by_natives<H: Host, T: NativeTable<H>>(
     limits: &Limits,
     alloc: Global,
@@ -161,7 +161,7 @@ pub(crate) fn update_by_natives<H: Host, T: NativeTable<H>>(
     }
 }
 
-/// An update: the built-in, or else the natives.
+/// Updates a target by the built-in, or else by the natives.
 fn update_by_builtin<H: Host, T: NativeTable<H>>(
     limits: &Limits,
     alloc: Global,
@@ -190,7 +190,7 @@ fn update_by_builtin<H: Host, T: NativeTable<H>>(
     }
 }
 
-/// An update of a target that is lent. The built-in is tried first under fast operators alone.
+/// Updates a target that is lent. The built-in is tried first under fast operators alone.
 fn update<H: Host, T: NativeTable<H>>(
     limits: &Limits,
     alloc: Global,
@@ -262,7 +262,7 @@ pub(crate) fn assign_lent<H: Host, T: NativeTable<H>>(
     }
 }
 
-/// An update of the value at a place, which is taken from there and goes back whatever comes of it.
+/// Updates the value at a place, which is taken from there and goes back whatever comes of it.
 fn update_at<H: Host, T: NativeTable<H>>(
     limits: &Limits,
     alloc: Global,

@@ -43,9 +43,8 @@ fn measure<H: Host>(
     }
 }
 
-/// What an update ends with whose native changed the target: its value is measured at the
-/// operator, then the target.
-pub(crate) fn changed<H: Host>(
+/// Ends an update whose native changed the target. Its value is measured at the operator, then the target.
+pub(crate) fn measure_changed<H: Host>(
     limits: &Limits,
     alloc: Global,
     update: Update,
@@ -84,7 +83,8 @@ pub(crate) fn write_outcome<H: Host>(
     Ok(unit_value())
 }
 
-/// The same to a target that is lent, wherever the machine has it.
+/// Writes what a built-in operator gave to a target that is lent, wherever the machine has it. It is measured
+/// at the operator; an error leaves the target.
 pub(crate) fn write_lent<H: Host>(
     limits: &Limits,
     alloc: Global,
@@ -102,8 +102,8 @@ pub(crate) fn write_lent<H: Host>(
     Ok(unit_value())
 }
 
-/// Writes what the native `op` gave to a target that is lent, and measures it where that stands; an
-/// error leaves the target.
+/// Writes what the native `op` gave to a target that is lent, and measures it. It is measured where the
+/// target stands; an error leaves the target.
 pub(crate) fn write_value<H: Host>(
     limits: &Limits,
     alloc: Global,

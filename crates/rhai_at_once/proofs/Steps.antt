@@ -36,7 +36,7 @@ use Rattle.rhai_machine.specs.language.Variables.{Variable, variable_named}
 use Rattle.rhai_machine.specs.language.Names.{entry_named}
 use Rattle.rhai_machine.specs.language.Arguments.{arguments_core, function_move, function_of}
 use Rattle.rhai_machine.specs.language.Frames.{Ask, Call, Control, Frame, FromEntry, OpenExpr, Operation, ToCallOn}
-use Rattle.rhai_machine.specs.language.Frames.{ended, marked}
+use Rattle.rhai_machine.specs.language.Frames.{ended, ended_or_changed}
 use Rattle.rhai_machine.specs.language.Runs.{Goes, Runs, Steps, at, with_core}
 use Rattle.rhai_steps.specs.States.{local_of, state_of, surroundings_of}
 use Rattle.rhai_steps.proofs.Pieces.{step_by}
@@ -48,28 +48,28 @@ use Rattle.rhai_calls.specs.Called as called
 use Rattle.rhai_calls.specs.Called.{Calls}
 use Rattle.rhai_calls.specs.Dispatch.{Dispatches, IfEnded, Means, meant, plain_found}
 use Rattle.rhai_calls.specs.Lending.{back_in, lent_call, passed_call}
-use Rattle.rhai_calls.specs.Marks.{MarkedRuns, with_mark, without_mark}
+use Rattle.rhai_calls.specs.ToldChanges.{MarkedRuns, with_changed, without_changed}
 use Rattle.rhai_calls.proofs.Dispatching.{calls_ended, resolved_asks}
 use Rattle.rhai_calls.specs.Natives.{is_pure_on}
-use Rattle.rhai_calls.proofs.NativeCalls.{calls_on, charges_call, first_by_itself, plain_ends, plain_mark}
-use Rattle.rhai_pointers.specs.Forms.{is_operator_form}
-use Rattle.rhai_pointers.specs.Leading.{Leading, by_value, lent_first}
-use Rattle.rhai_pointers.proofs.FormLemmas.{function_goes}
-use Rattle.rhai_pointers.proofs.LeadingLemmas.{variable_goes}
+use Rattle.rhai_calls.proofs.NativeCalls.{calls_on, charges_call, first_by_itself, plain_ends, plain_changed}
+use Rattle.rhai_call_forms.specs.Forms.{is_operator_form}
+use Rattle.rhai_call_forms.specs.Leading.{Leading, takes_by_value, lent_first}
+use Rattle.rhai_call_forms.proofs.FormLemmas.{function_goes}
+use Rattle.rhai_call_forms.proofs.LeadingLemmas.{variable_goes}
 use Rattle.rhai_plain.proofs.PlainSteps.{Means as MeansNothing, means_nothing, plain_named}
-use Rattle.rhai_dispatch.specs.Going.{GoesOut}
-use Rattle.rhai_dispatch.specs.Variables.{is_lendable}
-use Rattle.rhai_dispatch.proofs.Going.{on_called}
-use Rattle.rhai_dispatch.proofs.Passing.{on_lent}
+use Rattle.rhai_callees.specs.Going.{GoesOut}
+use Rattle.rhai_callees.specs.Variables.{is_lendable}
+use Rattle.rhai_callees.proofs.Going.{on_called}
+use Rattle.rhai_callees.proofs.Passing.{on_lent}
 use Rattle.rhai_at_once.specs.AtOnce.{IsLone}
 use Rattle.rhai_tree.specs.Names.{Frame as NamesFrame}
 
 -- ---- the native
 
 module _ {S H : Type 0} (rules : Rules S H) where
-  -- an answer without a mark is the call's
+  -- an answer that changed nothing is the call's
   pub ended_plain : (c : Control H) (old new : State S H) (r : Result (Dynamic H × Bool) (EvalAltResult H))
-      (q : Result (Dynamic H) (EvalAltResult H)) → IfOk r (λ answer. false ≡ false → answer.1 ≡ false) → q ≡ without_mark r →
+      (q : Result (Dynamic H) (EvalAltResult H)) → IfOk r (λ answer. false ≡ false → answer.1 ≡ false) → q ≡ without_changed r →
       MarkedRuns rules c old r new → Runs rules c old q new
   unfolding Steps
   ended_plain c old new r q plain is runs k = rw (is, ← plain_ends r plain) (runs k)
@@ -88,7 +88,7 @@ pub asks_entry : {S H : Type 0} (rules : Rules S H) (operation : Operation) (i :
     (t' : S) (last : GlobalRuntimeState H) (scope later : Scope H) (held : Held H) (left : Dynamic H) →
     entries_of later ≡ revalued (entries_of scope) i (slice_get (entries_of scope) i) left →
     (r : Result (Dynamic H × Bool) (EvalAltResult H)) (q : Result (Dynamic H) (EvalAltResult H)) →
-    IfOk r (λ answer. false ≡ false → answer.1 ≡ false) → q ≡ without_mark r →
+    IfOk r (λ answer. false ≡ false → answer.1 ≡ false) → q ≡ without_changed r →
     MarkedRuns rules (Ask (passed_call operation (Some (FromEntry i)) true false (v ∷ []))) (state_of t old scope held) r
     (back_in (Some (FromEntry i)) left (state_of t' last scope held)) →
     Runs rules (Ask (lent_call operation (Some (FromEntry i)) true (v ∷ []))) (state_of t old scope held) q (state_of t' last later held)
@@ -99,10 +99,10 @@ asks_entry rules operation i v t old t' last scope later held left put_there r q
     r s) (back_there t' last scope later held i left put_there) runs)
 
 module _ {H : Type 0} where
-  -- a result without its mark
-  unmarks_itself : (q : Result (Dynamic H) (EvalAltResult H)) → q ≡ without_mark (with_mark false q)
-  unmarks_itself (Ok v) = refl
-  unmarks_itself (Err e) = refl
+  -- a result that changed nothing is itself, without that word
+  unchanged_answer_is : (q : Result (Dynamic H) (EvalAltResult H)) → q ≡ without_changed (with_changed false q)
+  unchanged_answer_is (Ok v) = refl
+  unchanged_answer_is (Err e) = refl
 
   names_by : (entries : List (ScopeEntry H)) (i : ℕ) (there : Option (ScopeEntry H)) (v : Dynamic H) → slice_get entries i ≡ there →
       map name_of (revalued entries i there v) ≡ map name_of entries
@@ -135,22 +135,24 @@ pub asks_native : {S H : Type 0} (rules : Rules S H) (operation : Operation) (i 
     Obeys (rules.natives.gives t (request (cells_of mid.cells) (Named operation.name) (Some v) [] operation.at)) answer (Some left) t' →
     MayLeave rules.setting.host_type rules.natives t (request (cells_of mid.cells) (Named operation.name) (Some v) [] operation.at)
     (Some left) t' → (q : Result (Dynamic H) (EvalAltResult H)) →
-    IfSome answer (λ r. Answers q (replied rules.setting.limits rules.setting.host_type r (Some left) [] operation false (cells_of mid.cells))) →
+    IfSome answer (λ r. Answers q (replied rules.setting.limits rules.setting.host_type r (Some left) [] operation false
+    (cells_of mid.cells))) →
     (HasMemory q → is_some answer ≡ true) →
     Runs rules (Ask (lent_call operation (Some (FromEntry i)) true (v ∷ []))) (state_of t old scope held) q (state_of t' mid later held)
 unfolding Steps
 asks_native rules operation i v lends t old mid t' scope later held left stands put_there room charged answer obeys may q told memory =
     let free = lent_freely (is_constant v.mode) (is_handle v.value) lends in
     let cells = cells_of mid.cells in
-    let on = calls_on rules cells cells operation None true false v [] t free.1 answer left t' false false q (with_mark false q) (
+    let on = calls_on rules cells cells operation None true false v [] t free.1 answer left t' false false q (with_changed false q) (
       free_of_bar (is_constant v.mode) (is_pure_on rules.natives rules.setting.host_type t (Named operation.name) v []) free.0,
       (obeys, may),
       refl,
     ) refl told memory refl in
-    asks_entry rules operation i v t old t' mid scope later held left put_there (with_mark false q) q (plain_mark false false q (λ h. refl))
-    (unmarks_itself q)
+    asks_entry rules operation i v t old t' mid scope later held left put_there (with_changed false q) q (plain_changed false false q (λ h. refl))
+    (unchanged_answer_is q)
     (λ k. charges_call rules t old mid scope held (passed_call operation (Some (FromEntry i)) true false (v ∷ [])) room charged k
-    ⨾ first_by_itself rules operation None (Some (FromEntry i)) true false v [] t t' mid scope held stands (with_mark false q) left free.1 on k)
+    ⨾ first_by_itself rules operation None (Some (FromEntry i)) true false v [] t t' mid scope held stands (with_changed false q)
+    left free.1 on k)
 
 -- what a native answers that is an integer is the call's value
 pub number_told : (H : Type 0) (limits : Limits) (host : H → List ℕ) (z : ℤ) (left : Option (Dynamic H)) (rest : List (Dynamic H))
@@ -187,18 +189,19 @@ module _ {H : Type 0} where
   free_by cells (value.Cell id) false is = cc
   free_by cells _ constant is = refl
 
-  -- a result without its mark
-  marked_plain : (q : Result (Dynamic H) (EvalAltResult H)) → marked (with_mark false q) ≡ ended q
-  marked_plain (Ok v) = refl
-  marked_plain (Err e) = refl
+  -- how a result ends that changed nothing
+  unchanged_answer_ends : (q : Result (Dynamic H) (EvalAltResult H)) → ended_or_changed (with_changed false q) ≡ ended q
+  unchanged_answer_ends (Ok v) = refl
+  unchanged_answer_ends (Err e) = refl
 
-  plain_end : (q : Result (Dynamic H) (EvalAltResult H)) → IfEnded (Ended (with_mark false q)) (λ answer. false ≡ false → answer.1 ≡ false)
+  plain_end : (q : Result (Dynamic H) (EvalAltResult H)) → IfEnded (Ended (with_changed false q)) (λ answer. false ≡ false → answer.1 ≡ false)
   plain_end (Ok v) = λ m. refl
   plain_end (Err e) = tt
 
 module _ {S H : Type 0} (rules : Rules S H) (call : FnCallExpr) (arg : Expr) (lone : IsLone call arg) (pos : Position)
     (offset : Option NonZeroUsize) (name : List ℕ) (namespace : Namespace) (where_ : Position)
-    (form : out-Expr arg ≡ layer.Variable offset name namespace where_) (t : S) (old mid : GlobalRuntimeState H) (scope : Scope H) (held : Held H)
+    (form : out-Expr arg ≡ layer.Variable offset name namespace where_) (t : S) (old mid : GlobalRuntimeState H) (scope : Scope
+    H) (held : Held H)
     (room : old.num_operations < limit_under rules) (charged : mid ≡ record old { num_operations = old.num_operations + 1 }) where
   abbrev operation : Operation
   operation = record { name = call.name; token = None; at = pos }
@@ -210,7 +213,7 @@ module _ {S H : Type 0} (rules : Rules S H) (call : FnCallExpr) (arg : Expr) (lo
   leads = record { offset = offset; name = name; namespace = namespace; at = where_; rest = [] }
 
   -- it comes first
-  first_leads : lent_first (by_value {H = H} [] call.capture_parent_scope (entries_of scope)) call.args ≡ Some leads
+  first_leads : lent_first (takes_by_value {H = H} [] call.capture_parent_scope (entries_of scope)) call.args ≡ Some leads
   first_leads = rw (lone.captures, lone.alone, form) refl
 
   -- the call begins, and its variable is charged
@@ -260,11 +263,11 @@ module _ {S H : Type 0} (rules : Rules S H) (call : FnCallExpr) (arg : Expr) (lo
     unfolding Steps Calls Dispatches GoesOut
     at_once q new runs k =
         let seeks : Seeks = record { of_method = false; natives_alone = false } in
-        let asks : Dispatches rules (plainly false false) lent (state_of t mid scope held) (Ended (with_mark false q)) new =
+        let asks : Dispatches rules (plainly false false) lent (state_of t mid scope held) (Ended (with_changed false q)) new =
         resolved_asks rules seeks false lent (state_of t mid scope held) (not_raced (is_held cells v.value) free, means, unfound)
-        (with_mark false q) new (λ r. rw (marked_plain q) (runs r)) in
+        (with_changed false q) new (λ r. rw (unchanged_answer_ends q) (runs r)) in
         let ends : Calls rules (plainly false false) lent (state_of t mid scope held) (called.Ended q) new =
-        calls_ended rules (state_of t mid scope held) new (plainly false false) lent (with_mark false q) q (plain_end q) (unmarks_itself q)
+        calls_ended rules (state_of t mid scope held) new (plainly false false) lent (with_changed false q) q (plain_end q) (unchanged_answer_is q)
         asks in
         begins k
         ⨾ on_called rules operation variable (plainly false false) [] (state_of t mid scope held) lent

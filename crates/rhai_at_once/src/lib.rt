@@ -1,6 +1,7 @@
-//! A call of a native at once: a call by name whose one argument is a variable, where no function of a script has the
-//! name. The native is called on the variable's value where it stands. Ports a part of upstream's
-//! `make_function_call`. The contracts cite the machine's specs/language/Arguments.antt and the crate's own specs/.
+//! A call of a native at once: a call by name whose one argument is a variable, where no function of a script
+//! has the name. The native is called on the variable's value where it stands. Ports a part of upstream's
+//! `make_function_call`. The contracts cite the machine's specs/language/Arguments.antt and the crate's own
+//! specs/.
 #![tactic(auto)]
 
 ghost use Rattle.std.specs.Prelude.{◌≡◌, ◌<◌, ◌≤◌, ◌∷◌, [], IsTrue, IfErr, IfOk, IfSome, None, Some, is_some, length, slice_get};
@@ -24,12 +25,12 @@ ghost use Rattle.rhai_context.specs.Ends.{came};
 ghost use Rattle.rhai_calls.specs.Dispatch.{plain_found};
 ghost use Rattle.rhai_steps.specs.Offers.{Offers};
 ghost use Rattle.rhai_calls.specs.Lending.{lent_call};
-ghost use Rattle.rhai_dispatch.specs.Variables.{is_lendable as is_lent};
+ghost use Rattle.rhai_callees.specs.Variables.{is_lendable as is_lent};
 ghost use Rattle.rhai_at_once.specs.AtOnce.{IsLone};
 
+use rhai_callees::variable::is_lendable;
 use rhai_context::ends::{put_number, settle};
 use rhai_context::outcomes::charge;
-use rhai_dispatch::variable::is_lendable;
 use rhai_functions::function::Offered;
 use rhai_functions::key::FnKey;
 use rhai_functions::lookup::find_function;
@@ -48,9 +49,9 @@ use rhai_values::base::value::{AccessMode, Dynamic, Host, Union};
 use rhai_values::cells::CellStore;
 use std::alloc::Global;
 
-/// The one of some arguments, None where there are none or more.
+/// Returns the one of some arguments, None where there are none or more.
 #[inline(always)]
-fn only(args: &[Expr]) -> Option<&Expr>
+fn only_argument(args: &[Expr]) -> Option<&Expr>
     ensures { IfSome (option_copied result) (λ arg. args.now ≡ arg ∷ []) }
 {
     let [arg] = args else {
@@ -59,7 +60,8 @@ fn only(args: &[Expr]) -> Option<&Expr>
     Some(arg)
 }
 
-/// The argument of a call by its name alone that has no other. None where the name means something besides functions.
+/// Returns the argument of a call by its name alone that has no other. None where the name means something
+/// besides functions.
 #[inline(always)]
 fn lone_argument(call: &FnCallExpr) -> Option<&Expr>
     ensures { IfSome (option_copied result) (λ arg. IsLone call.now arg) }
@@ -70,10 +72,10 @@ fn lone_argument(call: &FnCallExpr) -> Option<&Expr>
     if has_own_meaning(call.name.get().as_str()) {
         return None;
     }
-    only(call.args.as_slice())
+    only_argument(call.args.as_slice())
 }
 
-/// Whether a call by a name looks through no module.
+/// Tells whether a call by a name looks through no module.
 #[inline(always)]
 fn has_no_modules<H: Host>(offered: &Offered<'_, H>, global: &GlobalRuntimeState<H>) -> bool
     ensures libraries { IsTrue result → global.now.lib ≡ [] }
@@ -87,9 +89,13 @@ fn has_no_modules<H: Host>(offered: &Offered<'_, H>, global: &GlobalRuntimeState
         && offered.global_sub_modules.values().is_empty()
 }
 
-/// Whether a function of a script has a name and one parameter.
+/// Tells whether a function of a script has a name and one parameter.
 #[inline(always)]
-fn is_found<H: Host>(offered: &Offered<'_, H>, global: &GlobalRuntimeState<H>, name: &str) -> bool
+fn is_scripted<H: Host>(
+    offered: &Offered<'_, H>,
+    global: &GlobalRuntimeState<H>,
+    name: &str,
+) -> bool
     ensures { (offer : _) → Offers offer offered.now →
         result ≡ is_some (plain_found offer (surroundings_of global.now) name.now 1) }
 {
@@ -111,7 +117,7 @@ fn is_found<H: Host>(offered: &Offered<'_, H>, global: &GlobalRuntimeState<H>, n
     found.is_some()
 }
 
-/// Whether a value is an integer that may be written.
+/// Tells whether a value is an integer that may be written.
 #[inline(always)]
 fn is_number<H>(value: &Dynamic<H>) -> bool
     ensures { IsTrue result → (number : ℤ) × (value.now ≡ plain (kind.Int number)) }
@@ -122,9 +128,9 @@ fn is_number<H>(value: &Dynamic<H>) -> bool
     }
 }
 
-/// The integer that a native answered which may be written, or else its answer as it is.
+/// Takes the integer that may be written out of a native's answer. Any other answer comes back as it is.
 #[inline(always)]
-fn number_in<H: Host>(answer: Answer<H>) -> Result<Dynamic<H>, Answer<H>>
+fn take_number<H: Host>(answer: Answer<H>) -> Result<Dynamic<H>, Answer<H>>
     ensures number { IfOk result (λ value. (reply_of answer ≡ Some (Gives value))
         × (number : ℤ) × (value ≡ plain (kind.Int number))) }
     ensures other { IfErr result (λ same. same ≡ answer) }
@@ -141,8 +147,8 @@ fn number_in<H: Host>(answer: Answer<H>) -> Result<Dynamic<H>, Answer<H>>
     }
 }
 
-/// What a native's answer comes to, at the call, as `rhai_steps::replies::replied` has it. How the call ended stands
-/// in the run. An integer is within every limit.
+/// Settles what a native's answer comes to, at the call, as `rhai_steps::replies::replied` has it. How the
+/// call ended stands in the run. An integer is within every limit.
 #[inline(always)]
 fn settle_answer<H: Host>(
     alloc: Global,
@@ -161,7 +167,7 @@ fn settle_answer<H: Host>(
         (record { name = name.now; token = None; at = pos }) false (cells_of cells.now))) }
     ensures memory { HasMemory (came result out.new place.new) → is_some (reply_of answer) ≡ true }
 {
-    let answer = match number_in(answer) {
+    let answer = match take_number(answer) {
         Ok(value) => {
             put_number(out, value);
             return true;
@@ -174,7 +180,7 @@ fn settle_answer<H: Host>(
     settle(place, out, answered)
 }
 
-/// What the native of a name answers on a value that is no handle.
+/// Calls the native of a name on a value that is no handle.
 #[inline(always)]
 fn ask<H: Host, T: NativeTable<H>>(
     table: &mut T,
@@ -196,8 +202,8 @@ fn ask<H: Host, T: NativeTable<H>>(
     table.call(cells, name, Some(&mut *first), rest, pos)
 }
 
-/// Charges a call, and calls the native of its name on the value of a variable where it stands. How it ended stands
-/// in the run.
+/// Charges a call, and calls the native of its name on the value of a variable where it stands. How it ended
+/// stands in the run.
 #[inline(always)]
 fn call_entry<H: Host, T: NativeTable<H>>(
     limits: &Limits,
@@ -237,11 +243,11 @@ fn call_entry<H: Host, T: NativeTable<H>>(
     )
 }
 
-/// A call by name of a native whose one argument is a variable, which is read and lent at once. None where that is
-/// not so: where an operator was written, a path stands in front or variables are captured, where the name means
-/// something besides functions or a function of a script, where no entry has the argument or it is a constant's or a
-/// handle's, and where the limit has no room for the variable; then nothing is charged or changed. How it ended stands in the run. Asked: the call
-/// resolves to the names of the scope.
+/// Calls by name a native whose one argument is a variable, which is read and lent at once. None where that
+/// is not so: where an operator was written, a path stands in front or variables are captured, where the name
+/// means something besides functions or a function of a script, where no entry has the argument or it is a
+/// constant's or a handle's, and where the limit has no room for the variable; then nothing is charged or
+/// changed. How it ended stands in the run. Asked: the call resolves to the names of the scope.
 ///
 /// # Errors
 /// Those of `rhai_calls::native::pass_native`, but for a race and a constant.
@@ -290,7 +296,7 @@ pub fn call_at_once<H: Host, T: NativeTable<H>>(
         return None;
     }
     let function = call.name.get().as_str();
-    if is_found(offered, global, function) {
+    if is_scripted(offered, global, function) {
         return None;
     }
     if !charge_one(limits, global) {

@@ -4,6 +4,7 @@ use Rattle.rhai_tree.specs.declared.fault.CheckFault.{CheckFault}
 use Rattle.rhai_bench.specs.declared.outcome.Ending.{Ending}
 use Rattle.rhai_bench.specs.declared.outcome.Ending.TheVariants.{Refused, Value, Error}
 
+-- the exit status of an ending: 0 for a value, 1 for an error, 2 for a refusal
 abbrev pub status_of : Ending → ℕ
 status_of (Value v) = 0
 status_of (Error e) = 1

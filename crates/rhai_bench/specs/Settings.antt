@@ -8,7 +8,7 @@ use Rattle.rhai_bench.specs.declared.settings.Setting.TheVariants.{WithoutFastOp
 use Rattle.rhai_bench.specs.declared.settings.Setting.TheVariants.{WithModules, MaxModules, MaxOperationsWithModules}
 use Rattle.rhai_bench.specs.declared.settings.Setting.TheVariants.{MaxCallLevelsWithModules, WithGlobalModules}
 
--- no limits of operations and of data, fast operators, and no modules
+-- no limits of operations and of data, and at most 1000 variables, 100 modules and 64 levels of calls
 abbrev pub usual_limits : Limits
 usual_limits = record {
   max_operations = 0;
@@ -20,6 +20,7 @@ usual_limits = record {
   max_string_size = 0;
 }
 
+-- the usual limits, with fast operators and variables that may hide others, and with no other switch on
 abbrev pub usual : Settings
 usual = record {
   limits = usual_limits;
@@ -31,24 +32,27 @@ usual = record {
   has_global_modules = false;
 }
 
--- but for the limit of operations, of variables, of an array's items, or of how deep calls are
+-- the usual settings, but for the limit of operations
 abbrev pub under_operations : (count : ℕ) → Settings
 under_operations count = record usual { limits = record usual_limits { max_operations = count } }
 
+-- the usual settings, but for the limit of variables
 abbrev pub under_variables : (count : ℕ) → Settings
 under_variables count = record usual { limits = record usual_limits { max_variables = count } }
 
+-- the usual settings, but for the limit of an array's items
 abbrev pub under_array_size : (size : ℕ) → Settings
 under_array_size size = record usual { limits = record usual_limits { max_array_size = size } }
 
+-- the usual settings, but for the limit of how deep calls are
 abbrev pub under_call_levels : (levels : ℕ) → Settings
 under_call_levels levels = record usual { limits = record usual_limits { max_call_levels = levels } }
 
--- with modules to import, and with limits
+-- the usual settings, but for modules to import and these limits
 abbrev pub with_modules : Limits → Settings
 with_modules limits = record usual { limits = limits; has_modules = true }
 
--- all that is set with it: beside it the usual
+-- the settings in which this is set, and all else is as usual
 abbrev pub settings_of : Setting → Settings
 settings_of Usual = usual
 settings_of (MaxOperations count) = under_operations count

@@ -63,12 +63,12 @@ fn int(value: i64) -> Dynamic<Pair>
     Dynamic::new(Union::Int(value))
 }
 
-/// A handle of the first cell.
+/// Makes a handle of the first cell.
 fn handle() -> Dynamic<Pair> {
     Dynamic::new(Union::Cell(CellId { number: 0 }))
 }
 
-/// So many arguments.
+/// Makes so many arguments, each of them 4.
 fn fours(alloc: Global, count: usize) -> Result<Items<Dynamic<Pair>>, AllocError>
     ensures { IfOk result (λ args. length args ≡ count) }
 {
@@ -80,7 +80,7 @@ fn fours(alloc: Global, count: usize) -> Result<Items<Dynamic<Pair>>, AllocError
 }
 
 impl Caller {
-    /// A caller with so many arguments.
+    /// Makes a caller with so many arguments.
     pub fn new(alloc: Global, count: usize) -> Result<Caller, AllocError> {
         let mut scope = Scope::new(alloc);
         let name = String::from_str(alloc, "x")?;
@@ -95,8 +95,8 @@ impl Caller {
         })
     }
 
-    /// A function at a level, with the object as its `this` and an argument for each parameter, and whether all
-    /// of its variables go.
+    /// Calls a function at a level, with the object as its `this` and an argument for each parameter.
+    /// `rewinds` says whether all of its variables go.
     pub fn call(
         &mut self,
         alloc: Global,
@@ -126,7 +126,7 @@ impl Caller {
         }
     }
 
-    /// A function by its name, on the object before the arguments.
+    /// Calls a function by its name, on the object before the arguments.
     pub fn call_named(
         &mut self,
         alloc: Global,
@@ -150,7 +150,7 @@ impl Caller {
         )
     }
 
-    /// A function by its name on the variables, with the object before the arguments or as a method's.
+    /// Calls a function by its name on the variables, with the object before the arguments or as a method's.
     pub fn call_captured(&mut self, alloc: Global, name: &str, is_method: bool) -> Answer {
         Engine::new(alloc).exec_fn_call(
             alloc,
@@ -168,7 +168,7 @@ impl Caller {
         )
     }
 
-    /// A native by its name, on the object before the arguments.
+    /// Calls a native by its name, on the object before the arguments.
     pub fn call_native(&mut self, alloc: Global, name: &str) -> Answer {
         Engine::new(alloc).exec_native_fn_call(
             alloc,
@@ -184,7 +184,7 @@ impl Caller {
         )
     }
 
-    /// A cell has 1, as the object has, and object and arguments are handles of that.
+    /// Adds a cell with 1, as the object has it, and makes the object and the arguments handles of it.
     pub fn share(&mut self) -> Result<(), AllocError> {
         if let Err((value, error)) = self.global.cells.add(int(1)) {
             drop(value);
@@ -197,7 +197,7 @@ impl Caller {
         Ok(())
     }
 
-    /// A method on the object.
+    /// Calls a method on the object.
     pub fn call_method(&mut self, alloc: Global, name: &str) -> Answer {
         let mut target = Target {
             at: &mut self.object,
@@ -216,8 +216,8 @@ impl Caller {
         )
     }
 
-    /// Whether a function of a name without arguments is there.
-    pub fn seeks(&mut self, alloc: Global, name: &str) -> Answer {
+    /// Tells whether a function of a name without arguments is there.
+    pub fn has_function(&mut self, alloc: Global, name: &str) -> Answer {
         let key = FnKey {
             name,
             arity: 0,

@@ -21,9 +21,9 @@ pub const WRONG_ARGUMENTS: u8 = 3;
 /// The status where a line could not be written, or the bench found no memory.
 pub const NOT_WRITTEN: u8 = 4;
 
-/// Runs what the arguments ask for, without arguments the first row, and prints a line for each
-/// script. Answers the exit status: that of the last script, or of wrong arguments, of a line that
-/// could not be written, or of want of memory.
+/// Runs what the arguments ask for, without arguments the first row, and prints a line for each script.
+/// Answers the exit status: that of the last script, or of wrong arguments, of a line that could not be
+/// written, or of memory that ran out.
 pub fn run<W: Write>(alloc: Global, args: &[String], out: &mut W) -> u8
     ensures status { result ≤ 4 }
     ensures wrong { ¬ IsCall (map string_bytes args.now) → 3 ≤ result }
@@ -41,7 +41,7 @@ fn run_arguments<W: Write>(alloc: Global, args: &[String], out: &mut W) -> io::R
     }
 }
 
-/// The row that the arguments ask for, without arguments the first, None for wrong arguments.
+/// Finds the row that the arguments ask for, without arguments the first. None for wrong arguments.
 fn row_asked(args: &[String]) -> Option<&str>
     ensures { ¬ IsCall (map string_bytes args.now) → is_some result ≡ false }
 {
@@ -52,7 +52,8 @@ fn row_asked(args: &[String]) -> Option<&str>
     }
 }
 
-/// Runs a row: its scripts, or where it has none shows a function. A row that is not there is a wrong argument.
+/// Runs a row: its scripts, or where it has none shows a function. A row that is not there is a wrong
+/// argument.
 fn run_row<W: Write>(alloc: Global, row: &str, out: &mut W) -> io::Result<u8>
     ensures { IfOk result (λ s. s ≤ 3) }
 {
@@ -76,7 +77,7 @@ fn show_function<W: Write>(alloc: Global, out: &mut W) -> io::Result<u8>
     wrote.map(|()| status)
 }
 
-/// The text of a function, as its own `Display` writes it.
+/// Makes the text of a function, as its own `Display` writes it.
 fn function_text(alloc: Global) -> Result<Dynamic<Pair>, AllocError> {
     let function = private_function(alloc)?;
     let text = format!(in alloc; "{function}");

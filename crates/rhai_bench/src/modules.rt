@@ -11,9 +11,10 @@ use rhai_samples::parts::{Part, tree_of};
 use rhai_tables::host::Pair;
 use std::alloc::{AllocError, Global};
 
-/// Under `m` a module with a constant `K` of 7, its functions, and a module `s` within it, whose `K` is 8; under `n`
-/// one with a constant `A` of `[1, 2]`, its functions, and in a module `s` a module `d` with a constant `E` of 10 and
-/// a function. Every function but `two` is marked global.
+/// Makes the modules that there are to import. Under `m` stands a module with a constant `K` of 7, its
+/// functions, and a module `s` within it, whose `K` is 8; under `n` one with a constant `A` of `[1, 2]`, its
+/// functions, and in a module `s` a module `d` with a constant `E` of 10 and a function. Every function but
+/// `two` is global.
 pub fn modules_to_import(alloc: Global) -> Result<ModuleTable<Pair>, AllocError> {
     let mut modules = Table::new(alloc);
     add_module(alloc, &mut modules, "m", module_m(alloc)?)?;
@@ -21,8 +22,8 @@ pub fn modules_to_import(alloc: Global) -> Result<ModuleTable<Pair>, AllocError>
     Ok(ModuleTable { modules })
 }
 
-/// Modules whose names are not needed: one with a constant `X` of `[1]`, and one with an `X` of 2, a `Y` of 3 and a
-/// function that is not marked.
+/// Makes the modules of an engine whose names are not needed. One has a constant `X` of `[1]`, and one an `X`
+/// of 2, a `Y` of 3 and a function that is not global.
 pub fn global_modules(alloc: Global) -> Result<Items<Shared<Module<Pair>>>, AllocError> {
     let mut first = Module::new(alloc);
     add_constant(alloc, &mut first, "X", integers(alloc, &[1])?)?;
@@ -36,14 +37,14 @@ pub fn global_modules(alloc: Global) -> Result<Items<Shared<Module<Pair>>>, Allo
     Ok(modules)
 }
 
-/// Under `g` the module that is imported as `m`.
+/// Makes the modules of an engine that have names: under `g` the module that is imported as `m`.
 pub fn global_sub_modules(alloc: Global) -> Result<Table<Shared<Module<Pair>>>, AllocError> {
     let mut modules = Table::new(alloc);
     add_module(alloc, &mut modules, "g", module_m(alloc)?)?;
     Ok(modules)
 }
 
-/// A shared copy of a text.
+/// Copies a text into a shared one.
 fn shared(alloc: Global, text: &str) -> Result<Shared<Text>, AllocError> {
     Shared::new(alloc, Text::from_str(alloc, text)?)
 }
@@ -52,7 +53,7 @@ fn integer(value: i64) -> Dynamic<Pair> {
     Dynamic::new(Union::Int(value))
 }
 
-/// An array of integers.
+/// Makes an array of integers.
 fn integers(alloc: Global, values: &[i64]) -> Result<Dynamic<Pair>, AllocError> {
     let mut items = Items::new(alloc);
     for value in values {
@@ -82,7 +83,7 @@ fn add_constant(
     module.constants.insert(shared(alloc, name)?, value)
 }
 
-/// The module under `m`.
+/// Makes the module under `m`.
 fn module_m(alloc: Global) -> Result<Module<Pair>, AllocError> {
     let mut module = module_of(alloc, FUNCTIONS_OF_M)?;
     add_constant(alloc, &mut module, "K", integer(7))?;
@@ -92,7 +93,7 @@ fn module_m(alloc: Global) -> Result<Module<Pair>, AllocError> {
     Ok(module)
 }
 
-/// The module under `n`.
+/// Makes the module under `n`.
 fn module_n(alloc: Global) -> Result<Module<Pair>, AllocError> {
     let mut module = module_of(alloc, FUNCTIONS_OF_N)?;
     add_constant(alloc, &mut module, "A", integers(alloc, &[1, 2])?)?;
@@ -104,15 +105,15 @@ fn module_n(alloc: Global) -> Result<Module<Pair>, AllocError> {
     Ok(module)
 }
 
-/// A module of functions alone, all of them but `two` marked global.
+/// Makes a module of functions alone, all of them but `two` global.
 fn module_of(alloc: Global, parts: &[Part<'_>]) -> Result<Module<Pair>, AllocError> {
     let tree = checked(alloc, tree_of(alloc, parts)?)?;
     let mut module = library_of(alloc, &tree)?;
-    mark(module.functions.as_mut_slice());
+    make_global(module.functions.as_mut_slice());
     Ok(module)
 }
 
-/// The tree of parts that are well formed.
+/// Checks the tree of parts that are well formed.
 pub(crate) fn checked(alloc: Global, parts: TreeParts) -> Result<CheckedTree, AllocError> {
     let TreeParts {
         statements,
@@ -121,8 +122,8 @@ pub(crate) fn checked(alloc: Global, parts: TreeParts) -> Result<CheckedTree, Al
     check_tree(alloc, statements, functions).map_err(|_| AllocError)
 }
 
-/// Marks functions global, all but `two`.
-fn mark(functions: &mut [ModuleFn<Pair>]) {
+/// Makes all functions global but `two`.
+fn make_global(functions: &mut [ModuleFn<Pair>]) {
     for function in functions {
         function.is_global = function.def.get().def().name.get().as_str() != "two";
     }

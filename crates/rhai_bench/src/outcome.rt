@@ -20,7 +20,7 @@ pub enum Ending {
 }
 
 impl Ending {
-    /// The exit status that stands for the ending.
+    /// Returns the exit status that stands for the ending.
     pub fn status(&self) -> u8
         ensures { result ≡ status_of self.now }
     {

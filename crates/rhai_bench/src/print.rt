@@ -12,8 +12,7 @@ pub fn write_line<W: Write>(out: &mut W, ending: &Ending) -> io::Result<()> {
     writeln!(out, "")
 }
 
-/// Writes an ending: `ok` and the value, or `error` or `check` and the name of the variant with its
-/// place.
+/// Writes an ending: `ok` and the value, or `error` or `check` and the name of the variant with its position.
 pub fn write_ending<W: Write>(out: &mut W, ending: &Ending) -> io::Result<()> {
     match ending {
         Ending::Value(value) => {
@@ -22,17 +21,17 @@ pub fn write_ending<W: Write>(out: &mut W, ending: &Ending) -> io::Result<()> {
         }
         Ending::Error(error) => {
             write!(out, "error {} ", error.name())?;
-            write_place(out, error.position())
+            write_position(out, error.position())
         }
         Ending::Refused(fault) => {
             write!(out, "check {fault} ")?;
-            write_place(out, fault.position())
+            write_position(out, fault.position())
         }
     }
 }
 
-/// Writes a line and a position in it, or `-` for no place.
-pub fn write_place<W: Write>(out: &mut W, place: Position) -> io::Result<()> {
+/// Writes the line and the column of a position, or `-` where it is none.
+pub fn write_position<W: Write>(out: &mut W, place: Position) -> io::Result<()> {
     match (place.line(), place.position()) {
         (Some(line), Some(column)) => write!(out, "{line}:{column}"),
         _ => write!(out, "-"),

@@ -5,7 +5,6 @@ use rhai_eval::base::Scope;
 use rhai_tables::host::Pair;
 use std::alloc::{AllocError, Global};
 
-mod around;
 mod calls;
 mod caught;
 mod cells;
@@ -14,6 +13,7 @@ mod checked;
 mod choices;
 mod data;
 mod functions;
+mod linked_pointer;
 mod loops;
 mod modules;
 mod operators;
@@ -27,7 +27,7 @@ mod walks;
 #[derive(Clone, Copy)]
 pub struct Row(pub &'static str, pub &'static [Sample]);
 
-/// The scripts of a row in their order, None where no row has the number. A number is written in
+/// Finds the scripts of a row in their order, None where no row has the number. A number is written in
 /// decimal digits, without zeros in front.
 pub fn scripts_of(row: &str) -> Option<&'static [Sample]> {
     first_found(&[
@@ -50,7 +50,7 @@ pub fn scripts_of(row: &str) -> Option<&'static [Sample]> {
     ])
 }
 
-/// The first scripts that were found.
+/// Picks the first scripts that were found.
 pub fn first_found(found: &[Option<&'static [Sample]>]) -> Option<&'static [Sample]> {
     for scripts in found {
         if scripts.is_some() {
@@ -60,7 +60,7 @@ pub fn first_found(found: &[Option<&'static [Sample]>]) -> Option<&'static [Samp
     None
 }
 
-/// The scripts that stand under a name in a list.
+/// Finds the scripts that stand under a name in a list.
 pub fn scripts_in(rows: &'static [Row], name: &str) -> Option<&'static [Sample]> {
     for row in rows {
         if row.0 == name {
@@ -70,10 +70,10 @@ pub fn scripts_in(rows: &'static [Row], name: &str) -> Option<&'static [Sample]>
     None
 }
 
-/// The variables above which the scripts of a row run: of most rows none.
+/// Makes the variables above which the scripts of a row run: of most rows none.
 pub fn scope_for(alloc: Global, row: &str) -> Result<Scope<Pair>, AllocError> {
     if row == "15" {
-        around::pointer_with_a_library(alloc)
+        linked_pointer::pointer_with_a_library(alloc)
     } else {
         Ok(Scope::new(alloc))
     }

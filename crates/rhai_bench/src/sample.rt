@@ -87,7 +87,7 @@ pub enum MadeTree {
 }
 
 impl Sample {
-    /// The script, or want of memory for it.
+    /// Makes the script, or says that memory ran out.
     pub fn script(self, alloc: Global) -> Result<Script, AllocError>
         ensures { IfOk result (λ s. s.settings ≡ settings_of self.1) }
     {
@@ -97,7 +97,7 @@ impl Sample {
 }
 
 impl Tree {
-    /// The tree's statements, and the functions beside them.
+    /// Makes the tree's statements, and the functions beside them.
     fn parts(self, alloc: Global) -> Result<TreeParts, AllocError> {
         match self {
             Tree::Parts(parts) => tree_of(alloc, parts),

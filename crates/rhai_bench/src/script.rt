@@ -46,7 +46,7 @@ pub fn add_library(
 }
 
 impl Script {
-    /// A script under settings.
+    /// Makes a script under settings.
     pub fn new(parts: TreeParts, settings: Settings) -> Script
         ensures statements { result.statements ≡ parts.statements }
         ensures functions { result.functions ≡ parts.functions }
@@ -63,8 +63,8 @@ impl Script {
         }
     }
 
-    /// Checks the script and runs it in one of the ways, in an empty scope and with the natives of
-    /// `Counting`. Its functions are one library of the state.
+    /// Checks the script and runs it in one of the ways, in an empty scope. It has the natives of `Counting`,
+    /// and its functions are one library of the state.
     pub fn run(self, alloc: Global, way: Way) -> Result<Outcome, AllocError>
         ensures limit { IfOk result (λ o. o.num_operations ≤ limit_of self.settings.limits.max_operations) }
         ensures variables { IfOk result (λ o. length (names_in o.scope)
@@ -77,8 +77,8 @@ impl Script {
         self.run_above(alloc, way, Scope::new(alloc))
     }
 
-    /// Checks the script and runs it in one of the ways, above the variables of a scope and with
-    /// the natives of `Counting`.
+    /// Checks the script and runs it in one of the ways, above the variables of a scope. It has the natives
+    /// of `Counting`.
     pub fn run_above(
         self,
         alloc: Global,

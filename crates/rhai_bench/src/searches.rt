@@ -20,8 +20,8 @@ use std::io;
 use std::io::Write;
 use std::num::NonZeroUsize;
 
-/// The scope of `a` with 1, `b` with 2 and `a` with 3.
-fn three(alloc: Global) -> Result<Scope<Pair>, AllocError> {
+/// Makes the scope of `a` with 1, `b` with 2 and `a` with 3.
+fn scope_of_three(alloc: Global) -> Result<Scope<Pair>, AllocError> {
     let mut scope = Scope::new(alloc);
     push(alloc, &mut scope, "a", 1)?;
     push(alloc, &mut scope, "b", 2)?;
@@ -55,7 +55,7 @@ fn variable(alloc: Global, name: &str, offset: Option<NonZeroUsize>) -> Result<E
     })
 }
 
-/// Whether an offset is at most a length.
+/// Tells whether an offset, if there is one, is at most a length.
 fn is_within(offset: Option<NonZeroUsize>, length: usize) -> bool
     ensures { IsTrue result → (searches : Bool) → Fits (in_use searches offset) length }
 {
@@ -65,8 +65,8 @@ fn is_within(offset: Option<NonZeroUsize>, length: usize) -> bool
     }
 }
 
-/// Writes where a variable of a name and an offset stands in the scope of `a` with 1, `b` with 2 and
-/// `a` with 3, if it is told by the offset, and the value that is found, or the error.
+/// Writes where a variable of this name and offset stands, if the offset tells, and its value or the error.
+/// The scope has `a` with 1, `b` with 2 and `a` with 3.
 pub fn write_found<W: Write>(
     alloc: Global,
     name: &str,
@@ -74,7 +74,7 @@ pub fn write_found<W: Write>(
     always_search_scope: bool,
     out: &mut W,
 ) -> io::Result<()> {
-    let mut scope = three(alloc)?;
+    let mut scope = scope_of_three(alloc)?;
     if !is_within(offset, scope.len()) {
         return write!(out, "no such offset");
     }

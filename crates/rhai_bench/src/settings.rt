@@ -48,8 +48,8 @@ impl Settings {
         has_global_modules: false,
     };
 
-    /// The usual settings, but for their limits.
-    fn under(limits: Limits) -> Settings
+    /// Makes the usual settings, but for their limits.
+    fn with_limits(limits: Limits) -> Settings
         ensures { result ≡ record usual { limits = limits } }
     {
         Settings {
@@ -58,7 +58,7 @@ impl Settings {
         }
     }
 
-    /// The usual settings with modules to import, but for their limits.
+    /// Makes the usual settings with modules to import, but for their limits.
     fn with_modules(limits: Limits) -> Settings
         ensures { result ≡ with_modules limits }
     {
@@ -69,7 +69,7 @@ impl Settings {
         }
     }
 
-    /// An engine with these limits and switches, and with the modules that there are to be.
+    /// Makes an engine with these limits and switches, and with the modules that there are to be.
     pub fn engine(&self, alloc: Global) -> Result<Engine<Pair>, AllocError>
         ensures limits { IfOk result (λ engine. limits_of engine ≡ record self.now.limits
             { max_operations = limit_of self.now.limits.max_operations }) }
@@ -103,7 +103,7 @@ impl Settings {
         Ok(engine)
     }
 
-    /// The modules to import, or none.
+    /// Makes the modules to import, or none.
     fn modules(&self, alloc: Global) -> Result<ModuleTable<Pair>, AllocError> {
         if self.has_modules {
             modules_to_import(alloc)
@@ -115,8 +115,8 @@ impl Settings {
     }
 }
 
-/// The usual limits, but for that of operations.
-fn operations(max_operations: u64) -> Limits
+/// Makes the usual limits, but for that of operations.
+fn limit_operations(max_operations: u64) -> Limits
     ensures { result ≡ record usual_limits { max_operations = max_operations } }
 {
     Limits {
@@ -125,8 +125,8 @@ fn operations(max_operations: u64) -> Limits
     }
 }
 
-/// The usual limits, but for that of variables.
-fn variables(max_variables: usize) -> Limits
+/// Makes the usual limits, but for that of variables.
+fn limit_variables(max_variables: usize) -> Limits
     ensures { result ≡ record usual_limits { max_variables = max_variables } }
 {
     Limits {
@@ -135,8 +135,8 @@ fn variables(max_variables: usize) -> Limits
     }
 }
 
-/// The usual limits, but for that of an array's items.
-fn array_size(max_array_size: usize) -> Limits
+/// Makes the usual limits, but for that of an array's items.
+fn limit_arrays(max_array_size: usize) -> Limits
     ensures { result ≡ record usual_limits { max_array_size = max_array_size } }
 {
     Limits {
@@ -145,8 +145,8 @@ fn array_size(max_array_size: usize) -> Limits
     }
 }
 
-/// The usual limits, but for that of how deep calls are.
-fn call_levels(max_call_levels: usize) -> Limits
+/// Makes the usual limits, but for that of how deep calls are.
+fn limit_levels(max_call_levels: usize) -> Limits
     ensures { result ≡ record usual_limits { max_call_levels = max_call_levels } }
 {
     Limits {
@@ -185,16 +185,16 @@ pub enum Setting {
 }
 
 impl Setting {
-    /// All that is set with it: beside it the usual.
+    /// Returns the settings in which this is set, and all else is as usual.
     pub fn settings(self) -> Settings
         ensures { result ≡ settings_of self }
     {
         match self {
             Setting::Usual => Settings::USUAL,
-            Setting::MaxOperations(count) => Settings::under(operations(count)),
-            Setting::MaxVariables(count) => Settings::under(variables(count)),
-            Setting::MaxArraySize(size) => Settings::under(array_size(size)),
-            Setting::MaxCallLevels(levels) => Settings::under(call_levels(levels)),
+            Setting::MaxOperations(count) => Settings::with_limits(limit_operations(count)),
+            Setting::MaxVariables(count) => Settings::with_limits(limit_variables(count)),
+            Setting::MaxArraySize(size) => Settings::with_limits(limit_arrays(size)),
+            Setting::MaxCallLevels(levels) => Settings::with_limits(limit_levels(levels)),
             Setting::WithoutFastOperators => Settings {
                 fast_operators: false,
                 ..Settings::USUAL
@@ -213,10 +213,10 @@ impl Setting {
                 ..Settings::USUAL.limits
             }),
             Setting::MaxOperationsWithModules(count) => {
-                Settings::with_modules(operations(count))
+                Settings::with_modules(limit_operations(count))
             }
             Setting::MaxCallLevelsWithModules(levels) => {
-                Settings::with_modules(call_levels(levels))
+                Settings::with_modules(limit_levels(levels))
             }
             Setting::WithGlobalModules => Settings {
                 has_modules: true,
@@ -260,7 +260,7 @@ impl Way {
         },
     ];
 
-    /// The caches of a run before it starts.
+    /// Makes the caches of a run before it starts.
     pub fn caches(self, alloc: Global) -> Caches<Pair>
         ensures on { is_on result ≡ self.keeps_functions }
         ensures depth { depth_of result ≡ 0 }

@@ -43,7 +43,7 @@ fn print_speed<R: Eprint>(rt: &R, what: &str, count: u64, elapsed: Duration) -> 
     }
 }
 
-/// How many of so many charges a second had, None where no time has passed.
+/// Computes how many of so many charges a second had, None where no time has passed.
 pub fn per_second(count: u64, elapsed: Duration) -> Option<u128>
     ensures none { IsNone result ↔ (as_nanos elapsed ≡ 0) }
     ensures some { IfSome result (λ n. n ≡ count * 1000000000 / as_nanos elapsed) }

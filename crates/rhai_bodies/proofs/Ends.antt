@@ -18,7 +18,7 @@ denied true is = refl
 denied false is = sym is
 
 module _ {H : Type 0} where
-  -- the name of the last is that of the item at the last place
+  -- the name of the last is that of the item at the last index
   pub last_of : (ms : List (Module H)) (m : Module H) (name : Option (List ℕ)) → slice_get ms (length ms - 1) ≡ Some m →
       last_name ms name ≡ (out-Module H m).id
   last_of [] m name is = cc

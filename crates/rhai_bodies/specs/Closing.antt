@@ -22,7 +22,7 @@ module _ {H : Type 0} where
     level = exit.level;
   }
 
-  -- where an error of a function comes from, under a state's source
+  -- the source that an error of a function comes from, under a state's source
   abbrev pub source_under : Option (List ℕ) → Option (EncapsulatedEnviron H) → List ℕ
   source_under source environ = source_of (library_name environ) source
 
@@ -41,7 +41,7 @@ module _ {H : Type 0} where
     pub is_source : exit.source ≡ source_under source environ
     pub is_at : exit.at ≡ at
 
-  -- what an end makes of an outcome: a value stays
+  -- what the end of a call makes of a body's outcome: a value stays
   abbrev pub outcome_of : machine.CallExit H → Result (Dynamic H) (EvalAltResult H) → Result (Dynamic H) (EvalAltResult H)
   outcome_of exit (Ok v) = Ok v
   outcome_of exit (Err e) = returned exit e

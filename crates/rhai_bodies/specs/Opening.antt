@@ -10,11 +10,11 @@ use Rattle.rhai_state.specs.Scope.{entries_of}
 use Rattle.rhai_values.specs.declared.base.value.EncapsulatedEnviron.{EncapsulatedEnviron, out-EncapsulatedEnviron}
 use Rattle.rhai_bodies.specs.declared.opening.CallExit.{CallExit}
 
--- calls are only so deep
+-- a level is deeper than calls may be
 abbrev pub is_deep : Limits → (level : ℕ) → Bool
 is_deep limits level = nat_lt limits.max_call_levels level
 
--- and a scope holds at most so many variables
+-- a scope of so many variables has no room for so many parameters
 abbrev pub is_full : Limits → (variables parameters : ℕ) → Bool
 is_full limits variables parameters = nat_lt limits.max_variables (variables + parameters)
 
@@ -25,7 +25,7 @@ module _ {H : Type 0} where
   enterable false true at = Err (error.ErrorTooManyVariables at)
   enterable false false at = Ok tt
 
-  -- at a level, under so many variables, with so many parameters
+  -- whether a body may be entered at a level, under so many variables, with so many parameters, or why not
   abbrev pub entry : Limits → (level variables parameters : ℕ) → Position → Result (Unit {0}) (EvalAltResult H)
   entry limits level variables parameters at = enterable (is_deep limits level) (is_full limits variables parameters) at
 
@@ -50,15 +50,17 @@ module _ {H : Type 0} where
   abbrev pub entered_global : Option (EncapsulatedEnviron H) → (level : ℕ) → GlobalRuntimeState H → GlobalRuntimeState H
   entered_global environ level global = record (brought environ global) { level = level }
 
--- what holds where a body was entered, where one without statements was passed over, and where none was entered
+-- a claim that is made only where a body was entered
 abbrev pub OnEntered : {E : Type 0} → Result (Option CallExit) E → Type 0 → Type 0
 OnEntered (Ok (Some exit)) P = P
 OnEntered _ P = ⊤
 
+-- a claim that is made only where a body without statements was passed over
 abbrev pub OnPassed : {E : Type 0} → Result (Option CallExit) E → Type 0 → Type 0
 OnPassed (Ok None) P = P
 OnPassed _ P = ⊤
 
+-- a claim that is made only where no body was entered
 abbrev pub UnlessEntered : {E : Type 0} → Result (Option CallExit) E → Type 0 → Type 0
 UnlessEntered (Ok (Some exit)) P = ⊤
 UnlessEntered _ P = P

@@ -15,7 +15,7 @@ use rhai_tree::{Items, Shared};
 use rhai_values::base::value::{Dynamic, EncapsulatedEnviron, Host};
 use std::mem::replace;
 
-/// The environment that a function runs in, if it has one.
+/// Returns the environment that a function runs in, if it has one.
 pub fn environ_in<H: Host>(function: &Function<H>) -> Option<&EncapsulatedEnviron<H>>
     ensures { option_copied result ≡ function.now.environ }
 {
@@ -25,15 +25,15 @@ pub fn environ_in<H: Host>(function: &Function<H>) -> Option<&EncapsulatedEnviro
     }
 }
 
-/// The level of a function that a call dispatches to.
+/// Computes the level of a function that a call dispatches to.
 pub fn level_below(level: usize) -> usize
     ensures { result ≡ deeper level }
 {
     level.saturating_add(1)
 }
 
-/// What runs where a function is entered by a call: its definition, its environment, and its level below the
-/// caller's.
+/// Returns what runs where a function is entered by a call. That is its definition, its environment, and its
+/// level below the caller's.
 #[inline(always)]
 pub fn body_of<H: Host>(
     function: &Function<H>,
@@ -46,7 +46,7 @@ pub fn body_of<H: Host>(
     (function.def.get(), environ_in(function), level_below(level))
 }
 
-/// The definition of a function that the checker passed.
+/// Returns the definition of a function that the checker passed.
 #[inline(always)]
 pub fn definition_of(function: &Shared<CheckedFn>) -> &ScriptFuncDef
     ensures value { result.now ≡ function.now }
@@ -55,8 +55,8 @@ pub fn definition_of(function: &Shared<CheckedFn>) -> &ScriptFuncDef
     function.get().def()
 }
 
-/// A call of a function with variables of its own has ended: the caller's variables and `this` are there again, and
-/// the function is let go of.
+/// Ends a call of a function with variables of its own. The caller's variables and `this` are there again,
+/// and the function is let go of.
 #[inline(always)]
 pub fn end_fresh<H: Host>(run: &mut Context<H>, aside: Aside<H>, function: Function<H>)
     ensures { run.new ≡ record run.old { scope = aside.scope; this = aside.this } }
@@ -65,15 +65,15 @@ pub fn end_fresh<H: Host>(run: &mut Context<H>, aside: Aside<H>, function: Funct
     drop(function);
 }
 
-/// What a function that runs on its caller's variables gives back: how many variables there were, and the caller's
-/// `this`.
+/// What a function that runs on its caller's variables gives back: how many variables there were, and the
+/// caller's `this`.
 #[derive(Drop)]
 pub struct Captured<H> {
     pub length: usize,
     pub this: Option<Dynamic<H>>,
 }
 
-/// A function is to run on the variables of a run, without `this`.
+/// Takes `this` out of a run on whose variables a function is to run, and counts them.
 #[inline(always)]
 pub fn capture<H: Host>(run: &mut Context<H>) -> Captured<H>
     ensures captured { result ≡ record { length = length (entries_of run.old.scope); this = run.old.this } }
@@ -85,7 +85,7 @@ pub fn capture<H: Host>(run: &mut Context<H>) -> Captured<H>
     }
 }
 
-/// A call of a function that ran on its caller's variables has ended: its own go, and its caller's `this` is there
+/// Ends a call of a function that ran on its caller's variables. Its own go, and its caller's `this` is there
 /// again. The function is let go of.
 #[inline(always)]
 pub fn release<H: Host>(run: &mut Context<H>, captured: Captured<H>, function: Function<H>)

@@ -22,7 +22,7 @@ use rhai_tree::{Boxed, Shared, Text};
 use rhai_values::base::value::{Dynamic, EncapsulatedEnviron, Host};
 use std::alloc::{AllocError, Global};
 
-/// The name of the last library of a function's environment.
+/// Returns the name of the last library of a function's environment.
 fn library_name<H: Host>(environ: Option<&EncapsulatedEnviron<H>>) -> Option<&Shared<Text>>
     ensures { option_copied result ≡ last_library (option_copied environ.entry) }
 {
@@ -33,7 +33,8 @@ fn library_name<H: Host>(environ: Option<&EncapsulatedEnviron<H>>) -> Option<&Sh
     }
 }
 
-/// Where an error of a function comes from: a library by its name, else the state's source, else nowhere.
+/// Tells where an error of a function comes from: a library by its name, else the state's source, else
+/// nowhere.
 fn source_of<H: Host>(
     alloc: Global,
     global: &GlobalRuntimeState<H>,
@@ -51,7 +52,8 @@ fn source_of<H: Host>(
     }
 }
 
-/// An error of a body under the function's name and its source. Where there is no memory it is let go.
+/// Wraps an error of a body under the function's name and its source. Where memory runs out the error is let
+/// go.
 fn in_call<H: Host>(
     alloc: Global,
     global: &GlobalRuntimeState<H>,
@@ -74,8 +76,8 @@ fn in_call<H: Host>(
     )
 }
 
-/// What a body's end makes of an error that is no way out of it: one of the system stands at the call, and
-/// any other is wrapped.
+/// Ends a body by an error that is no way out of it. One of the system stands at the call, and any other is
+/// wrapped.
 fn left_by_error<H: Host>(
     alloc: Global,
     global: &GlobalRuntimeState<H>,
@@ -88,7 +90,7 @@ fn left_by_error<H: Host>(
         Ends def.now.name (option_copied environ.entry) global.now.source pos exit →
         is_out_of_memory result ≡ false → result ≡ left_by (is_system error) exit error }
     ensures at_once { is_system error ≡ true → result ≡ at_position pos error }
-    ensures wanting { is_out_of_memory result ≡ true → result ≡ variant.ErrorOutOfMemory pos }
+    ensures ran_out { is_out_of_memory result ≡ true → result ≡ variant.ErrorOutOfMemory pos }
 {
     let is_system = error.is_system_exception();
     if is_system {
@@ -101,8 +103,8 @@ fn left_by_error<H: Host>(
     }
 }
 
-/// What a body's end makes of an error: a `return` gives its value, an exit stands at the call, and so does
-/// what the end makes of any other.
+/// Ends a body by an error. A `return` gives its value, an exit stands at the call, and so does what the end
+/// makes of any other.
 fn returned<H: Host>(
     alloc: Global,
     global: &GlobalRuntimeState<H>,
@@ -116,7 +118,7 @@ fn returned<H: Host>(
         Answers result (returned_by exit error) }
     ensures at_once { (exit : machine.CallExit H) → exit.at ≡ pos → is_wrapped error ≡ false →
         result ≡ returned_by exit error }
-    ensures wanting { IfErr result (λ e. is_out_of_memory e ≡ true → e ≡ variant.ErrorOutOfMemory pos) }
+    ensures ran_out { IfErr result (λ e. is_out_of_memory e ≡ true → e ≡ variant.ErrorOutOfMemory pos) }
 {
     match error.way_out() {
         WayOut::Return(value, _) => Ok(value.into_inner()),
@@ -129,7 +131,7 @@ fn returned<H: Host>(
     }
 }
 
-/// A body is left, on every way out: the libraries and imports that it brought go, and the table of constants
+/// Leaves a body, on every way out. The libraries and imports that it brought go, and the table of constants
 /// and the level are its caller's again. Its value stays, and a `return` gives its own. Ports what upstream's
 /// `call_script_fn` does behind the body.
 ///
@@ -152,7 +154,7 @@ pub fn close_function<H: Host>(
     ensures value { IfOk outcome (λ value. result ≡ Ok value) }
     ensures at_once { IfErr outcome (λ e. (end : machine.CallExit H) → end.at ≡ pos →
         is_wrapped e ≡ false → result ≡ returned_by end e) }
-    ensures wanting { IfErr result (λ e. is_out_of_memory e ≡ true → e ≡ variant.ErrorOutOfMemory pos) }
+    ensures ran_out { IfErr result (λ e. is_out_of_memory e ≡ true → e ≡ variant.ErrorOutOfMemory pos) }
 {
     take_back(global, exit);
     match outcome {
@@ -161,7 +163,7 @@ pub fn close_function<H: Host>(
     }
 }
 
-/// A body is left that put what came of it into the run's places, where what comes of the call goes.
+/// Leaves a body that put what came of it into the run's places. What comes of the call goes there too.
 ///
 /// # Errors
 /// Those of `close_function`.
@@ -186,7 +188,7 @@ pub fn close_body<H: Host>(
     ensures at_once { done ≡ false → (end : machine.CallExit H) → end.at ≡ pos →
         is_wrapped (error_in place.old) ≡ false →
         came result out.new place.new ≡ returned_by end (error_in place.old) }
-    ensures wanting { result ≡ false → is_out_of_memory (error_in place.new) ≡ true →
+    ensures ran_out { result ≡ false → is_out_of_memory (error_in place.new) ≡ true →
         error_in place.new ≡ variant.ErrorOutOfMemory pos }
 {
     if done {

@@ -39,7 +39,7 @@ pub struct CallExit {
     pub level: usize,
 }
 
-/// What the end of a call will take back, as it stands now.
+/// Notes what the end of a call will take back, as it stands now.
 fn exit_now<H: Host>(global: &GlobalRuntimeState<H>, scope: &Scope<H>) -> CallExit
     ensures { result ≡ exit_seen global.now scope.now }
 {
@@ -52,7 +52,7 @@ fn exit_now<H: Host>(global: &GlobalRuntimeState<H>, scope: &Scope<H>) -> CallEx
     }
 }
 
-/// The statements of a function.
+/// Returns the statements of a function.
 pub fn statements_of(def: &ScriptFuncDef) -> &[Stmt]
     ensures { result.now ≡ statements_in def.now.body }
 {
@@ -61,14 +61,14 @@ pub fn statements_of(def: &ScriptFuncDef) -> &[Stmt]
     }
 }
 
-/// Whether a scope of so many variables has no room for so many parameters.
+/// Tells whether a scope of so many variables has no room for so many parameters.
 fn is_full(limits: &Limits, variables: usize, parameters: usize) -> bool
     ensures { result ≡ full_with limits.now variables parameters }
 {
     variables > limits.max_variables || parameters > limits.max_variables - variables
 }
 
-/// Whether a body may be entered: calls are only so deep, and the scope holds at most so many variables.
+/// Checks whether a body may be entered: calls are only so deep, and a scope has only so many variables.
 ///
 /// # Errors
 /// `ErrorStackOverflow` first, then `ErrorTooManyVariables`, both at the call.
@@ -90,7 +90,7 @@ fn may_enter<H: Host>(
     Ok(())
 }
 
-/// More libraries behind those that are there. Where memory runs out some may be there.
+/// Adds libraries behind those that are there. Where memory runs out some may have been added.
 fn add_libraries<H: Host>(
     lib: &mut Items<Shared<Module<H>>>,
     more: &[Shared<Module<H>>],
@@ -106,7 +106,7 @@ fn add_libraries<H: Host>(
     Ok(())
 }
 
-/// More imports behind those that are there. Where memory runs out some may be there.
+/// Adds imports behind those that are there. Where memory runs out some may have been added.
 fn add_imports<H: Host>(
     imports: &mut Items<Import<H>>,
     more: &[Import<H>],
@@ -125,7 +125,7 @@ fn add_imports<H: Host>(
     Ok(())
 }
 
-/// The environment of a function brings its imports and libraries, and its table of constants. Where memory
+/// Brings the imports and libraries of a function's environment, and its table of constants. Where memory
 /// runs out some may be there.
 fn bring<H: Host>(
     global: &mut GlobalRuntimeState<H>,
@@ -145,7 +145,8 @@ fn bring<H: Host>(
     Ok(())
 }
 
-/// The variables and the surroundings of a body, its level aside. Where memory runs out some may be there.
+/// Adds the variables and the surroundings of a body, its level aside. Where memory runs out some may be
+/// there.
 fn surround<H: Host>(
     global: &mut GlobalRuntimeState<H>,
     scope: &mut Scope<H>,
@@ -167,7 +168,7 @@ fn surround<H: Host>(
     push_parameters(scope, def.params.as_slice(), args)
 }
 
-/// Everything that a call has brought goes again.
+/// Takes back everything that a call has brought.
 #[inline(always)]
 pub fn take_back<H: Host>(global: &mut GlobalRuntimeState<H>, exit: CallExit)
     ensures state { global.new ≡ taken_back exit global.old }
@@ -179,10 +180,10 @@ pub fn take_back<H: Host>(global: &mut GlobalRuntimeState<H>, exit: CallExit)
     global.level = exit.level;
 }
 
-/// A body that is entered at a level, its call charged: the parameters are pushed as variables that may be
-/// written, each with its argument, of which `()` is left, or with `()` where there is none; and an environment
-/// brings its imports and libraries, and its table of constants. None for a body without statements, which
-/// takes nothing. Ports what upstream's `call_script_fn` does before the body.
+/// Enters a body at a level, its call charged. The parameters are pushed as variables that may be written,
+/// each with its argument, of which `()` is left, or with `()` where there is none; and an environment brings
+/// its imports and libraries, and its table of constants. None for a body without statements, which takes
+/// nothing. Ports what upstream's `call_script_fn` does before the body.
 ///
 /// # Errors
 /// All at the call: `ErrorStackOverflow`, then `ErrorTooManyVariables`. Scope and state are then as they
@@ -202,7 +203,7 @@ pub fn open_function<H: Host>(
         (length def.now.params) ≡ false) }
     ensures refused { IfErr result (λ e. is_out_of_memory e ≡ false → entry limits.now
         level (length (entries_of scope.old)) (length def.now.params) pos ≡ Err e) }
-    ensures wanting { IfErr result (λ e. is_out_of_memory e ≡ true → (e ≡ error.ErrorOutOfMemory pos)
+    ensures ran_out { IfErr result (λ e. is_out_of_memory e ≡ true → (e ≡ error.ErrorOutOfMemory pos)
         × (entry {H = H} limits.now level (length (entries_of scope.old))
         (length def.now.params) pos ≡ Ok tt)) }
     ensures exit { IfOk result (λ opened. IfSome opened (λ exit. exit ≡ exit_seen global.old scope.old)) }
@@ -238,8 +239,8 @@ pub fn open_function<H: Host>(
     }
 }
 
-/// Whether a function may be entered at a level, its call charged, whose parameters are its only variables. An error
-/// stands in the run's place.
+/// Checks whether a function may be entered at a level, its call charged. Its parameters are its only
+/// variables. An error stands in the run's place.
 ///
 /// # Errors
 /// Both at the call: `ErrorStackOverflow`, then `ErrorTooManyVariables`.
@@ -266,7 +267,7 @@ pub fn may_run<H: Host>(
     true
 }
 
-/// A function without an environment is entered at a level: its parameters are its only variables, and stand in
+/// Enters a function without an environment at a level. Its parameters are its only variables, and stand in
 /// their scope already. It tells what the end of the call takes back.
 #[inline(always)]
 pub fn enter_level<H: Host>(global: &mut GlobalRuntimeState<H>, level: usize) -> CallExit

@@ -1,4 +1,4 @@
--- The forms of the tree that the bench builds. A place is a column of the first line.
+-- The forms of the tree that a builder makes. Their positions are columns of the first line.
 use Rattle.std.specs.Prelude.{◌≡◌, ℕ, Bool, List, [], ◌∷◌, Option, Some, None, false, true, MatchOption}
 use Rattle.std.specs.declared.num.NonZeroUsize.{NonZeroUsize}
 use Rattle.std.specs.Int.NonZero.{non_zero_usize_get}

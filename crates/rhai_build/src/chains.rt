@@ -15,7 +15,7 @@ use rhai_tree::position::Position;
 use rhai_tree::{Boxed, Items};
 
 impl Builder {
-    /// A property, which stands behind a dot.
+    /// Builds a property, which stands behind a dot.
     pub fn property(&mut self, name: &str, column: u16) -> Expr
         requires { column ≢ 0 }
         ensures { Made self.old self.new (result ≡ expr.Property name.now (place 1 column)) }
@@ -26,7 +26,7 @@ impl Builder {
         }
     }
 
-    /// A method, which stands behind a dot.
+    /// Builds a method, which stands behind a dot.
     pub fn method<const N: usize>(&mut self, name: &str, column: u16, args: [Expr; N]) -> Expr
         requires { column ≢ 0 }
         ensures { Made self.old self.new (result ≡ method_at unqualified name.now column args.entry) }
@@ -35,8 +35,8 @@ impl Builder {
         self.method_within(no_namespace(self.alloc), name, column, args)
     }
 
-    /// A method without arguments, with the name of a module in front of its own, which no chain may
-    /// have.
+    /// Builds a method without arguments, with the name of a module in front of its own. No chain
+    /// may have one.
     pub fn qualified_method(&mut self, root: &str, name: &str, column: u16) -> Expr
         requires { column ≢ 0 }
         ensures { Made self.old self.new (result ≡ method_at (module_of root.now) name.now column []) }
@@ -70,7 +70,7 @@ impl Builder {
         }
     }
 
-    /// The path to a module.
+    /// Builds the path to a module.
     fn namespace(&mut self, root: &str) -> Namespace
         ensures { Made self.old self.new (result ≡ module_of root.now) }
     {
@@ -84,8 +84,8 @@ impl Builder {
         }
     }
 
-    /// A dot between an object and a property, a method, or one of them from which the chain goes
-    /// on.
+    /// Builds a dot between an expression and the rest of a chain. This is a property, a method, or
+    /// one of them from which the chain goes on.
     pub fn dot(&mut self, object: Expr, column: u16, rest: Expr) -> Expr
         requires { column ≢ 0 }
         ensures { Made self.old self.new (result ≡ expr.Dot object rest no_options (place 1 column)) }
@@ -93,7 +93,7 @@ impl Builder {
         self.dot_with(object, column, rest, ASTFlags::empty())
     }
 
-    /// A dot at which the chain ends where the object is `()`.
+    /// Builds a dot at which the chain ends where what stands in front of it is `()`.
     pub fn dot_unless_unit(&mut self, object: Expr, column: u16, rest: Expr) -> Expr
         requires { column ≢ 0 }
         ensures { Made self.old self.new (result ≡ expr.Dot object rest negated_option (place 1 column)) }
@@ -101,7 +101,7 @@ impl Builder {
         self.dot_with(object, column, rest, ASTFlags::NEGATED)
     }
 
-    /// An object at an index, where the chain ends.
+    /// Builds an index into an expression, where the chain ends.
     pub fn index(&mut self, object: Expr, column: u16, index: Expr) -> Expr
         requires { column ≢ 0 }
         ensures { Made self.old self.new (result ≡ expr.Index object index end_option (place 1 column)) }
@@ -109,8 +109,8 @@ impl Builder {
         self.index_with(object, column, index, ASTFlags::BREAK)
     }
 
-    /// An object at an index from which the chain goes on. The rest has the index in front of its
-    /// own dot or bracket.
+    /// Builds an index into an expression, from which the chain goes on. The rest has the index in
+    /// front of its own dot or bracket.
     pub fn index_on(&mut self, object: Expr, column: u16, rest: Expr) -> Expr
         requires { column ≢ 0 }
         ensures { Made self.old self.new (result ≡ expr.Index object rest no_options (place 1 column)) }
@@ -118,7 +118,7 @@ impl Builder {
         self.index_with(object, column, rest, ASTFlags::empty())
     }
 
-    /// A dot with options of its own.
+    /// Builds a dot with options of its own.
     pub fn dot_with(&mut self, object: Expr, column: u16, rest: Expr, options: ASTFlags) -> Expr
         requires { column ≢ 0 }
         ensures { Made self.old self.new (result ≡ expr.Dot object rest options (place 1 column)) }
@@ -139,7 +139,7 @@ impl Builder {
         Expr::Index(object, rest, options, at(column))
     }
 
-    /// An expression behind a pointer of its own, None where there was no memory for it.
+    /// Puts an expression behind a pointer of its own, None where memory ran out.
     fn boxed(&mut self, expr: Expr) -> Option<Boxed<Expr>>
         ensures { MatchOption result (self.new.has_memory ≡ false)
             (λ made. (made ≡ expr) × (self.new.has_memory ≡ self.old.has_memory)) }

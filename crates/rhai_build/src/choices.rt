@@ -14,7 +14,7 @@ use rhai_tree::flags::ASTFlags;
 use rhai_tree::literal::Literal;
 use rhai_tree::position::Position;
 
-/// A result of a `switch` under a condition.
+/// Builds a result of a `switch` under a condition.
 pub fn result_if(condition: Expr, value: Expr) -> ConditionalExpr
     ensures { result ≡ result_under condition value }
 {
@@ -24,14 +24,14 @@ pub fn result_if(condition: Expr, value: Expr) -> ConditionalExpr
     }
 }
 
-/// A result of a `switch` without a condition.
+/// Builds a result of a `switch` without a condition.
 pub fn result_always(value: Expr) -> ConditionalExpr
     ensures { result ≡ result_under (expr.BoolConstant true nowhere) value }
 {
     result_if(Expr::BoolConstant(true, Position::NONE), value)
 }
 
-/// A `try` without a catch variable.
+/// Builds a `try` without a catch variable.
 pub fn try_stmt(body: StmtBlock, branch: StmtBlock, column: u16) -> Stmt
     requires { column ≢ 0 }
     ensures { result ≡ stmt.TryCatch body (expr.Unit nowhere) branch (place 1 column) }
@@ -39,7 +39,7 @@ pub fn try_stmt(body: StmtBlock, branch: StmtBlock, column: u16) -> Stmt
     Stmt::TryCatch(body, Expr::Unit(Position::NONE), branch, at(column))
 }
 
-/// A `try` with a catch variable.
+/// Builds a `try` with a catch variable.
 pub fn try_catching(body: StmtBlock, caught: Expr, branch: StmtBlock, column: u16) -> Stmt
     requires { column ≢ 0 }
     ensures { result ≡ stmt.TryCatch body caught branch (place 1 column) }
@@ -47,7 +47,7 @@ pub fn try_catching(body: StmtBlock, caught: Expr, branch: StmtBlock, column: u1
     Stmt::TryCatch(body, caught, branch, at(column))
 }
 
-/// A `throw`, with its value if it has one.
+/// Builds a `throw`, with its value if it has one.
 pub fn throw_stmt(value: Option<Expr>, column: u16) -> Stmt
     requires { column ≢ 0 }
     ensures { result ≡ stmt.Return value break_option (place 1 column) }
@@ -56,7 +56,7 @@ pub fn throw_stmt(value: Option<Expr>, column: u16) -> Stmt
 }
 
 impl Builder {
-    /// A text as the value of a case.
+    /// Makes a text the value of a case.
     pub fn text_case(&mut self, text: &str) -> Literal
         ensures { Made self.old self.new (result ≡ Literal.Str text.now) }
     {
@@ -66,7 +66,7 @@ impl Builder {
         }
     }
 
-    /// A case of a `switch`: a value, and the numbers of its results, counted from 0.
+    /// Builds a case of a `switch`: a value, and the numbers of its results, counted from 0.
     pub fn case<const N: usize>(&mut self, value: Literal, results: [usize; N]) -> SwitchCase
         ensures { Made self.old self.new (result ≡ case_of value results.entry) }
     {
@@ -76,7 +76,7 @@ impl Builder {
         }
     }
 
-    /// A `switch`, with the number of its default if it has one.
+    /// Builds a `switch`, with the number of its default if it has one.
     pub fn switch_stmt<const N: usize, const M: usize, const K: usize>(
         &mut self,
         value: Expr,
@@ -100,7 +100,7 @@ impl Builder {
         }
     }
 
-    /// A `for`, whose variable stands at a column of its own.
+    /// Builds a `for`, whose variable stands at a column of its own.
     pub fn for_stmt(
         &mut self,
         name: &str,
@@ -126,7 +126,7 @@ impl Builder {
         }
     }
 
-    /// A `for` with a counter, which stands at a column of its own as its variable does.
+    /// Builds a `for` with a counter, which stands at a column of its own as its variable does.
     pub fn for_counted(
         &mut self,
         name: &str,

@@ -15,7 +15,7 @@ use rhai_tree::{Items, Table};
 use std::alloc::Global;
 use std::num::NonZeroUsize;
 
-/// An integer.
+/// Builds an integer.
 pub fn int(value: i64, column: u16) -> Expr
     requires { column ≢ 0 }
     ensures { result ≡ expr.IntegerConstant value (place 1 column) }
@@ -23,7 +23,7 @@ pub fn int(value: i64, column: u16) -> Expr
     Expr::IntegerConstant(value, at(column))
 }
 
-/// A truth value.
+/// Builds a truth value.
 pub fn truth(value: bool, column: u16) -> Expr
     requires { column ≢ 0 }
     ensures { result ≡ expr.BoolConstant value (place 1 column) }
@@ -31,7 +31,7 @@ pub fn truth(value: bool, column: u16) -> Expr
     Expr::BoolConstant(value, at(column))
 }
 
-/// A character.
+/// Builds a character.
 pub fn character(value: char, column: u16) -> Expr
     requires { column ≢ 0 }
     ensures { result ≡ expr.CharConstant value (place 1 column) }
@@ -39,7 +39,7 @@ pub fn character(value: char, column: u16) -> Expr
     Expr::CharConstant(value, at(column))
 }
 
-/// The value `()`.
+/// Builds the value `()`.
 pub fn unit(column: u16) -> Expr
     requires { column ≢ 0 }
     ensures { result ≡ expr.Unit (place 1 column) }
@@ -47,7 +47,7 @@ pub fn unit(column: u16) -> Expr
     Expr::Unit(at(column))
 }
 
-/// `this`.
+/// Builds `this`.
 pub fn this(column: u16) -> Expr
     requires { column ≢ 0 }
     ensures { result ≡ expr.ThisPtr (place 1 column) }
@@ -55,7 +55,7 @@ pub fn this(column: u16) -> Expr
     Expr::ThisPtr(at(column))
 }
 
-/// The entries of a map, and the template that holds their keys.
+/// The entries of a map, and the template that has their keys.
 #[derive(Drop)]
 pub struct MapParts {
     pub entries: Items<MapEntry>,
@@ -63,7 +63,7 @@ pub struct MapParts {
 }
 
 impl MapParts {
-    /// No entries.
+    /// Begins a map without entries.
     pub fn new(alloc: Global) -> MapParts
         ensures entries { result.entries ≡ [] }
         ensures template { result.template ≡ ([], []) }
@@ -74,7 +74,7 @@ impl MapParts {
         }
     }
 
-    /// The map.
+    /// Builds the map.
     pub fn map(self, column: u16) -> Expr
         requires { column ≢ 0 }
         ensures { result ≡ expr.Map self.entries self.template (place 1 column) }
@@ -85,8 +85,8 @@ impl MapParts {
 }
 
 impl Builder {
-    /// A variable. Its offset counts from the end of the scope; zero is none, and the name is
-    /// searched.
+    /// Builds a variable. Its offset counts from the end of the scope; zero is none, and the name
+    /// is searched.
     pub fn variable(&mut self, name: &str, offset: usize, column: u16) -> Expr
         requires { column ≢ 0 }
         ensures { Made self.old self.new (IsVariable name.now offset column result) }
@@ -102,7 +102,7 @@ impl Builder {
         }
     }
 
-    /// A text.
+    /// Builds a text.
     pub fn text(&mut self, text: &str, column: u16) -> Expr
         requires { column ≢ 0 }
         ensures { Made self.old self.new (result ≡ expr.StringConstant text.now (place 1 column)) }
@@ -113,7 +113,7 @@ impl Builder {
         }
     }
 
-    /// A text with the values of expressions in it.
+    /// Builds a text with the values of expressions in it.
     pub fn interpolated<const N: usize>(&mut self, column: u16, parts: [Expr; N]) -> Expr
         requires { column ≢ 0 }
         ensures { Made self.old self.new (result ≡ expr.InterpolatedString parts.entry (place 1 column)) }
@@ -121,7 +121,7 @@ impl Builder {
         Expr::InterpolatedString(self.list(parts), at(column))
     }
 
-    /// An array.
+    /// Builds an array.
     pub fn array<const N: usize>(&mut self, column: u16, items: [Expr; N]) -> Expr
         requires { column ≢ 0 }
         ensures { Made self.old self.new (result ≡ expr.Array items.entry (place 1 column)) }
@@ -146,7 +146,7 @@ impl Builder {
         }
     }
 
-    /// A call that was written as an operator.
+    /// Builds a call that was written as an operator.
     pub fn operator<const N: usize>(
         &mut self,
         token: Token,
@@ -173,7 +173,7 @@ impl Builder {
         }
     }
 
-    /// A call of a function by its name.
+    /// Builds a call of a function by its name.
     pub fn call<const N: usize>(&mut self, name: &str, column: u16, args: [Expr; N]) -> Expr
         requires { column ≢ 0 }
         ensures { Made self.old self.new (result ≡ call_at name.now column false args.entry) }
@@ -182,7 +182,7 @@ impl Builder {
         self.call_with(name, column, args, false)
     }
 
-    /// A call of a function by its name, which runs on the caller's variables.
+    /// Builds a call of a function by its name, which runs on the caller's variables.
     pub fn capturing_call<const N: usize>(
         &mut self,
         name: &str,
@@ -221,7 +221,7 @@ impl Builder {
         }
     }
 
-    /// Operands of `&&`.
+    /// Joins operands by `&&`.
     pub fn and<const N: usize>(&mut self, column: u16, parts: [Expr; N]) -> Expr
         requires { column ≢ 0 }
         ensures { Made self.old self.new (result ≡ expr.And parts.entry (place 1 column)) }
@@ -229,7 +229,7 @@ impl Builder {
         Expr::And(self.list(parts), at(column))
     }
 
-    /// Operands of `||`.
+    /// Joins operands by `||`.
     pub fn or<const N: usize>(&mut self, column: u16, parts: [Expr; N]) -> Expr
         requires { column ≢ 0 }
         ensures { Made self.old self.new (result ≡ expr.Or parts.entry (place 1 column)) }
@@ -237,7 +237,7 @@ impl Builder {
         Expr::Or(self.list(parts), at(column))
     }
 
-    /// Operands of `??`.
+    /// Joins operands by `??`.
     pub fn coalesce<const N: usize>(&mut self, column: u16, parts: [Expr; N]) -> Expr
         requires { column ≢ 0 }
         ensures { Made self.old self.new (result ≡ expr.Coalesce parts.entry (place 1 column)) }

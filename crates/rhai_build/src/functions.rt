@@ -18,7 +18,8 @@ pub struct TreeParts {
     pub functions: Items<ScriptFuncDef>,
 }
 
-/// A function with a name, with parameters, and perhaps with the type that its `this` must have.
+/// Builds a function with a name, with parameters, and perhaps with the type that its `this` must
+/// have.
 pub fn script_function(
     alloc: Global,
     access: FnAccess,
@@ -45,7 +46,7 @@ pub fn script_function(
     })
 }
 
-/// Shared copies of names.
+/// Makes shared copies of names.
 fn shared_names(alloc: Global, names: &[&str]) -> Result<Items<Shared<Text>>, AllocError>
     ensures { IfOk result (λ made. made ≡ map (λ n. n.now) names.now) }
 {
@@ -66,7 +67,7 @@ impl Builder {
     }
 
     /// Adds a function that is called on values of a type alone.
-    pub fn function_on(&mut self, this_type: &str, name: &str, params: &[&str], body: StmtBlock)
+    pub fn define_on(&mut self, this_type: &str, name: &str, params: &[&str], body: StmtBlock)
         ensures { Made self.old self.new (self.new.functions ≡ self.old.functions
             ++ function_of Public (Some this_type.now) name.now (map (λ p. p.now) params.now) body ∷ []) }
     {
@@ -93,8 +94,8 @@ impl Builder {
         }
     }
 
-    /// The statements of a tree with the functions that were added, or want of memory for them or for one of
-    /// their parts.
+    /// Finishes a tree and answers its statements and the functions that were added. It fails where
+    /// memory ran out for them or for one of their parts.
     pub fn finish_with_functions<const N: usize>(
         self,
         statements: [Stmt; N],

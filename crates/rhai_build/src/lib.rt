@@ -19,7 +19,7 @@ pub mod functions;
 pub mod sharing;
 pub mod statements;
 
-/// The place at a column.
+/// Makes the position at a column of the first line.
 pub fn at(column: u16) -> Position
     requires { column ≢ 0 }
     ensures { result ≡ place 1 column }
@@ -27,7 +27,7 @@ pub fn at(column: u16) -> Position
     Position::new(1, column)
 }
 
-/// The namespace of a name without one.
+/// Makes the namespace of a name without one.
 pub fn no_namespace(alloc: Global) -> Namespace
     ensures { result ≡ unqualified }
 {
@@ -38,22 +38,22 @@ pub fn no_namespace(alloc: Global) -> Namespace
     }
 }
 
-/// A shared copy of a text.
+/// Makes a shared copy of a text.
 fn shared(alloc: Global, text: &str) -> Result<Shared<Text>, AllocError>
     ensures { IfOk result (λ t. t ≡ text.now) }
 {
     Shared::new(alloc, Text::from_str(alloc, text)?)
 }
 
-/// A list of the items given.
+/// Makes a list of the items given.
 pub fn list<T: Drop, const N: usize>(alloc: Global, items: [T; N]) -> Result<Items<T>, AllocError>
     ensures { IfOk result (λ it. it ≡ items) }
 {
     Ok(Items::from_vec(Vec::from_array(alloc, items)?))
 }
 
-/// Makes the parts of a tree. Where memory runs out it goes on, with forms in the place of those
-/// that could not be made, and `finish` answers the want of memory.
+/// Makes the parts of a tree. Where memory runs out it goes on, with other forms instead of those
+/// that could not be made, and `finish` answers that memory ran out.
 #[derive(Drop)]
 pub struct Builder {
     alloc: Global,
@@ -63,7 +63,7 @@ pub struct Builder {
 }
 
 impl Builder {
-    /// A builder that has made nothing.
+    /// Makes a builder that has made nothing.
     pub fn new(alloc: Global) -> Builder
         ensures fed { result.has_memory ≡ true }
         ensures functions { result.functions ≡ [] }
@@ -75,7 +75,8 @@ impl Builder {
         }
     }
 
-    /// The statements of a tree without functions, or want of memory for them or for one of their parts.
+    /// Finishes a tree without functions and answers its statements. It fails where memory ran out
+    /// for them or for one of their parts.
     pub fn finish<const N: usize>(
         mut self,
         statements: [Stmt; N],
@@ -91,7 +92,7 @@ impl Builder {
         }
     }
 
-    /// A list of the items given.
+    /// Makes a list of the items given.
     fn list<T: Drop, const N: usize>(&mut self, items: [T; N]) -> Items<T>
         ensures { Made self.old self.new (result ≡ items) }
     {
@@ -104,7 +105,7 @@ impl Builder {
         }
     }
 
-    /// A name at a column, None where there was no memory for it.
+    /// Makes a name at a column, None where memory ran out.
     fn ident(&mut self, name: &str, column: u16) -> Option<Ident>
         requires { column ≢ 0 }
         ensures { MatchOption result (self.new.has_memory ≡ false)
@@ -119,7 +120,7 @@ impl Builder {
         }
     }
 
-    /// A shared copy of a name, None where there was no memory for it.
+    /// Makes a shared copy of a name, None where memory ran out.
     fn name(&mut self, name: &str) -> Option<Shared<Text>>
         ensures { MatchOption result (self.new.has_memory ≡ false)
             (λ text. (text ≡ name.now) × (self.new.has_memory ≡ self.old.has_memory)) }

@@ -13,8 +13,8 @@ use rhai_tree::literal::{Literal, LiteralFnPtr, LiteralFnPtrKind};
 use std::num::NonZeroUsize;
 
 impl Builder {
-    /// The statement that shares a variable. Its offset counts from the end of the scope; zero is none, and the
-    /// name is searched.
+    /// Builds the statement that shares a variable. Its offset counts from the end of the scope;
+    /// zero is none, and the name is searched.
     pub fn share(&mut self, name: &str, offset: usize, column: u16) -> Stmt
         requires { column ≢ 0 }
         ensures { Made self.old self.new ((v : SharedVariable) × IsSharedVariable name.now offset column v
@@ -48,7 +48,7 @@ impl Builder {
         }
     }
 
-    /// A constant pointer to the function of a name with so many parameters.
+    /// Builds a constant pointer to the function of a name with so many parameters.
     pub fn pointer(&mut self, name: &str, count: usize, column: u16) -> Expr
         requires { column ≢ 0 }
         ensures { Made self.old self.new (result ≡ pointer_at name.now count column) }

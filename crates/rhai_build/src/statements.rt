@@ -17,7 +17,7 @@ use rhai_tree::token::Token;
 use std::alloc::Global;
 
 impl Builder {
-    /// Statements between two braces.
+    /// Builds a block of statements between two braces.
     pub fn block<const N: usize>(
         &mut self,
         statements: [Stmt; N],
@@ -35,7 +35,7 @@ impl Builder {
         }
     }
 
-    /// A declaration of a variable, whose name stands at a column of its own.
+    /// Builds a declaration of a variable, whose name stands at a column of its own.
     pub fn let_stmt(&mut self, name: &str, at_name: u16, value: Expr, column: u16) -> Stmt
         requires at_name { at_name ≢ 0 }
         requires column { column ≢ 0 }
@@ -45,7 +45,7 @@ impl Builder {
         self.declaration(name, at_name, value, ASTFlags::empty(), column)
     }
 
-    /// A declaration of a constant, whose name stands at a column of its own.
+    /// Builds a declaration of a constant, whose name stands at a column of its own.
     pub fn const_stmt(&mut self, name: &str, at_name: u16, value: Expr, column: u16) -> Stmt
         requires at_name { at_name ≢ 0 }
         requires column { column ≢ 0 }
@@ -75,7 +75,7 @@ impl Builder {
     }
 }
 
-/// A block that the text does not have.
+/// Makes a block that the text does not have.
 pub fn no_block(alloc: Global) -> StmtBlock
     ensures { result ≡ absent_block }
 {
@@ -86,7 +86,7 @@ pub fn no_block(alloc: Global) -> StmtBlock
     }
 }
 
-/// An assignment, by an operator where there is one.
+/// Builds an assignment, by an operator where there is one.
 pub fn assign(op: Option<Token>, column: u16, left: Expr, right: Expr) -> Stmt
     requires { column ≢ 0 }
     ensures { result ≡ stmt.Assignment (assigned_by op column) left right }
@@ -95,7 +95,7 @@ pub fn assign(op: Option<Token>, column: u16, left: Expr, right: Expr) -> Stmt
     Stmt::Assignment(OpAssignment { op, position }, left, right)
 }
 
-/// An `if`. Where the text has no `else`, its branch is `no_block`.
+/// Builds an `if`. Where the text has no `else`, its branch is `no_block`.
 pub fn if_stmt(condition: Expr, body: StmtBlock, branch: StmtBlock, column: u16) -> Stmt
     requires { column ≢ 0 }
     ensures { result ≡ stmt.If condition body branch (place 1 column) }
@@ -103,7 +103,7 @@ pub fn if_stmt(condition: Expr, body: StmtBlock, branch: StmtBlock, column: u16)
     Stmt::If(condition, body, branch, at(column))
 }
 
-/// A `while`.
+/// Builds a `while`.
 pub fn while_stmt(condition: Expr, body: StmtBlock, column: u16) -> Stmt
     requires { column ≢ 0 }
     ensures { result ≡ stmt.While condition body (place 1 column) }
@@ -111,7 +111,7 @@ pub fn while_stmt(condition: Expr, body: StmtBlock, column: u16) -> Stmt
     Stmt::While(condition, body, at(column))
 }
 
-/// A `loop`, which has no condition.
+/// Builds a `loop`, which has no condition.
 pub fn loop_stmt(body: StmtBlock, column: u16) -> Stmt
     requires { column ≢ 0 }
     ensures { result ≡ stmt.While (expr.Unit nowhere) body (place 1 column) }
@@ -119,7 +119,7 @@ pub fn loop_stmt(body: StmtBlock, column: u16) -> Stmt
     Stmt::While(Expr::Unit(Position::NONE), body, at(column))
 }
 
-/// A `do` with a `while` after its body.
+/// Builds a `do` with a `while` after its body.
 pub fn do_while(body: StmtBlock, condition: Expr, column: u16) -> Stmt
     requires { column ≢ 0 }
     ensures { result ≡ stmt.Do condition body no_options (place 1 column) }
@@ -127,7 +127,7 @@ pub fn do_while(body: StmtBlock, condition: Expr, column: u16) -> Stmt
     Stmt::Do(condition, body, ASTFlags::empty(), at(column))
 }
 
-/// A `do` with an `until` after its body.
+/// Builds a `do` with an `until` after its body.
 pub fn do_until(body: StmtBlock, condition: Expr, column: u16) -> Stmt
     requires { column ≢ 0 }
     ensures { result ≡ stmt.Do condition body negated_option (place 1 column) }
@@ -135,7 +135,7 @@ pub fn do_until(body: StmtBlock, condition: Expr, column: u16) -> Stmt
     Stmt::Do(condition, body, ASTFlags::NEGATED, at(column))
 }
 
-/// A `break`, with its value if it has one.
+/// Builds a `break`, with its value if it has one.
 pub fn break_stmt(value: Option<Expr>, column: u16) -> Stmt
     requires { column ≢ 0 }
     ensures { result ≡ stmt.BreakLoop value break_option (place 1 column) }
@@ -143,7 +143,7 @@ pub fn break_stmt(value: Option<Expr>, column: u16) -> Stmt
     Stmt::BreakLoop(value, ASTFlags::BREAK, at(column))
 }
 
-/// A `continue`.
+/// Builds a `continue`.
 pub fn continue_stmt(column: u16) -> Stmt
     requires { column ≢ 0 }
     ensures { result ≡ stmt.BreakLoop None no_options (place 1 column) }
@@ -151,7 +151,7 @@ pub fn continue_stmt(column: u16) -> Stmt
     Stmt::BreakLoop(None, ASTFlags::empty(), at(column))
 }
 
-/// A `return`, with its value if it has one.
+/// Builds a `return`, with its value if it has one.
 pub fn return_stmt(value: Option<Expr>, column: u16) -> Stmt
     requires { column ≢ 0 }
     ensures { result ≡ stmt.Return value no_options (place 1 column) }

@@ -1,5 +1,6 @@
 -- A call by name whose arguments are there.
-use Rattle.std.proofs.Common.{arith, sym, ◌≡◌, ◌+◌, ◌-◌, suc, ℕ, Bool, true, false, List, [], ◌∷◌, Option, Some, None, Result, Err, refl, ap, ◌∙◌}
+use Rattle.std.proofs.Common.{arith, sym, ◌≡◌, ◌+◌, ◌-◌, suc, ℕ, Bool, true, false, List, [], ◌∷◌, Option, Some, None, Result, Err, refl}
+use Rattle.std.proofs.Common.{ap, ◌∙◌}
 use Rattle.std.specs.Prelude.{ℤ, pos, ◌&&◌, codes, if◌then◌else◌, IfOk, Ok}
 use Rattle.std.specs.Str.{bytes_eq}
 use Rattle.rhai_tree.specs.declared.position.Position.{Position}
@@ -10,27 +11,28 @@ use Rattle.rhai_state.specs.declared.error.EvalAltResult.{EvalAltResult}
 use Rattle.rhai_state.specs.declared.error.EvalAltResult.TheVariants as error
 use Rattle.rhai_state.specs.Errors.{is_out_of_memory}
 use Rattle.rhai_functions.specs.declared.function.Function.{Function}
-use Rattle.rhai_machine.specs.machine.Memory.{here, wanting}
+use Rattle.rhai_machine.specs.machine.Memory.{here, out_before_step}
 use Rattle.rhai_machine.specs.language.Setting.{Setting, Rules}
 use Rattle.rhai_machine.specs.language.State.{State, Local}
 use Rattle.rhai_machine.specs.language.Values.{bool_value, through}
 use Rattle.rhai_machine.specs.language.Variables.{no_path}
-use Rattle.rhai_machine.specs.language.Frames.{Operation, Dispatch, Call, Frame, Core, core, ended, marked, Ask, Back, Fail}
+use Rattle.rhai_machine.specs.language.Frames.{Operation, Dispatch, Call, Frame, Core, core, ended, ended_or_changed, Ask, Back, Fail}
 use Rattle.rhai_machine.specs.language.Calls.{asks_function, by_name_core, call_of, called_core, called_function, dispatch_core, found_core}
 use Rattle.rhai_machine.specs.language.Calls.{knows_asked, knows_function, named_core, names_function, plainly, call_races}
 use Rattle.rhai_machine.specs.language.Runs.{at, with_core, Goes, Steps}
-use Rattle.rhai_steps.proofs.Operating.{dispatch_wants}
+use Rattle.rhai_steps.proofs.Operating.{dispatch_runs_out}
 use Rattle.rhai_steps.proofs.Pieces.{faulted, told}
 use Rattle.rhai_calls.specs.declared.dispatch.Dispatched.TheVariants.{Ended, Found}
 use Rattle.rhai_calls.specs.declared.dispatch.Seeks.{Seeks}
 use Rattle.rhai_calls.specs.Called as called
 use Rattle.rhai_calls.specs.Called.{Calls, Enters}
-use Rattle.rhai_calls.specs.Dispatch.{how_of, knows, meant, number_of, script_function, seen_number, seen_text, text_of, told_of, Dispatches, IfEnded}
+use Rattle.rhai_calls.specs.Dispatch.{how_of, knows, meant, number_of, script_function, seen_number, seen_text, text_of, told_of}
+use Rattle.rhai_calls.specs.Dispatch.{Dispatches, IfEnded}
 use Rattle.rhai_calls.specs.Dispatch.{Means}
-use Rattle.rhai_calls.specs.Marks.{with_mark, without_mark, MarkedRuns}
-use Rattle.rhai_calls.proofs.NativeCalls.{plain_ends, plain_mark}
+use Rattle.rhai_calls.specs.ToldChanges.{with_changed, without_changed, MarkedRuns}
+use Rattle.rhai_calls.proofs.NativeCalls.{plain_ends, plain_changed}
 
--- a method's arguments without its object, and a call's with its first
+-- a method's arguments without its focus, and a call's with its first
 pub less_one : (n : ℕ) → suc n - 1 ≡ n
 less_one n = omega arith
 
@@ -104,16 +106,16 @@ module _ {H : Type 0} where
       (through l.around.cells v call.operation.at) (through l.around.cells w call.operation.at)
   named_is s how (v ∷ w ∷ u ∷ args) call k l = refl
 
-  -- what a name means is not marked
-  pub unmarks_meant : (marks : Bool) (r : Result (Dynamic H) (EvalAltResult H)) (q : Result (Dynamic H × Bool) (EvalAltResult H)) →
-      q ≡ with_mark false r → IfOk q (λ answer. marks ≡ false → answer.1 ≡ false)
-  unmarks_meant marks r q is = rw is (plain_mark marks false r (λ _. refl))
+  -- what a name means changes no argument
+  pub untold_meant : (marks : Bool) (r : Result (Dynamic H) (EvalAltResult H)) (q : Result (Dynamic H × Bool) (EvalAltResult H)) →
+      q ≡ with_changed false r → IfOk q (λ answer. marks ≡ false → answer.1 ≡ false)
+  untold_meant marks r q is = rw is (plain_changed marks false r (λ _. refl))
 
   -- what holds of an answer holds of a call that ended with it
-  pub ended_unmarked : (marks : Bool) (q : Result (Dynamic H × Bool) (EvalAltResult H)) →
+  pub ended_untold : (marks : Bool) (q : Result (Dynamic H × Bool) (EvalAltResult H)) →
       IfOk q (λ answer. marks ≡ false → answer.1 ≡ false) → IfEnded (Ended q) (λ answer. marks ≡ false → answer.1 ≡ false)
-  ended_unmarked marks (Ok v) h = h
-  ended_unmarked marks (Err e) h = tt
+  ended_untold marks (Ok v) h = h
+  ended_untold marks (Err e) h = tt
 
   of_ended : (r : Result (Dynamic H × Bool) (EvalAltResult H)) → IfEnded (Ended r) (λ answer. false ≡ false → answer.1 ≡ false) →
       IfOk r (λ answer. false ≡ false → answer.1 ≡ false)
@@ -135,15 +137,15 @@ module _ {H : Type 0} where
 
 module _ {S H : Type 0} (rules : Rules S H) (how : Dispatch) (call : Call H) (s : State S H) where
   -- memory runs out before a call is dispatched
-  pub calls_want : (at : Position) → Calls rules how call s (called.Ended (Err (error.ErrorOutOfMemory at))) s
+  pub calls_run_out : (at : Position) → Calls rules how call s (called.Ended (Err (error.ErrorOutOfMemory at))) s
   unfolding Calls
-  calls_want at k =
-      wanting {at = at} (rw (dispatch_wants rules.setting how call k s.local at) here)
+  calls_run_out at k =
+      out_before_step {at = at} (rw (dispatch_runs_out rules.setting how call k s.local at) here)
 
-  -- what a name means is not marked
-  not_marked : (r : Result (Dynamic H) (EvalAltResult H)) → marked (with_mark false r) ≡ ended r
-  not_marked (Ok v) = refl
-  not_marked (Err e) = refl
+  -- what a name means changes no argument
+  meant_changes_none : (r : Result (Dynamic H) (EvalAltResult H)) → ended_or_changed (with_changed false r) ≡ ended r
+  meant_changes_none (Ok v) = refl
+  meant_changes_none (Err e) = refl
 
   means_one : (o : Option (Result (Dynamic H) (EvalAltResult H))) (r : Result (Dynamic H) (EvalAltResult H)) → Means (Some r) o →
       (c : Core H) (k : List (Frame H)) → Goes rules (with_core (leads_to k s.local o c) s) (at (ended r) k s)
@@ -166,28 +168,30 @@ module _ {S H : Type 0} (rules : Rules S H) (seeks : Seeks) (on_scope : Bool) (c
       (faulted rules e (error.ErrorDataRace call.operation.name call.operation.at) race_told k s)
 
   -- a call that fails, or that has no memory
-  pub resolved_fails : (e : EvalAltResult H) → (is_out_of_memory e ≡ false → (call_races seeks.of_method s.local.around.cells call.args ≡ true)
+  pub resolved_fails : (e : EvalAltResult H) → (is_out_of_memory e ≡ false →
+      (call_races seeks.of_method s.local.around.cells call.args ≡ true)
       × (e ≡ error.ErrorDataRace call.operation.name call.operation.at)) → Dispatches rules (how_of seeks on_scope) call s (Ended (Err e)) s
   unfolding Dispatches
-  resolved_fails (error.ErrorOutOfMemory at) h k = wanting {at = at}
-      (rw (dispatch_wants rules.setting (how_of seeks on_scope) call k s.local at) here)
+  resolved_fails (error.ErrorOutOfMemory at) h k = out_before_step {at = at}
+      (rw (dispatch_runs_out rules.setting (how_of seeks on_scope) call k s.local at) here)
   resolved_fails e h k = dispatch_held (h refl).0 e (λ m. (h refl).1) k
 
   -- one whose name means no function
   pub resolved_means : (r : Result (Dynamic H) (EvalAltResult H)) (q : Result (Dynamic H × Bool) (EvalAltResult H)) →
-      q ≡ with_mark false r → (call_races seeks.of_method s.local.around.cells call.args ≡ false) × Means (Some r) meaning →
+      q ≡ with_changed false r → (call_races seeks.of_method s.local.around.cells call.args ≡ false) × Means (Some r) meaning →
       Dispatches rules (how_of seeks on_scope) call s (Ended q) s
   unfolding Dispatches
   resolved_means r q is h k =
       let how : Dispatch = how_of seeks on_scope in
-      rw (is, not_marked rules how call s r, name_is rules.setting how call k s.local h.0) (means_one rules how call s _ r h.1 _ k)
+      rw (is, meant_changes_none rules how call s r, name_is rules.setting how call k s.local h.0) (means_one rules how call s _ r h.1 _ k)
 
   means_none : (o : Option (Result (Dynamic H) (EvalAltResult H))) → Means None o → o ≡ None
   means_none None means = refl
   means_none (Some x) means = absurd means
 
   -- one that is a function's leads to where that is found, or is not
-  looked_for : (found : Option (Function H)) → call_races seeks.of_method s.local.around.cells call.args ≡ false → Means None meaning → found ≡ wanted →
+  looked_for : (found : Option (Function H)) → call_races seeks.of_method s.local.around.cells call.args ≡ false → Means None meaning →
+      found ≡ wanted →
       (k : List (Frame H)) → dispatch_core rules.setting (how_of seeks on_scope) call k s.local
       ≡ found_core rules.setting found (how_of seeks on_scope) call k s.local
   looked_for found free means is k =
@@ -209,9 +213,9 @@ module _ {S H : Type 0} (rules : Rules S H) (seeks : Seeks) (on_scope : Bool) (c
   resolved_asks h r new runs k = rw (looked_for None h.0 h.1 h.2 k) (runs k)
 
 module _ {S H : Type 0} (rules : Rules S H) (s new : State S H) where
-  -- a call that lends nothing and does not mark ends as it would by itself
+  -- a call that lends nothing and does not tell what it changed ends as it would by itself
   pub calls_ended : (how : Dispatch) (call : Call H) (r : Result (Dynamic H × Bool) (EvalAltResult H))
-      (q : Result (Dynamic H) (EvalAltResult H)) → IfEnded (Ended r) (λ answer. false ≡ false → answer.1 ≡ false) → q ≡ without_mark r →
+      (q : Result (Dynamic H) (EvalAltResult H)) → IfEnded (Ended r) (λ answer. false ≡ false → answer.1 ≡ false) → q ≡ without_changed r →
       Dispatches rules how call s (Ended r) new → Calls rules how call s (called.Ended q) new
   unfolding Calls Dispatches
   calls_ended how call r q plain is runs k = rw (is, ← plain_ends r (of_ended r plain)) (runs k)

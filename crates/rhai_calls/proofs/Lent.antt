@@ -1,5 +1,6 @@
 -- A first argument that is lent, and what it is lent from.
-use Rattle.std.proofs.Common.{◌≡◌, ℕ, zero, suc, ◌<◌, Bool, true, false, not, List, [], ◌∷◌, length, slice_get, slice_set, Option, Some, None}
+use Rattle.std.proofs.Common.{◌≡◌, ℕ, zero, suc, ◌<◌, Bool, true, false, not, List, [], ◌∷◌, length, slice_get, slice_set, Option, Some}
+use Rattle.std.proofs.Common.{None}
 use Rattle.std.proofs.Common.{Ok, Err, arith, is_some, refl, subst, sym, ap, ◌∙◌}
 use Rattle.std.proofs.lemmas.List.{set-set}
 use Rattle.std.proofs.lemmas.Option.{slice_get_within}
@@ -21,7 +22,7 @@ use Rattle.rhai_machine.specs.language.Places.{Place, InEntry, InCell, InThis, I
 use Rattle.rhai_machine.specs.language.Frames.{Operation, Lender, FromEntry, FromThis, FromFocus}
 use Rattle.rhai_machine.specs.language.Calls.{first_in, in_cell, lendable, place_of, put_left, while_from}
 use Rattle.rhai_calls.specs.Lending.{back_in, Stands}
-use Rattle.rhai_calls.specs.Natives.{cell_in, lends_from, number_in, StandsAt}
+use Rattle.rhai_calls.specs.Natives.{cell_in, lends_from, native_number, StandsAt}
 
 -- ---- what is written over itself stays
 
@@ -44,7 +45,7 @@ not_true true is = cc
 not_true false is = refl
 
 -- a call is by a number where one is given
-pub number_same : (id : Option NativeId) → is_some id ≡ is_some (number_in id)
+pub number_same : (id : Option NativeId) → is_some id ≡ is_some (native_number id)
 number_same None = refl
 number_same (Some id) = refl
 

@@ -19,35 +19,37 @@ use Rattle.rhai_state.specs.declared.error.EvalAltResult.TheVariants as error
 use Rattle.rhai_state.specs.Errors.{is_out_of_memory}
 use Rattle.rhai_state.specs.Native.{MayLeave, Request, Reply, Missing, Gives, Faults, Obeys, effect, purity_of, request}
 use Rattle.rhai_machine.specs.machine.Point.{after}
-use Rattle.rhai_machine.specs.machine.Memory.{here, next, starved, ◌⨾◌}
+use Rattle.rhai_machine.specs.machine.Memory.{here, next, out_in_native, ◌⨾◌}
 use Rattle.rhai_machine.specs.language.Setting.{Rules, limit_under}
 use Rattle.rhai_machine.specs.language.State.{Held, State, HasMemory, Answers}
 use Rattle.rhai_machine.specs.language.Values.{Cells, is_handle}
 use Rattle.rhai_machine.specs.language.Places.{Place, InCell, is_barred}
-use Rattle.rhai_machine.specs.language.Frames.{Operation, Lender, FromEntry, FromThis, FromFocus, Call, Control, Frame, core, ended, marked, Ask, Question, Fire, Fail}
-use Rattle.rhai_machine.specs.language.Calls.{answered, barred_call, fire_first, first_of, noted, place_of, put_left, question_first, replied}
+use Rattle.rhai_machine.specs.language.Frames.{Operation, Lender, FromEntry, FromThis, FromFocus, Call, Control, Frame, core, ended, ended_or_changed}
+use Rattle.rhai_machine.specs.language.Frames.{Ask, Question, Fire, Fail}
+use Rattle.rhai_machine.specs.language.Calls.{answered, barred_call, fire_first, first_of, noted, place_of, put_left, question_first}
+use Rattle.rhai_machine.specs.language.Calls.{replied}
 use Rattle.rhai_machine.specs.language.Calls.{while_from}
 use Rattle.rhai_machine.specs.language.Runs.{at, with_core, Goes, Runs, Steps}
 use Rattle.rhai_steps.specs.States.{local_of, state_of}
-use Rattle.rhai_steps.proofs.Pieces.{step_by, charged, faulted, or_wants, passed, refused}
+use Rattle.rhai_steps.proofs.Pieces.{step_by, charged, faulted, or_runs_out, passed, refused}
 use Rattle.rhai_calls.specs.Lending.{back_in, Stands}
-use Rattle.rhai_calls.specs.Marks.{gives, with_mark, without_mark, MarkedRuns}
-use Rattle.rhai_calls.specs.Natives.{is_barred_from, is_pure_on, lends_from, native_call, native_key, number_in, Bars, CallsOn, CallsInCell}
+use Rattle.rhai_calls.specs.ToldChanges.{gives, with_changed, without_changed, MarkedRuns}
+use Rattle.rhai_calls.specs.Natives.{is_barred_from, is_pure_on, lends_from, native_call, native_key, native_number, Bars, CallsOn, CallsInCell}
 use Rattle.rhai_calls.specs.Natives.{Gives as GivesOn}
 use Rattle.rhai_calls.proofs.Lent.{back_is, back_same, cells_back, first_cell, first_held, first_plain, own_named, put_same, stands_at}
 use Rattle.rhai_calls.proofs.Lent.{back_lender, number_same, while_lender}
 
--- ---- marks
+-- ---- whether a call changed its first argument
 
--- where no mark is wanted there is none
-is_unmarked : (marks pure given : Bool) → marks ≡ false → ((marks && not pure) && given) ≡ false
-is_unmarked false pure given is = refl
-is_unmarked true pure given is = cc
+-- where it is not to be told, no call says that it changed its first argument
+is_untold : (marks pure given : Bool) → marks ≡ false → ((marks && not pure) && given) ≡ false
+is_untold false pure given is = refl
+is_untold true pure given is = cc
 
 module _ {H : Type 0} where
-  -- a native's answer ends as the result with the mark of it
+  -- a native's answer ends as the result, with whether it changed its first argument
   answer_is : (m : Bool) (r : Reply H) (q : Result (Dynamic H) (EvalAltResult H)) →
-      answered m r q ≡ marked (with_mark (m && gives (Some r)) q)
+      answered m r q ≡ ended_or_changed (with_changed (m && gives (Some r)) q)
   answer_is false r (Ok v) = refl
   answer_is false r (Err e) = refl
   answer_is true (Gives w) (Ok v) = refl
@@ -57,31 +59,31 @@ module _ {H : Type 0} where
   answer_is true (Faults x) (Ok v) = refl
   answer_is true (Faults x) (Err e) = refl
 
-  pub plain_mark : (marks changed : Bool) (r : Result (Dynamic H) (EvalAltResult H)) → (marks ≡ false → changed ≡ false) →
-      IfOk (with_mark changed r) (λ answer. marks ≡ false → answer.1 ≡ false)
-  plain_mark marks changed (Ok v) h = h
-  plain_mark marks changed (Err e) h = tt
+  pub plain_changed : (marks changed : Bool) (r : Result (Dynamic H) (EvalAltResult H)) → (marks ≡ false → changed ≡ false) →
+      IfOk (with_changed changed r) (λ answer. marks ≡ false → answer.1 ≡ false)
+  plain_changed marks changed (Ok v) h = h
+  plain_changed marks changed (Err e) h = tt
 
-  -- an answer that is marked so
-  pub unmarked_by : (marks pure given changed : Bool) (q : Result (Dynamic H) (EvalAltResult H))
-      (result : Result (Dynamic H × Bool) (EvalAltResult H)) → changed ≡ ((marks && not pure) && given) → result ≡ with_mark changed q →
+  -- an answer that tells so whether it changed its first argument
+  pub untold_by : (marks pure given changed : Bool) (q : Result (Dynamic H) (EvalAltResult H))
+      (result : Result (Dynamic H × Bool) (EvalAltResult H)) → changed ≡ ((marks && not pure) && given) → result ≡ with_changed changed q →
       IfOk result (λ answer. marks ≡ false → answer.1 ≡ false)
-  unmarked_by marks pure given changed q result does is = rw is (plain_mark marks changed q
-      (λ (no : marks ≡ false). does ∙ is_unmarked marks pure given no))
+  untold_by marks pure given changed q result does is = rw is (plain_changed marks changed q
+      (λ (no : marks ≡ false). does ∙ is_untold marks pure given no))
 
   module _ (marks pure changes given changed : Bool) (q : Result (Dynamic H) (EvalAltResult H))
       (result : Result (Dynamic H × Bool) (EvalAltResult H)) (may : changes ≡ (marks && not pure)) (does : changed ≡ (changes && given))
-      (is : result ≡ with_mark changed q) where
-    -- the mark that an answer gets, step by step
-    pub marks_it : result ≡ with_mark ((marks && not pure) && given) q
-    marks_it = is ∙ ap (λ (m : Bool). with_mark m q) (does ∙ ap (λ (m : Bool). m && given) may)
+      (is : result ≡ with_changed changed q) where
+    -- how an answer comes to tell whether it changed its first argument, step by step
+    pub tells_it : result ≡ with_changed ((marks && not pure) && given) q
+    tells_it = is ∙ ap (λ (m : Bool). with_changed m q) (does ∙ ap (λ (m : Bool). m && given) may)
 
-    pub unmarks_it : IfOk result (λ answer. marks ≡ false → answer.1 ≡ false)
-    unmarks_it = rw is (plain_mark marks changed q
-        (λ (no : marks ≡ false). does ∙ ap (λ (m : Bool). m && given) may ∙ is_unmarked marks pure given no))
+    pub untold_it : IfOk result (λ answer. marks ≡ false → answer.1 ≡ false)
+    untold_it = rw is (plain_changed marks changed q
+        (λ (no : marks ≡ false). does ∙ ap (λ (m : Bool). m && given) may ∙ is_untold marks pure given no))
 
   pub plain_ends : (r : Result (Dynamic H × Bool) (EvalAltResult H)) → IfOk r (λ answer. false ≡ false → answer.1 ≡ false) →
-      marked r ≡ ended (without_mark r)
+      ended_or_changed r ≡ ended (without_changed r)
   plain_ends (Ok (v, true)) h = let never : true ≡ false = h refl in cc
   plain_ends (Ok (v, false)) h = refl
   plain_ends (Err e) h = refl
@@ -95,24 +97,24 @@ module _ {H : Type 0} where
   still_stands (Some FromFocus) x old new scope held stands = stands
 
 module _ {S H : Type 0} (rules : Rules S H) where
-  -- a call that does not mark ends as it would by itself
+  -- a call that does not tell what it changed ends as it would by itself
   pub runs_plainly : (c : Control H) (old new : State S H) (r : Result (Dynamic H × Bool) (EvalAltResult H))
       (q : Result (Dynamic H) (EvalAltResult H)) →
-      IfOk r (λ answer. false ≡ false → answer.1 ≡ false) → q ≡ without_mark r → MarkedRuns rules c old r new → Runs rules c old q new
+      IfOk r (λ answer. false ≡ false → answer.1 ≡ false) → q ≡ without_changed r → MarkedRuns rules c old r new → Runs rules c old q new
   unfolding Steps
   runs_plainly c old new r q plain is runs k = rw (is, ← plain_ends r plain) (runs k)
 
-  -- an error on the way out ends a call that marks too
-  pub exits_marked : (c : Control H) (old new : State S H) (r : Result (Dynamic H × Bool) (EvalAltResult H)) (e : EvalAltResult H) →
+  -- an error on the way out ends a call that tells what it changed, too
+  pub exits_telling : (c : Control H) (old new : State S H) (r : Result (Dynamic H × Bool) (EvalAltResult H)) (e : EvalAltResult H) →
       IsErr r × IsErrAnd r (λ y. y ≡ e) → Steps rules c old (Fail e) new → MarkedRuns rules c old r new
-  exits_marked c old new r e is go = rw (passed r is) go
+  exits_telling c old new r e is go = rw (passed r is) go
 
-  -- an answer that may be want of memory in its place, with its mark
-  told_marked : (m : Bool) (r : Reply H) (result wanted : Result (Dynamic H) (EvalAltResult H)) → Answers result wanted →
+  -- an answer, or that memory ran out, with whether it changed its first argument
+  told_with_changed : (m : Bool) (r : Reply H) (result wanted : Result (Dynamic H) (EvalAltResult H)) → Answers result wanted →
       (k : List (Frame H)) (s : State S H) →
-      Goes rules (at (answered m r wanted) k s) (at (marked (with_mark (m && gives (Some r)) result)) k s)
-  told_marked m r (Ok v) wanted a k s = rw (← a tt, answer_is m r (Ok v)) here
-  told_marked m r (Err e) wanted a k s = or_wants rules (answered m r wanted) k s e (λ h. rw (← a h, answer_is m r (Err e)) here)
+      Goes rules (at (answered m r wanted) k s) (at (ended_or_changed (with_changed (m && gives (Some r)) result)) k s)
+  told_with_changed m r (Ok v) wanted a k s = rw (← a tt, answer_is m r (Ok v)) here
+  told_with_changed m r (Err e) wanted a k s = or_runs_out rules (answered m r wanted) k s e (λ h. rw (← a h, answer_is m r (Err e)) here)
 
   -- a call that is charged stands before the question of its native
   pub charges_call : (t : S) (old mid : GlobalRuntimeState H) (scope : Scope H) (held : Held H) (call : Call H) →
@@ -139,7 +141,7 @@ module _ {S H : Type 0} (rules : Rules S H) where
     abbrev cells : Cells H
     cells = now.local.around.cells
 
-    -- once the table was asked a call marks only where the native is not pure
+    -- once the table was asked a call tells of a change only where the native is not pure
     made_noted : (m pure : Bool) → noted m pure (made m) ≡ made (m && not pure)
     made_noted false pure = refl
     made_noted true pure = refl
@@ -164,7 +166,8 @@ module _ {S H : Type 0} (rules : Rules S H) where
           step_by rules _ _ _ (ap (λ r. question_first rules.setting (made marks) rest r k now.local) is) (rw asked here)
 
       let_through : (p : Bool) → pure ≡ p →
-          Goes rules (with_core (barred_call rules.setting false pure (made marks) k now.local) now) (at (Fire (made (marks && not p))) k now)
+          Goes rules (with_core (barred_call rules.setting false pure (made marks) k now.local) now) (at
+          (Fire (made (marks && not p))) k now)
       let_through p same = rw (made_noted marks pure, same) here
 
       -- the cells meanwhile
@@ -181,15 +184,15 @@ module _ {S H : Type 0} (rules : Rules S H) where
 
       abbrev Wanted : Option (Dynamic H) → Reply H → Result (Dynamic H) (EvalAltResult H) → Type 0
       Wanted left r result = Answers result (replied rules.setting.limits rules.setting.host_type r left rest operation
-          (is_some (number_in id)) (later left))
+          (is_some (native_number id)) (later left))
 
       fires : (m : Bool) (r : Reply H) (left : Option (Dynamic H)) (t : S) (result : Result (Dynamic H) (EvalAltResult H)) →
           rules.natives.gives now.table (request lending (native_key operation.name id) (Some v) rest operation.at) ≡ effect r left t →
           Wanted left r result →
-          Goes rules (at (Fire (made m)) k now) (at (marked (with_mark (m && gives (Some r)) result)) k (left_in left t))
+          Goes rules (at (Fire (made m)) k now) (at (ended_or_changed (with_changed (m && gives (Some r)) result)) k (left_in left t))
       fires m r left t result obeys told =
           step_by rules _ _ _ (ap (λ f. fire_first rules.setting (made m) rest f k now.local) is)
-          (rw obeys (told_marked m r result _ told k (left_in left t)))
+          (rw obeys (told_with_changed m r result _ told k (left_in left t)))
 
       -- what the native may leave
       abbrev May : Option (Dynamic H) → S → Type 0
@@ -197,29 +200,29 @@ module _ {S H : Type 0} (rules : Rules S H) where
           (request lending (native_key operation.name id) (Some v) rest operation.at) left t
 
       -- a native that has no memory may have changed its first argument and the table
-      fires_starved : (m : Bool) (left : Option (Dynamic H)) (t : S) (pos : Position) → May left t →
+      fires_out_of_memory : (m : Bool) (left : Option (Dynamic H)) (t : S) (pos : Position) → May left t →
           Goes rules (at (Fire (made m)) k now) (at (Fail (error.ErrorOutOfMemory pos)) k (left_in left t))
-      fires_starved m left t pos may =
-          starved {call = request lending (native_key operation.name id) (Some v) rest operation.at}
+      fires_out_of_memory m left t pos may =
+          out_in_native {call = request lending (native_key operation.name id) (Some v) rest operation.at}
           {f = λ reply given. core (answered m reply
-          (replied rules.setting.limits rules.setting.host_type reply given rest operation (is_some (number_in id)) (later given))) k
+          (replied rules.setting.limits rules.setting.host_type reply given rest operation (is_some (native_number id)) (later given))) k
           (put_left from given now.local)}
           {at = pos}
           (ap (λ f. fire_first rules.setting (made m) rest f k now.local) is) (error.ErrorOutOfMemory pos) left t may here
 
-      starves : (m mark : Bool) (left : Option (Dynamic H)) (t : S) (result : Result (Dynamic H) (EvalAltResult H)) → May left t →
+      fires_told_out : (m mark : Bool) (left : Option (Dynamic H)) (t : S) (result : Result (Dynamic H) (EvalAltResult H)) → May left t →
           (HasMemory result → false ≡ true) →
-          Goes rules (at (Fire (made m)) k now) (at (marked (with_mark mark result)) k (left_in left t))
-      starves m mark left t (Ok w) may memory = absurd (false≢true (memory tt))
-      starves m mark left t (Err (error.ErrorOutOfMemory pos)) may memory = fires_starved m left t pos may
-      starves m mark left t (Err e) may memory = absurd (false≢true (memory refl))
+          Goes rules (at (Fire (made m)) k now) (at (ended_or_changed (with_changed mark result)) k (left_in left t))
+      fires_told_out m mark left t (Ok w) may memory = absurd (false≢true (memory tt))
+      fires_told_out m mark left t (Err (error.ErrorOutOfMemory pos)) may memory = fires_out_of_memory m left t pos may
+      fires_told_out m mark left t (Err e) may memory = absurd (false≢true (memory refl))
 
       fires_told : (m : Bool) (answer : Option (Reply H)) (left : Option (Dynamic H)) (t : S)
           (result : Result (Dynamic H) (EvalAltResult H)) →
           Obeys (rules.natives.gives now.table (request lending (native_key operation.name id) (Some v) rest operation.at)) answer left t →
           May left t → IfSome answer (λ r. Wanted left r result) → (HasMemory result → is_some answer ≡ true) →
-          Goes rules (at (Fire (made m)) k now) (at (marked (with_mark (m && gives answer) result)) k (left_in left t))
-      fires_told m None left t result obeys may answers memory = starves m (m && false) left t result may memory
+          Goes rules (at (Fire (made m)) k now) (at (ended_or_changed (with_changed (m && gives answer) result)) k (left_in left t))
+      fires_told m None left t result obeys may answers memory = fires_told_out m (m && false) left t result may memory
       fires_told m (Some r) left t result obeys may answers memory = fires m r left t result obeys answers
 
   -- ---- a native on a value that is lent
@@ -261,12 +264,12 @@ module _ {S H : Type 0} (rules : Rules S H) where
         GivesOn rules.natives rules.setting.host_type cells (native_key operation.name id) guarded marks lent rest operation.at t t' answer
         left changed → by_number ≡ is_some id →
         IfSome answer (λ r. Answers q (replied rules.setting.limits rules.setting.host_type r (Some left) rest operation by_number later)) →
-        (HasMemory q → is_some answer ≡ true) → result ≡ with_mark changed q →
+        (HasMemory q → is_some answer ≡ true) → result ≡ with_changed changed q →
         CallsOn rules cells later operation id guarded marks lent left rest t t' result
     unfolding CallsOn Steps
-    calls_on answer left t' changed by_number q result (is, leaves, does) numbered answers memory marks_it lender from x count l stands
+    calls_on answer left t' changed by_number q result (is, leaves, does) numbered answers memory tells_it lender from x count l stands
         meanwhile back first k =
-        rw (marks_it, does)
+        rw (tells_it, does)
         (questions operation id lender guarded marks x rest k (record { table = t; count = count; local = l }) from lent first false
         (asked l.around.cells false is)
         ⨾ let_through operation id lender guarded marks x rest k (record { table = t; count = count; local = l }) from lent first pure_on
@@ -282,8 +285,8 @@ module _ {S H : Type 0} (rules : Rules S H) where
       later ≡ with_value mid cell.number left → CallsOn rules mid later operation id guarded marks lent left rest t t' result →
       CallsInCell rules operation id guarded marks cell rest before later t t' result
   unfolding CallsInCell CallsOn
-  calls_in_cell operation id guarded marks cell rest before mid later lent left t t' result there plain taken given calls lender x count l is
-      same =
+  calls_in_cell operation id guarded marks cell rest before mid later lent left t t' result there plain taken given calls
+      lender x count l is same =
       let back : later ≡ with_value l.around.cells cell.number left = given
       ∙ ap (λ (cells : Cells H). with_value cells cell.number left) taken ∙ cells_back before cell.number left
       ∙ ap (λ (cells : Cells H). with_value cells cell.number left) same in
@@ -358,15 +361,16 @@ module _ {S H : Type 0} (rules : Rules S H) where
 
     lone_fires : (m : Bool) (answer : Option (Reply H)) (t : S) (q : Result (Dynamic H) (EvalAltResult H)) →
         Obeys (rules.natives.gives now.table lone_request) answer None t →
-        MayLeave rules.setting.host_type rules.natives now.table lone_request None t → IfSome answer (λ r. Answers q (replied rules.setting.limits rules.setting.host_type r None [] operation (is_some (number_in id))
+        MayLeave rules.setting.host_type rules.natives now.table lone_request None t →
+        IfSome answer (λ r. Answers q (replied rules.setting.limits rules.setting.host_type r None [] operation (is_some (native_number id))
         now.local.around.cells)) → (HasMemory q → is_some answer ≡ true) →
-        Goes rules (at (Fire (lone m)) k now) (at (marked (with_mark (m && gives answer) q)) k (record now { table = t }))
+        Goes rules (at (Fire (lone m)) k now) (at (ended_or_changed (with_changed (m && gives answer) q)) k (record now { table = t }))
     unfolding after
     lone_fires m (Some r) t q obeys may answers memory =
-        next (rw obeys (told_marked m r q _ answers k (record now { table = t })))
+        next (rw obeys (told_with_changed m r q _ answers k (record now { table = t })))
     lone_fires m None t (Ok v) obeys may answers memory = absurd (false≢true (memory tt))
     lone_fires m None t (Err (error.ErrorOutOfMemory pos)) obeys may answers memory =
-        starved {at = pos} refl (error.ErrorOutOfMemory pos) None t may here
+        out_in_native {at = pos} refl (error.ErrorOutOfMemory pos) None t may here
     lone_fires m None t (Err e) obeys may answers memory = absurd (false≢true (memory refl))
 
     pub fires_alone : (marks by_number : Bool) (answer : Option (Reply H)) (t : S) (q : Result (Dynamic H) (EvalAltResult H))
@@ -374,7 +378,9 @@ module _ {S H : Type 0} (rules : Rules S H) where
         Obeys (rules.natives.gives now.table lone_request) answer None t →
         MayLeave rules.setting.host_type rules.natives now.table lone_request None t →
         by_number ≡ is_some id → IfSome answer (λ r. Answers q (replied rules.setting.limits rules.setting.host_type r None [] operation
-        by_number now.local.around.cells)) → (HasMemory q → is_some answer ≡ true) → result ≡ with_mark ((marks && not lone_pure) && gives answer) q →
-        Goes rules (at (Question (lone marks)) k now) (at (marked result) k (record now { table = t }))
+        by_number now.local.around.cells)) → (HasMemory q → is_some answer ≡ true) →
+        result ≡ with_changed ((marks && not lone_pure) && gives answer) q →
+        Goes rules (at (Question (lone marks)) k now) (at (ended_or_changed result) k (record now { table = t }))
     fires_alone marks by_number answer t q result obeys may numbered answers memory is =
-        rw is (lone_asked marks ⨾ lone_fires (marks && not lone_pure) answer t q obeys may (rw (numbered ∙ number_same id) at answers) memory)
+        rw is (lone_asked marks ⨾ lone_fires (marks && not lone_pure) answer t q obeys may (rw (numbered ∙ number_same id) at
+        answers) memory)

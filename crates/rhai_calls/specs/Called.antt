@@ -6,7 +6,7 @@ use Rattle.rhai_state.specs.declared.error.EvalAltResult.{EvalAltResult}
 use Rattle.rhai_functions.specs.declared.function.Function.{Function}
 use Rattle.rhai_machine.specs.language.Setting.{Rules}
 use Rattle.rhai_machine.specs.language.State.{Local, State}
-use Rattle.rhai_machine.specs.language.Activations.{NoObject}
+use Rattle.rhai_machine.specs.language.Activations.{NoThis}
 use Rattle.rhai_machine.specs.language.Frames.{Dispatch, Call, EnterFunction, Frame, Core, core, ended}
 use Rattle.rhai_machine.specs.language.Calls.{dispatch_core, entry_of}
 use Rattle.rhai_machine.specs.language.Runs.{with_core, Goes}
@@ -27,7 +27,7 @@ module _ {H : Type 0} where
   -- the result comes back, or the function is entered, which has variables of its own or not
   abbrev pub came_out : (is_fresh : Bool) → Position → Outcome H → List (Frame H) → Local H → Core H
   came_out is_fresh at (Ended r) k l = core (ended r) k l
-  came_out is_fresh at (Enters function args) k l = core (EnterFunction (entry_of function NoObject is_fresh args at l)) k l
+  came_out is_fresh at (Enters function args) k l = core (EnterFunction (entry_of function NoThis is_fresh args at l)) k l
 
   -- from where a call is dispatched, over any stack, to what came of it
   unfoldable pub Calls : {S : Type 0} → Rules S H → Dispatch → Call H → State S H → Outcome H → State S H → Type 0

@@ -17,7 +17,7 @@ use Rattle.rhai_machine.specs.language.State.{Local, State, Surroundings, Answer
 use Rattle.rhai_machine.specs.language.Values.{Cells, bool_value, through}
 use Rattle.rhai_machine.specs.language.Functions.{found_function, key_by}
 use Rattle.rhai_machine.specs.language.Variables.{no_path}
-use Rattle.rhai_machine.specs.language.Frames.{Operation, Dispatch, Call, Frame, Core, core, marked}
+use Rattle.rhai_machine.specs.language.Frames.{Operation, Dispatch, Call, Frame, Core, core, ended_or_changed}
 use Rattle.rhai_machine.specs.language.Calls.{call_races, dispatch_core, enter_core, first_type, signature, types_of}
 use Rattle.rhai_machine.specs.language.Runs.{with_core, Goes}
 use Rattle.rhai_calls.specs.declared.dispatch.Dispatched.{Dispatched}
@@ -33,19 +33,22 @@ how_of seeks on_scope = record { of_method = seeks.of_method; natives_alone = se
 module _ {H : Type 0} where
   -- ---- what a name means
 
+  -- the text that a value is, None for any other
   abbrev pub text_of : Union H → Option (List ℕ)
   text_of (value.Str text) = Some text
   text_of _ = None
 
+  -- the integer that a value is, None for any other
   abbrev pub number_of : Union H → Option ℤ
   number_of (value.Int number) = Some number
   number_of _ = None
 
-  -- a value that is seen is a text, or an integer
+  -- the text that a value which was looked up is, None for any other and for an error
   abbrev pub seen_text : Result (Dynamic H) (EvalAltResult H) → Option (List ℕ)
   seen_text (Ok v) = text_of v.value
   seen_text (Err e) = None
 
+  -- the integer that a value which was looked up is, None for any other and for an error
   abbrev pub seen_number : Result (Dynamic H) (EvalAltResult H) → Option ℤ
   seen_number (Ok v) = number_of v.value
   seen_number (Err e) = None
@@ -63,7 +66,7 @@ module _ {H : Type 0} where
     abbrev pub plain_found : List ℕ → (arity : ℕ) → Option (Function H)
     plain_found name arity = found_function (key_by name arity None) offer around
 
-    -- and that of a method: for the type of its object, and else for any type
+    -- and that of a method: for the type of the focus, and else for any type
     abbrev pub method_found : List ℕ → (type : List ℕ) → (arity : ℕ) → Option (Function H)
     method_found name type arity = option_or (found_function (key_by name arity (Some type)) offer around) (plain_found name arity)
 
@@ -72,6 +75,7 @@ module _ {H : Type 0} where
     knows name (pos count) = is_some (plain_found name count)
     knows name _ = false
 
+    -- whether there is a function of this name with so many parameters, None where the name or the number is missing
     abbrev pub told_of : Option (List ℕ) → Option ℤ → Option (Result (Dynamic H) (EvalAltResult H))
     told_of (Some name) (Some count) = Some (Ok (bool_value (knows name count)))
     told_of _ _ = None
@@ -92,6 +96,7 @@ module _ {H : Type 0} where
         meant _ = None
 
     module _ (host : H → List ℕ) where
+      -- the function of a script for these arguments: of a method, whose focus is the first one, or of a plain call
       abbrev pub found_as : (of_method : Bool) → List ℕ → List (Dynamic H) → Option (Function H)
       found_as true name args = method_found name (first_type host around.cells args) (length args - 1)
       found_as false name args = plain_found name (length args)
@@ -100,13 +105,13 @@ module _ {H : Type 0} where
       abbrev pub script_function : Seeks → List ℕ → List (Dynamic H) → Option (Function H)
       script_function seeks name args = if seeks.natives_alone then None else found_as seeks.of_method name args
 
-  -- a result where one is wanted, and it is that one, unless memory was wanting
+  -- a result where one is wanted, and it is that one, unless memory ran out
   abbrev pub Means : Option (Result (Dynamic H) (EvalAltResult H)) → Option (Result (Dynamic H) (EvalAltResult H)) → Type 0
   Means None None = ⊤
   Means (Some result) (Some wanted) = Answers result wanted
   Means _ _ = ⊥
 
-  -- what a call means before anything is done for it: it fails for an argument in a held cell, unless memory was wanting; it is no
+  -- what a call means before anything is done for it: it fails for an argument in a held cell, unless memory ran out; it is no
   -- function's; it is a function of a script; or it is a native's
   abbrev pub Resolves : (races : Bool) → (meant : Option (Result (Dynamic H) (EvalAltResult H))) → (found : Option (Function H)) →
       Operation → Resolved H → Type 0
@@ -116,24 +121,26 @@ module _ {H : Type 0} where
   Resolves raced meaning found operation (FoundFunction function) = (raced ≡ false) × Means None meaning × (Some function ≡ found)
   Resolves raced meaning found operation OfNative = (raced ≡ false) × Means None meaning × (None ≡ found)
 
+  -- what a call with these arguments means, given the functions that are offered and what surrounds it
   abbrev pub ResolvesCall : Offer H → Surroundings H → (H → List ℕ) → Seeks → Operation → List (Dynamic H) → Resolved H → Type 0
   ResolvesCall offer around host seeks operation args resolved = Resolves (call_races seeks.of_method around.cells args) (meant offer around operation host args)
       (script_function offer around host seeks operation.name args) operation resolved
 
   -- ---- what a call comes to
 
-  -- what holds of the answer of a call that has ended, and what holds where a function was found
+  -- what holds of the answer of a call that has ended
   abbrev pub IfEnded : Dispatched H → (Dynamic H × Bool → Type 0) → Type 0
   IfEnded (Ended (Ok answer)) P = P answer
   IfEnded _ P = ⊤
 
+  -- what holds where a function of a script was found
   abbrev pub IfFound : Dispatched H → Type 0 → Type 0
   IfFound (Found function) P = P
   IfFound _ P = ⊤
 
-  -- a call that ended comes back with its mark, and a function that was found is entered
+  -- a call that ended comes back with whether it changed its first argument, and a function that was found is entered
   abbrev pub came_to : Dispatch → Call H → Dispatched H → List (Frame H) → Local H → Core H
-  came_to how call (Ended r) k l = core (marked r) k l
+  came_to how call (Ended r) k l = core (ended_or_changed r) k l
   came_to how call (Found function) k l = enter_core how.of_method function how call k l
 
   -- from where a call is dispatched, over any stack, to what it came to

@@ -12,7 +12,7 @@ module _ {H : Type 0} where
   abbrev pub lent_call : Operation → Option Lender → (guarded : Bool) → List (Dynamic H) → Call H
   lent_call operation lender guarded args = record (call_of operation args) { lender = lender; guarded = guarded }
 
-  -- and one that marks its answer too
+  -- and one whose answer may tell, too, whether the first argument was changed
   abbrev pub passed_call : Operation → Option Lender → (guarded marks : Bool) → List (Dynamic H) → Call H
   passed_call operation lender guarded marks args = record (lent_call operation lender guarded args) { marks = marks }
 

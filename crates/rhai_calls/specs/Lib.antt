@@ -1,6 +1,6 @@
 pub mod Called
 pub mod Dispatch
 pub mod Lending
-pub mod Marks
+pub mod ToldChanges
 pub mod Natives
 pub mod Operates

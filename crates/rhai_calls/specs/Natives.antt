@@ -21,15 +21,15 @@ use Rattle.rhai_machine.specs.language.Places.{Place, InEntry, InCell, InThis, I
 use Rattle.rhai_machine.specs.language.Frames.{Operation, Lender, Call, Question}
 use Rattle.rhai_machine.specs.language.Calls.{first_of, key_by, put_left, while_from}
 use Rattle.rhai_calls.specs.Lending.{passed_call}
-use Rattle.rhai_calls.specs.Marks.{gives, MarkedRuns}
+use Rattle.rhai_calls.specs.ToldChanges.{gives, MarkedRuns}
 
 -- the number of a native that is called by it
-abbrev pub number_in : Option NativeId → Option ℕ
-number_in id = option_map (λ (native : NativeId). native.number) id
+abbrev pub native_number : Option NativeId → Option ℕ
+native_number id = option_map (λ (native : NativeId). native.number) id
 
 -- a native by its number, or else by its name
 abbrev pub native_key : List ℕ → Option NativeId → Key
-native_key name id = key_by name (number_in id)
+native_key name id = key_by name (native_number id)
 
 module _ {S H : Type 0} (natives : Natives S H) (host : H → List ℕ) (t : S) (key : Key) (first : Dynamic H) (rest : List (Dynamic H)) where
   -- a native changes nothing, on a first argument that is no handle
@@ -47,8 +47,8 @@ module _ {S H : Type 0} (natives : Natives S H) (host : H → List ℕ) where
   Bars key guarded first rest t t' left e name at = (is_barred_from natives host t key first rest guarded ≡ true) × (t' ≡ t)
       × (left ≡ first) × (is_out_of_memory e ≡ false → e ≡ error.ErrorNonPureMethodCallOnConstant name at)
 
-  -- or else it is asked with these cells, and answers, where it had the memory, and leaves what it may; its answer is marked where it may have changed the first
-  -- argument and this is to be told
+  -- or else it is asked with these cells, and answers, where it had the memory, and leaves what it may; its answer tells that it
+  -- changed the first argument where it may have and this is to be told
   abbrev pub Gives : (cells : Cells H) → Key → (guarded marks : Bool) → (first : Dynamic H) → (rest : List (Dynamic H)) → (at : Position) →
       (t t' : S) → Option (Reply H) → (left : Dynamic H) → (changed : Bool) → Type 0
   Gives cells key guarded marks first rest at t t' answer left changed = (is_barred_from natives host t key first rest guarded ≡ false)
@@ -67,9 +67,9 @@ module _ {H : Type 0} where
   lends_from (Some v) = not (is_handle v.value)
   lends_from None = false
 
-  -- a call of a native by its name, or by its number: its first argument may be lent and may be guarded, and its answer may be marked
+  -- a call of a native by its name, or by its number: its first argument may be lent or guarded, its answer may tell if it changed that
   abbrev pub native_call : Operation → Option NativeId → Option Lender → (guarded marks : Bool) → List (Dynamic H) → Call H
-  native_call operation id lender guarded marks args = record (passed_call operation lender guarded marks args) { number = number_in id }
+  native_call operation id lender guarded marks args = record (passed_call operation lender guarded marks args) { number = native_number id }
 
   -- a value stands in the place that it is lent from, if there is one
   abbrev pub StandsAt : (from : Option Place) → Dynamic H → Local H → Type 0

@@ -22,10 +22,10 @@ ghost use Rattle.rhai_calls.specs.Dispatch.{script_function, seen_number, seen_t
 ghost use Rattle.rhai_calls.specs.Dispatch.{Dispatches, IfEnded, IfFound};
 ghost use Rattle.rhai_calls.specs.Dispatch.{Means, ResolvesCall};
 ghost use Rattle.rhai_steps.specs.Offers.{Offers};
-ghost use Rattle.rhai_calls.specs.Marks.{MarkedRuns};
+ghost use Rattle.rhai_calls.specs.ToldChanges.{MarkedRuns};
 ghost use Rattle.rhai_calls.specs.Lending.{back_in, passed_call, Stands};
 
-use crate::native::{Passing, marked, pass_native, pass_native_alone, unmarked};
+use crate::native::{Passing, drop_changed, pass_native, pass_native_alone, tell_changed};
 use rhai_few::Few;
 use rhai_functions::function::{Function, Offered, called_function};
 use rhai_functions::key::FnKey;
@@ -47,7 +47,7 @@ use std::alloc::{AllocError, Global};
 /// Which functions of scripts a call by name looks for.
 #[derive(Clone, Copy)]
 pub struct Seeks {
-    /// Its first argument is the object of a method.
+    /// Its first argument is the focus of a method.
     pub of_method: bool,
     /// Natives alone are asked.
     pub natives_alone: bool,
@@ -56,7 +56,7 @@ pub struct Seeks {
 /// What a call by name comes to, whose arguments are there.
 #[derive(Drop)]
 pub enum Dispatched<H> {
-    /// It has ended, and a value has its mark.
+    /// It has ended. With a value it tells whether a native may have changed the first argument.
     Ended(Result<(Dynamic<H>, bool), EvalAltResult<H>>),
     /// It is a call of a function of a script, and nothing is done yet.
     Found(Function<H>),
@@ -83,7 +83,7 @@ pub enum Called<H> {
     Enters(Function<H>),
 }
 
-/// Whether a value is the handle of a cell that is held.
+/// Tells whether a value is the handle of a cell that is held.
 pub fn is_held<H: Host>(cells: &CellStore<H>, value: &Dynamic<H>) -> bool
     ensures { result ≡ held_in (cells_of cells.now) value.now.value }
 {
@@ -93,7 +93,7 @@ pub fn is_held<H: Host>(cells: &CellStore<H>, value: &Dynamic<H>) -> bool
     }
 }
 
-/// Whether an argument is the handle of a cell that is held.
+/// Tells whether any of some values is the handle of a cell that is held.
 pub fn races<H: Host>(cells: &CellStore<H>, values: &[Dynamic<H>]) -> bool
     ensures { result ≡ races_in (cells_of cells.now) values.now }
 {
@@ -105,7 +105,7 @@ pub fn races<H: Host>(cells: &CellStore<H>, values: &[Dynamic<H>]) -> bool
     false
 }
 
-/// Whether two values are handles of the same cell.
+/// Tells whether two values are handles of the same cell.
 fn is_same_cell<H: Host>(one: &Dynamic<H>, other: &Dynamic<H>) -> bool
     ensures { result ≡ same_cell one.now.value other.now.value }
 {
@@ -115,7 +115,7 @@ fn is_same_cell<H: Host>(one: &Dynamic<H>, other: &Dynamic<H>) -> bool
     }
 }
 
-/// Whether a value is a handle of the cell that the first one is a handle of.
+/// Tells whether any of some values is a handle of the cell that `first` is a handle of.
 fn leads_there<H: Host>(first: &Dynamic<H>, values: &[Dynamic<H>]) -> bool
     ensures { result ≡ leads_there_in first.now.value values.now }
 {
@@ -127,8 +127,8 @@ fn leads_there<H: Host>(first: &Dynamic<H>, values: &[Dynamic<H>]) -> bool
     false
 }
 
-/// The same of a call's first argument and the others: the object of a method is entered, so that no other may
-/// lead to its cell.
+/// Tells whether an argument of a call is the handle of a cell that is held. The focus of a method is
+/// entered, so that no other argument may lead to its cell.
 pub fn call_races<H: Host>(
     cells: &CellStore<H>,
     of_method: bool,
@@ -144,7 +144,7 @@ pub fn call_races<H: Host>(
     is_anothers
 }
 
-/// A text, through a handle.
+/// Returns the text that a value is, through a handle.
 fn text_in<'v, H: Host>(cells: &'v CellStore<H>, value: &'v Dynamic<H>) -> Option<&'v str>
     ensures { (pos : _) → option_copied result ≡ seen_text (through (cells_of cells.now) value.now pos) }
 {
@@ -158,8 +158,8 @@ fn text_in<'v, H: Host>(cells: &'v CellStore<H>, value: &'v Dynamic<H>) -> Optio
     }
 }
 
-/// An integer, through a handle.
-fn number_in<H: Host>(cells: &CellStore<H>, value: &Dynamic<H>) -> Option<i64>
+/// Returns the integer that a value is, through a handle.
+fn integer_through<H: Host>(cells: &CellStore<H>, value: &Dynamic<H>) -> Option<i64>
     ensures { (pos : _) → result ≡ seen_number (through (cells_of cells.now) value.now pos) }
 {
     match &value.value {
@@ -172,7 +172,7 @@ fn number_in<H: Host>(cells: &CellStore<H>, value: &Dynamic<H>) -> Option<i64>
     }
 }
 
-/// Whether a function of a script has a name and so many parameters.
+/// Tells whether a function of a script has a name and so many parameters.
 fn is_defined<H: Host>(
     offered: &Offered<'_, H>,
     global: &GlobalRuntimeState<H>,
@@ -200,7 +200,7 @@ fn is_defined<H: Host>(
     found.is_some()
 }
 
-/// The name of a value's type, through a handle.
+/// Copies the name of a value's type, through a handle, into a text.
 fn type_of<H: Host>(
     alloc: Global,
     cells: &CellStore<H>,
@@ -215,8 +215,8 @@ fn type_of<H: Host>(
     }
 }
 
-/// What a name means with one argument: its type, or a compiler, which is not there. None where it is
-/// a native's.
+/// Tells what a name means with one argument: its type, or a compiler, which is not there. None where it is a
+/// native's.
 fn meaning_of<H: Host>(
     alloc: Global,
     cells: &CellStore<H>,
@@ -239,7 +239,7 @@ fn meaning_of<H: Host>(
     None
 }
 
-/// What a name means with two arguments: whether they say a function of the script. None where it is a
+/// Tells what a name means with two arguments: whether they say a function of the script. None where it is a
 /// function's.
 fn meaning_of_two<H: Host>(
     offered: &Offered<'_, H>,
@@ -258,11 +258,11 @@ fn meaning_of_two<H: Host>(
         return None;
     }
     let asked = text_in(&global.cells, first)?;
-    let count = number_in(&global.cells, second)?;
+    let count = integer_through(&global.cells, second)?;
     Some(Ok(bool_value(is_defined(offered, global, asked, count))))
 }
 
-/// What a name means with these arguments, None where it is a function's.
+/// Tells what a name means with these arguments. None where it is a function's.
 fn meaning<H: Host>(
     alloc: Global,
     offered: &Offered<'_, H>,
@@ -283,7 +283,7 @@ fn meaning<H: Host>(
     }
 }
 
-/// The function of a script that has a name and so many parameters.
+/// Finds the function of a script that has a name and so many parameters.
 fn function_by<H: Host>(
     offered: &Offered<'_, H>,
     global: &GlobalRuntimeState<H>,
@@ -306,7 +306,8 @@ fn function_by<H: Host>(
     )
 }
 
-/// The function of a script that a method means: for the type of its object, and else for any type.
+/// Finds the function of a script that a method means. One for the type of the focus is looked for first, and
+/// then one for any type.
 fn method_by<H: Host>(
     offered: &Offered<'_, H>,
     global: &GlobalRuntimeState<H>,
@@ -334,7 +335,7 @@ fn method_by<H: Host>(
     }
 }
 
-/// The function of a script that a call means, None where its native is meant.
+/// Finds the function of a script that a call means. None where its native is meant.
 fn function_of<H: Host>(
     offered: &Offered<'_, H>,
     global: &GlobalRuntimeState<H>,
@@ -358,7 +359,7 @@ fn function_of<H: Host>(
     function_by(offered, global, name, 1 + rest.len())
 }
 
-/// What a call by name means, whose arguments are there.
+/// Decides what a call by name means whose arguments are there.
 fn resolve<H: Host>(
     alloc: Global,
     offered: &Offered<'_, H>,
@@ -387,10 +388,11 @@ fn resolve<H: Host>(
     }
 }
 
-/// A call by name whose arguments are there: the type of a value, whether a function is there, a function of
-/// a script, or else the native of the name. The first argument may be lent, as from a variable's entry or by
-/// a chain, and a native may change it. No compiler is there. A marked answer says whether a native answered
-/// that is not pure. A function that is found is for the caller to enter. Ports upstream's `exec_fn_call`.
+/// Makes a call by name whose arguments are there. It asks for the type of a value or whether a function is
+/// there, or it is of a function of a script, or else of the native of the name. The first argument may be
+/// lent, as from a variable's entry or by a chain, and a native may change it. No compiler is there. Where
+/// `passing` asks for that, an answer tells whether a native answered that is not pure. A function that is
+/// found is for the caller to enter. Ports upstream's `exec_fn_call`.
 ///
 /// # Errors
 /// At the call: `ErrorDataRace` for an argument that is the handle of a cell which is held;
@@ -419,13 +421,13 @@ pub fn pass_call<H: Host, T: NativeTable<H>>(
         (state_of (T.state table.old) global.old scope held)
         result (back_in lender first.new (state_of (T.state table.new) global.new scope held)) }
     ensures same { IfFound result (first.new ≡ first.old) }
-    ensures unmarked { IfEnded result (λ answer. passing.marks ≡ false → answer.1 ≡ false) }
+    ensures untold { IfEnded result (λ answer. passing.marks ≡ false → answer.1 ≡ false) }
 {
     match resolve(
         alloc, offered, &*global, seeks, name, token, &*first, rest, pos,
     ) {
         Resolved::Failed(error) => Dispatched::Ended(Err(error)),
-        Resolved::Meant(result) => Dispatched::Ended(marked(result, false)),
+        Resolved::Meant(result) => Dispatched::Ended(tell_changed(result, false)),
         Resolved::Found(function) => Dispatched::Found(function),
         Resolved::Native => Dispatched::Ended(pass_native(
             limits, alloc, global, table, name, token, first, rest, passing, pos,
@@ -433,7 +435,7 @@ pub fn pass_call<H: Host, T: NativeTable<H>>(
     }
 }
 
-/// The function of a script that a call without arguments means, None where its native is meant.
+/// Finds the function of a script that a call without arguments means. None where its native is meant.
 fn function_alone<H: Host>(
     offered: &Offered<'_, H>,
     global: &GlobalRuntimeState<H>,
@@ -450,7 +452,7 @@ fn function_alone<H: Host>(
     function_by(offered, global, name, 0)
 }
 
-/// What a call by name means that is no method's, with any number of arguments.
+/// Decides what a call by name means that is no method's, with any number of arguments.
 fn resolve_all<H: Host>(
     alloc: Global,
     offered: &Offered<'_, H>,
@@ -482,8 +484,8 @@ fn resolve_all<H: Host>(
     }
 }
 
-/// The native of a name, with any number of arguments, none of which is lent.
-fn native_all<H: Host, T: NativeTable<H>>(
+/// Calls the native of a name, with any number of arguments, none of which is lent.
+fn call_native_all<H: Host, T: NativeTable<H>>(
     limits: &Limits,
     alloc: Global,
     global: &mut GlobalRuntimeState<H>,
@@ -501,7 +503,7 @@ fn native_all<H: Host, T: NativeTable<H>>(
         (Ask (passed_call (record { name = name.now; token = token; at = pos }) None false marks args.old))
         (state_of (T.state table.old) global.old scope held)
         result (state_of (T.state table.new) global.new scope held) }
-    ensures unmarked { IfOk result (λ answer. marks ≡ false → answer.1 ≡ false) }
+    ensures untold { IfOk result (λ answer. marks ≡ false → answer.1 ≡ false) }
 {
     let [first, rest @ ..] = args else {
         return pass_native_alone(limits, alloc, global, table, name, token, marks, pos);
@@ -515,7 +517,7 @@ fn native_all<H: Host, T: NativeTable<H>>(
     )
 }
 
-/// A call by name as `pass_call` makes it, with any number of arguments, none of which is lent. Where a
+/// Makes a call by name as `pass_call` does, with any number of arguments, none of which is lent. Where a
 /// function of a script is found they are as they were.
 ///
 /// # Errors
@@ -541,7 +543,7 @@ pub fn pass_all<H: Host, T: NativeTable<H>>(
         (state_of (T.state table.old) global.old scope held)
         result (state_of (T.state table.new) global.new scope held) }
     ensures same { IfFound result (args.new ≡ args.old) }
-    ensures unmarked { IfEnded result (λ answer. marks ≡ false → answer.1 ≡ false) }
+    ensures untold { IfEnded result (λ answer. marks ≡ false → answer.1 ≡ false) }
 {
     match resolve_all(
         alloc,
@@ -554,16 +556,16 @@ pub fn pass_all<H: Host, T: NativeTable<H>>(
         pos,
     ) {
         Resolved::Failed(error) => Dispatched::Ended(Err(error)),
-        Resolved::Meant(result) => Dispatched::Ended(marked(result, false)),
+        Resolved::Meant(result) => Dispatched::Ended(tell_changed(result, false)),
         Resolved::Found(function) => Dispatched::Found(function),
-        Resolved::Native => Dispatched::Ended(native_all(
+        Resolved::Native => Dispatched::Ended(call_native_all(
             limits, alloc, global, table, name, token, args, marks, pos,
         )),
     }
 }
 
-/// A call by name whose arguments are there, none of which is lent. They stay for a function of a script. Ports
-/// upstream's `exec_fn_call`.
+/// Makes a call by name whose arguments are there, none of which is lent. They stay for a function of a
+/// script. Ports upstream's `exec_fn_call`.
 ///
 /// # Errors
 /// Those of `pass_call`.
@@ -601,7 +603,7 @@ pub fn call_all<H: Host, T: NativeTable<H>>(
         false,
         pos,
     ) {
-        Dispatched::Ended(result) => Called::Ended(unmarked(result)),
+        Dispatched::Ended(result) => Called::Ended(drop_changed(result)),
         Dispatched::Found(function) => Called::Enters(function),
     }
 }

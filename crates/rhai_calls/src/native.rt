@@ -1,5 +1,5 @@
 //! Calls of natives, by their names and by their numbers. Ports upstream's `exec_native_fn_call`. The
-//! contracts cite the machine's runs, specs/Lending.antt, specs/Marks.antt and specs/Natives.antt.
+//! contracts cite the machine's runs, specs/Lending.antt, specs/ToldChanges.antt and specs/Natives.antt.
 
 ghost use Rattle.std.specs.Prelude.{◌≡◌, ◌≤◌, ◌+◌, ◌&&◌, ◌∷◌, [], None, Some, IfErr, IfOk, not, true, false};
 ghost use Rattle.rhai_values.specs.Cells.{cells_of, value_of_cell, IsNoHandle};
@@ -11,7 +11,7 @@ ghost use Rattle.rhai_machine.specs.language.Setting.{rules_of};
 ghost use Rattle.rhai_steps.specs.Agreement.{KeepsSight};
 ghost use Rattle.rhai_steps.specs.States.{local_of, state_of};
 ghost use Rattle.rhai_calls.specs.Lending.{back_in, lent_call, passed_call, Stands};
-ghost use Rattle.rhai_calls.specs.Marks.{gives, with_mark, without_mark, MarkedRuns};
+ghost use Rattle.rhai_calls.specs.ToldChanges.{gives, with_changed, without_changed, MarkedRuns};
 ghost use Rattle.rhai_calls.specs.Natives.{Bars, CallsInCell, CallsOn, cell_in, Gives, is_barred_from};
 ghost use Rattle.rhai_calls.specs.Natives.{is_pure_on};
 ghost use Rattle.rhai_calls.specs.Natives.{lends_from, native_call, native_key};
@@ -22,7 +22,7 @@ use rhai_state::state::GlobalRuntimeState;
 use rhai_state::table::{Answer, NativeTable};
 use rhai_steps::charges::track_operation;
 use rhai_steps::errors::{data_race_by, non_pure};
-use rhai_steps::replies::{replied, replied_alone};
+use rhai_steps::replies::{replied, settle_lone_reply};
 use rhai_steps::values::is_bare_handle;
 use rhai_tree::Items;
 use rhai_tree::literal::NativeId;
@@ -41,12 +41,12 @@ pub struct Passing {
     pub marks: bool,
 }
 
-/// A result with its mark.
-pub fn marked<H>(
+/// Adds to a result whether the call changed its first argument. An error stays as it is.
+pub fn tell_changed<H>(
     answer: Result<Dynamic<H>, EvalAltResult<H>>,
     changed: bool,
 ) -> Result<(Dynamic<H>, bool), EvalAltResult<H>>
-    ensures { result ≡ with_mark changed answer }
+    ensures { result ≡ with_changed changed answer }
 {
     match answer {
         Ok(value) => Ok((value, changed)),
@@ -54,19 +54,19 @@ pub fn marked<H>(
     }
 }
 
-/// A result without its mark.
-pub fn unmarked<H>(
-    marked: Result<(Dynamic<H>, bool), EvalAltResult<H>>,
+/// Drops from a result whether the call changed its first argument.
+pub fn drop_changed<H>(
+    told: Result<(Dynamic<H>, bool), EvalAltResult<H>>,
 ) -> Result<Dynamic<H>, EvalAltResult<H>>
-    ensures { result ≡ without_mark marked }
+    ensures { result ≡ without_changed told }
 {
-    match marked {
+    match told {
         Ok((value, _)) => Ok(value),
         Err(error) => Err(error),
     }
 }
 
-/// Whether a native, by its number or else by its name, changes nothing.
+/// Tells whether a native, by its number or else by its name, changes nothing.
 fn is_pure<H: Host, T: NativeTable<H>>(
     table: &T,
     name: &str,
@@ -83,8 +83,8 @@ fn is_pure<H: Host, T: NativeTable<H>>(
     }
 }
 
-/// Whether a native is barred from a first argument, which is no handle: it is guarded and a constant,
-/// and the native is not pure.
+/// Tells whether a native is barred from a first argument, which is no handle. It is where the argument is
+/// guarded and a constant, and the native is not pure.
 fn is_barred<H: Host, T: NativeTable<H>>(
     table: &T,
     name: &str,
@@ -101,7 +101,7 @@ fn is_barred<H: Host, T: NativeTable<H>>(
         && !is_pure(table, name, id, first.own_type_name(), 1 + rest.len())
 }
 
-/// Whether a native may change a first argument, which is no handle, where that is to be told.
+/// Tells whether a native may change a first argument, which is no handle, where that is to be told.
 fn may_change<H: Host, T: NativeTable<H>>(
     table: &T,
     name: &str,
@@ -116,8 +116,8 @@ fn may_change<H: Host, T: NativeTable<H>>(
     marks && !is_pure(table, name, id, first.own_type_name(), 1 + rest.len())
 }
 
-/// Whether a native that is called without arguments is not pure, where that is to be told.
-fn lone_changes<H: Host, T: NativeTable<H>>(
+/// Tells whether a native that is called without arguments is not pure, where that is to be told.
+fn alone_may_change<H: Host, T: NativeTable<H>>(
     table: &T,
     name: &str,
     id: Option<NativeId>,
@@ -129,14 +129,14 @@ fn lone_changes<H: Host, T: NativeTable<H>>(
     marks && !is_pure(table, name, id, "", 0)
 }
 
-/// Whether a native that may change its first argument answered with a value.
+/// Tells whether a native that may change its first argument answered with a value.
 fn has_changed<H>(may_change: bool, answer: &Answer<H>) -> bool
     ensures { result ≡ (may_change && gives (reply_of answer.now)) }
 {
     may_change && matches!(answer, Answer::Value(_))
 }
 
-/// What a native answers, by its number or else by its name.
+/// Asks a native for its answer, by its number or else by its name.
 fn answer_of<H: Host, T: NativeTable<H>>(
     table: &mut T,
     cells: &CellStore<H>,
@@ -161,7 +161,7 @@ fn answer_of<H: Host, T: NativeTable<H>>(
     }
 }
 
-/// What a native answers that is called without arguments. The lifetime is one for a first argument,
+/// Asks a native for its answer that is called without arguments. The lifetime is one for a first argument,
 /// which is none.
 fn answer_alone<'a, H: Host, T: NativeTable<H>>(
     alloc: Global,
@@ -186,8 +186,8 @@ fn answer_alone<'a, H: Host, T: NativeTable<H>>(
     }
 }
 
-/// What a native answers on a value that is no handle, and whether it may have changed that where this is to
-/// be told.
+/// Asks a native for its answer on a value that is no handle. With it comes whether the native may have
+/// changed that value, where this is to be told.
 ///
 /// # Errors
 /// `ErrorNonPureMethodCallOnConstant` at the call where the native is barred from the value.
@@ -237,7 +237,7 @@ fn call_value<H: Host, T: NativeTable<H>>(
         (cells_of cells.now) (cells_of cells.now) (record { name = name.now; token = token; at = pos }) id
         passing.guarded passing.marks first.old first.new rest.now
         (T.state table.old) (T.state table.new) result }
-    ensures unmarked { IfOk result (λ answer. passing.marks ≡ false → answer.1 ≡ false) }
+    ensures untold { IfOk result (λ answer. passing.marks ≡ false → answer.1 ≡ false) }
 {
     match ask_native(alloc, cells, table, name, id, first, rest, passing, pos) {
         Err(error) => Err(error),
@@ -246,12 +246,12 @@ fn call_value<H: Host, T: NativeTable<H>>(
             let result = replied(
                 alloc, limits, cells, answer, name, by_number, token, first, rest, pos,
             );
-            marked(result, changed)
+            tell_changed(result, changed)
         }
     }
 }
 
-/// The cell that a value is a handle of.
+/// Returns the cell that a value is a handle of.
 fn handle_of<H: Host>(value: &Dynamic<H>) -> Option<CellId>
     ensures { result ≡ cell_in value.now.value }
 {
@@ -261,7 +261,7 @@ fn handle_of<H: Host>(value: &Dynamic<H>) -> Option<CellId>
     }
 }
 
-/// Whether a cell has a value to be lent: it is not held, and its value is no handle again.
+/// Tells whether a cell has a value to be lent. It is not held, and its value is no handle again.
 fn lends<H: Host>(cells: &CellStore<H>, id: CellId) -> bool
     ensures { result ≡ lends_from (value_of_cell (cells_of cells.now) id.number) }
 {
@@ -291,7 +291,7 @@ fn call_in_cell<H: Host, T: NativeTable<H>>(
         (record { name = name.now; token = token; at = pos }) id passing.guarded passing.marks cell
         rest.now (cells_of cells.old) (cells_of cells.new) (T.state table.old) (T.state table.new)
         result }
-    ensures unmarked { IfOk result (λ answer. passing.marks ≡ false → answer.1 ≡ false) }
+    ensures untold { IfOk result (λ answer. passing.marks ≡ false → answer.1 ≡ false) }
 {
     match cells.take(cell) {
         Some(lent) => {
@@ -308,7 +308,7 @@ fn call_in_cell<H: Host, T: NativeTable<H>>(
                     let result = replied(
                         alloc, limits, &*cells, answer, name, by_number, token, left, rest, pos,
                     );
-                    marked(result, changed)
+                    tell_changed(result, changed)
                 }
             }
         }
@@ -339,7 +339,7 @@ fn call_first<H: Host, T: NativeTable<H>>(
         passing.guarded passing.marks (first.old ∷ rest.now)))
         (state_of (T.state table.old) global.old scope held)
         result (back_in lender first.new (state_of (T.state table.new) global.new scope held)) }
-    ensures unmarked { IfOk result (λ answer. passing.marks ≡ false → answer.1 ≡ false) }
+    ensures untold { IfOk result (λ answer. passing.marks ≡ false → answer.1 ≡ false) }
 {
     let Some(cell) = handle_of(first) else {
         let cells = &global.cells;
@@ -383,20 +383,20 @@ fn call_alone<H: Host, T: NativeTable<H>>(
         false marks []))
         (record { table = T.state table.old; count = count; local = l }) result
         (record { table = T.state table.new; count = count; local = l }) }
-    ensures unmarked { IfOk result (λ answer. marks ≡ false → answer.1 ≡ false) }
+    ensures untold { IfOk result (λ answer. marks ≡ false → answer.1 ≡ false) }
 {
-    let changes = lone_changes(&*table, name, id, marks);
+    let changes = alone_may_change(&*table, name, id, marks);
     let answer = answer_alone(alloc, table, cells, name, id, pos);
     let changed = has_changed(changes, &answer);
     let by_number = id.is_some();
-    let result = replied_alone(alloc, limits, answer, name, by_number, token, pos);
-    marked(result, changed)
+    let result = settle_lone_reply(alloc, limits, answer, name, by_number, token, pos);
+    tell_changed(result, changed)
 }
 
-/// Charges a call at its position, and calls the native of its name. A first argument that is a
-/// handle stands for the value of its cell, which is held so long. Where it is guarded, it is kept from
-/// a native that is not pure where it is a constant. Where no native has the name, the built-in of the
-/// operator has the answer. A marked answer says whether the native is not pure. Ports upstream's
+/// Charges a call at its position, and calls the native of its name. A first argument that is a handle stands
+/// for the value of its cell, which is held so long. Where it is guarded, it is kept from a native that is
+/// not pure where it is a constant. Where no native has the name, the built-in of the operator has the
+/// answer. Where `passing` asks for that, an answer tells whether the native is not pure. Ports upstream's
 /// `exec_native_fn_call`.
 ///
 /// # Errors
@@ -426,7 +426,7 @@ pub fn pass_native<H: Host, T: NativeTable<H>>(
         passing.marks (first.old ∷ rest.now)))
         (state_of (T.state table.old) global.old scope held)
         result (back_in lender first.new (state_of (T.state table.new) global.new scope held)) }
-    ensures unmarked { IfOk result (λ answer. passing.marks ≡ false → answer.1 ≡ false) }
+    ensures untold { IfOk result (λ answer. passing.marks ≡ false → answer.1 ≡ false) }
 {
     track_operation(limits, global, pos)?;
     call_first(
@@ -455,14 +455,15 @@ pub fn pass_native_alone<H: Host, T: NativeTable<H>>(
         (Ask (passed_call (record { name = name.now; token = token; at = pos }) None false marks []))
         (state_of (T.state table.old) global.old scope held)
         result (state_of (T.state table.new) global.new scope held) }
-    ensures unmarked { IfOk result (λ answer. marks ≡ false → answer.1 ≡ false) }
+    ensures untold { IfOk result (λ answer. marks ≡ false → answer.1 ≡ false) }
 {
     track_operation(limits, global, pos)?;
     let cells = &global.cells;
     call_alone(limits, alloc, cells, table, name, None, token, marks, pos)
 }
 
-/// A call of a native as `pass_native` makes it, whose answer is not marked.
+/// Calls a native as `pass_native` does. The answer does not tell whether the native changed its first
+/// argument.
 ///
 /// # Errors
 /// Those of `pass_native`.
@@ -492,7 +493,7 @@ pub fn call_native<H: Host, T: NativeTable<H>>(
         guarded,
         marks: false,
     };
-    unmarked(pass_native(
+    drop_changed(pass_native(
         limits, alloc, global, table, name, token, first, rest, passing, pos,
     ))
 }
@@ -525,7 +526,7 @@ pub fn call_number<H: Host, T: NativeTable<H>>(
         guarded: false,
         marks: false,
     };
-    unmarked(call_first(
+    drop_changed(call_first(
         limits,
         alloc,
         global,
@@ -607,7 +608,7 @@ pub fn call_number_alone<H: Host, T: NativeTable<H>>(
         result (state_of (T.state table.new) global.new scope held) }
 {
     let cells = &global.cells;
-    unmarked(call_alone(
+    drop_changed(call_alone(
         limits,
         alloc,
         cells,

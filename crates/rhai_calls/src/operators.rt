@@ -1,5 +1,6 @@
 //! Operators whose operands are there: the built-in, or else a call of the operator's name. Ports what
-//! upstream's `func/call.rs` does for operators. The contracts cite specs/Operates.antt and specs/Called.antt.
+//! upstream's `func/call.rs` does for operators. The contracts cite specs/Operates.antt and
+//! specs/Called.antt.
 
 ghost use Rattle.std.specs.Prelude.{◌≡◌, ◌≤◌, ◌∷◌, [], IsTrue, false};
 ghost use Rattle.rhai_machine.specs.language.Calls.{call_at, plainly};
@@ -27,7 +28,7 @@ use rhai_tree::token::Token;
 use rhai_values::base::value::{Dynamic, Host};
 use std::alloc::Global;
 
-/// A list without items gets one.
+/// Puts one value into a list without items. Tells whether there was memory for it.
 fn one<H: Host>(list: &mut Few<Dynamic<H>>, value: Dynamic<H>) -> bool
     requires { list.old ≡ [] }
     ensures { IsTrue result → list.new ≡ value ∷ [] }
@@ -35,8 +36,8 @@ fn one<H: Host>(list: &mut Few<Dynamic<H>>, value: Dynamic<H>) -> bool
     list.push(value).is_ok()
 }
 
-/// A list without items gets two.
-fn two<H: Host>(list: &mut Few<Dynamic<H>>, left: Dynamic<H>, right: Dynamic<H>) -> bool
+/// Puts two values into a list without items. Tells whether there was memory for them.
+fn push_two<H: Host>(list: &mut Few<Dynamic<H>>, left: Dynamic<H>, right: Dynamic<H>) -> bool
     requires { list.old ≡ [] }
     ensures { IsTrue result → list.new ≡ left ∷ right ∷ [] }
 {
@@ -47,7 +48,7 @@ fn two<H: Host>(list: &mut Few<Dynamic<H>>, left: Dynamic<H>, right: Dynamic<H>)
     list.push(right).is_ok()
 }
 
-/// An operator that is no built-in of its operands, if there was memory for their list.
+/// Calls an operator that is no built-in of its operands, if there was memory for their list.
 fn call_listed<H: Host, T: NativeTable<H>>(
     limits: &Limits,
     alloc: Global,
@@ -78,8 +79,9 @@ fn call_listed<H: Host, T: NativeTable<H>>(
     )
 }
 
-/// A unary operator whose operand is the value of a run: the built-in, or else a call of its name. A function of a
-/// script that has it is for the caller to enter, with the operand in the list, which is empty before.
+/// Applies a unary operator whose operand is the value of a run. It is the built-in, or else a call of its
+/// name. A function of a script that has it is for the caller to enter, with the operand in the list, which
+/// is empty before.
 ///
 /// # Errors
 /// The built-in's at the operator. `ErrorDataTooLarge` for a value above a limit. Of the call those
@@ -117,8 +119,8 @@ pub fn operate_one<H: Host, T: NativeTable<H>>(
     }
 }
 
-/// A binary operator whose left operand is there and whose right one is the value of a run: the built-in, or else a
-/// call of its name. A function of a script that has it is for the caller to enter.
+/// Applies a binary operator to a left operand and the value of a run, its right one. It is the built-in, or
+/// else a call of its name. A function of a script that has it is for the caller to enter.
 ///
 /// # Errors
 /// Those of `operate_one`.
@@ -150,7 +152,7 @@ pub fn operate_two<H: Host, T: NativeTable<H>>(
             Called::Ended(applied(alloc, limits, outcome, pos))
         }
         None => {
-            let are_there = two(operands, left, take_value(out));
+            let are_there = push_two(operands, left, take_value(out));
             let name = call.name.get().as_str();
             call_listed(
                 limits, alloc, offered, global, table, name, token, operands, are_there, pos,

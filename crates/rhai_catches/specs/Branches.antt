@@ -14,13 +14,13 @@ module _ {H : Type 0} where
   bound (Some variable) source caught =
       new_entry variable.name ReadWrite (caught_value (thrown caught) source caught) ∷ []
 
-  -- there has to be room for it
-  abbrev pub unbound : Option Ident → (full : Bool) → Result (Unit {0}) (EvalAltResult H)
-  unbound None full = Ok tt
-  unbound (Some variable) true = Err (error.ErrorTooManyVariables variable.pos)
-  unbound (Some variable) false = Ok tt
+  -- whether there is room for the catch variable, or the error that there is none
+  abbrev pub room_for_caught : Option Ident → (full : Bool) → Result (Unit {0}) (EvalAltResult H)
+  room_for_caught None full = Ok tt
+  room_for_caught (Some variable) true = Err (error.ErrorTooManyVariables variable.pos)
+  room_for_caught (Some variable) false = Ok tt
 
-  -- the value of a branch is `()`
+  -- what comes out of a branch: `()`, or the error that it raises
   abbrev pub left_by : Cells H → (caught : EvalAltResult H) → Result (Dynamic H) (EvalAltResult H) → Result (Dynamic H) (EvalAltResult H)
   left_by cells caught (Ok v) = Ok unit_value
   left_by cells caught (Err e) = Err (raised cells caught e)

@@ -7,7 +7,7 @@ ghost use Rattle.rhai_state.specs.Scope.{entries_of};
 ghost use Rattle.rhai_machine.specs.language.State.{Answers, HasMemory};
 ghost use Rattle.rhai_machine.specs.language.Tries.{catch_variable};
 ghost use Rattle.rhai_context.specs.Ends.{came};
-ghost use Rattle.rhai_catches.specs.Branches.{bound, left_by, unbound};
+ghost use Rattle.rhai_catches.specs.Branches.{bound, left_by, room_for_caught};
 
 use crate::{caught_value, raised};
 use rhai_context::ends::{put_unit, stop, stopped};
@@ -34,7 +34,7 @@ fn add_caught<H: Host>(
 ) -> Result<(), EvalAltResult<H>>
     ensures bound { OnOk result (entries_of scope.new ≡ entries_of scope.old
         ++ bound (catch_variable (out-Expr variable.now)) source.now caught.now) }
-    ensures exact { HasMemory result → result ≡ unbound (catch_variable (out-Expr variable.now))
+    ensures exact { HasMemory result → result ≡ room_for_caught (catch_variable (out-Expr variable.now))
         (nat_le limits.now.max_variables (length (entries_of scope.old))) }
     ensures same { OnErr result (entries_of scope.new ≡ entries_of scope.old) }
 {
@@ -70,7 +70,7 @@ pub fn bind_caught<H: Host>(
 ) -> bool
     ensures bound { IsTrue result → entries_of scope.new ≡ entries_of scope.old
         ++ bound (catch_variable (out-Expr variable.now)) source.now caught.now }
-    ensures exact { Answers (came result tt place.new) (unbound (catch_variable (out-Expr variable.now))
+    ensures exact { Answers (came result tt place.new) (room_for_caught (catch_variable (out-Expr variable.now))
         (nat_le limits.now.max_variables (length (entries_of scope.old)))) }
     ensures same { result ≡ false → entries_of scope.new ≡ entries_of scope.old }
 {
@@ -80,7 +80,7 @@ pub fn bind_caught<H: Host>(
     }
 }
 
-/// Leaves a branch, whose scope began with so many variables and goes back to them: what comes out of it is
+/// Leaves a branch, whose scope began with so many variables and goes back to them. What comes out of it is
 /// `()`, or an error as `raised` says.
 pub fn leave_branch<H: Host>(
     cells: &CellStore<H>,

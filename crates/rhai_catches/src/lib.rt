@@ -24,7 +24,7 @@ use rhai_values::base::value::{Dynamic, Host, Union};
 use rhai_values::cells::CellStore;
 use std::alloc::{AllocError, Global};
 
-/// The value that an error throws, itself or inside of function calls.
+/// Returns the value that an error throws, itself or inside of function calls.
 fn thrown<H>(error: &EvalAltResult<H>) -> Option<&Dynamic<H>>
     ensures { option_copied result ≡ thrown_by error.now }
 {
@@ -35,8 +35,8 @@ fn thrown<H>(error: &EvalAltResult<H>) -> Option<&Dynamic<H>>
     }
 }
 
-/// The first text of an error, where it has one: of a call the function's name, of two types the one that
-/// was wanted.
+/// Returns the first text of an error, where it has one. Of a call that is the function's name, of two types
+/// the one that was wanted.
 fn text_of<H>(error: &EvalAltResult<H>) -> Option<&Text>
     ensures { option_copied result ≡ text_of_error error.now }
 {
@@ -59,7 +59,7 @@ fn text_of<H>(error: &EvalAltResult<H>) -> Option<&Text>
     }
 }
 
-/// The message of an error: its name, and its first text where it has one.
+/// Builds the message of an error: its name, and its first text where it has one.
 fn message_of<H>(alloc: Global, error: &EvalAltResult<H>) -> Result<Text, AllocError>
     ensures { IfOk result (λ text. text ≡ message_in error.now) }
 {
@@ -121,7 +121,7 @@ impl<H: Host> ErrorMap<H> {
     }
 }
 
-/// The map of an error.
+/// Builds the map of an error.
 fn error_map<H: Host>(
     alloc: Global,
     error: &EvalAltResult<H>,
@@ -141,7 +141,7 @@ fn error_map<H: Host>(
     Ok(Dynamic::new(Union::Map(Boxed::new(alloc, map.entries)?)))
 }
 
-/// The value of a catch variable: a copy of the value that was thrown, or a map of the error.
+/// Makes the value of a catch variable: a copy of what was thrown, or a map of the error.
 ///
 /// # Errors
 /// `ErrorOutOfMemory` at the position.
@@ -163,8 +163,8 @@ pub fn caught_value<H: Host>(
     }
 }
 
-/// Whether an error throws `()`, which in a branch raises the caught error again. A value in a cell that is
-/// held counts as none.
+/// Tells whether an error throws `()`, which in a branch raises the caught error again. A value in a cell
+/// that is held counts as none.
 fn throws_unit<H: Host>(cells: &CellStore<H>, error: &EvalAltResult<H>) -> bool
     ensures { (caught : _) → raised_by (cells_of cells.now) caught error.now
         ≡ raised_if result caught error.now }
@@ -182,8 +182,8 @@ fn throws_unit<H: Host>(cells: &CellStore<H>, error: &EvalAltResult<H>) -> bool
     }
 }
 
-/// What comes out of a branch by an error: the caught error at its place where it throws `()`, and else the
-/// error itself.
+/// Returns the error that comes out of a branch which an error left. Where that error throws `()`, it is the
+/// caught one at the position of the other, and else the error itself.
 pub fn raised<H: Host>(
     cells: &CellStore<H>,
     caught: EvalAltResult<H>,

@@ -16,12 +16,12 @@ use Rattle.rhai_places.specs.Parts.{IsPart, part_of, value_at, value_in, with_va
 use Rattle.rhai_places.specs.PutBack.{put_back, IsNotPut}
 use Rattle.rhai_places.specs.Paths.{ToPlace}
 use Rattle.rhai_machine.specs.machine.Machine.{Go}
-use Rattle.rhai_machine.specs.machine.Memory.{here, wanting, ◌⨾◌}
+use Rattle.rhai_machine.specs.machine.Memory.{here, out_before_step, ◌⨾◌}
 use Rattle.rhai_machine.specs.machine.Point.{Point}
 use Rattle.rhai_machine.specs.language.Setting.{Rules}
 use Rattle.rhai_machine.specs.language.State.{Answers, Local, State}
 use Rattle.rhai_machine.specs.language.Values.{unit_value}
-use Rattle.rhai_machine.specs.language.Frames.{Chain, NewValue, Frame, Core, core, ended, marked, on_value, Back, Changed, Fail, StepDown}
+use Rattle.rhai_machine.specs.language.Frames.{Chain, NewValue, Frame, Core, core, ended, ended_or_changed, on_value, Back, Changed, Fail, StepDown}
 use Rattle.rhai_machine.specs.language.Frames.{Measured, PartAssigned}
 use Rattle.rhai_machine.specs.language.Calls.{sized}
 use Rattle.rhai_machine.specs.language.Chains.{assign_focus, assign_spot, spot_core, unless_barred_by}
@@ -29,13 +29,13 @@ use Rattle.rhai_machine.specs.language.Links.{Link, name_in}
 use Rattle.rhai_machine.specs.language.Located.{bars_key, is_place_spot, spot_of}
 use Rattle.rhai_machine.specs.language.Members.{focus_of, focused_on}
 use Rattle.rhai_machine.specs.language.Runs.{at, with_core, Goes}
-use Rattle.rhai_machine.specs.language.Unwinding.{looked_at, measured_part, not_put, part_assigned}
-use Rattle.rhai_steps.proofs.Pieces.{or_wants, step_by}
+use Rattle.rhai_machine.specs.language.Unwinding.{as_measured, measured_part, put_back_error, part_assigned}
+use Rattle.rhai_steps.proofs.Pieces.{or_runs_out, step_by}
 use Rattle.rhai_assign.specs.Follows as assign
 use Rattle.rhai_assign.specs.Follows.{Follows}
 use Rattle.rhai_assign.specs.Updates.{finished}
-use Rattle.rhai_calls.specs.Marks.{with_mark}
-use Rattle.rhai_steps.specs.Marked.{RunsFrom}
+use Rattle.rhai_calls.specs.ToldChanges.{with_changed}
+use Rattle.rhai_steps.specs.OnFocus.{RunsFrom}
 use Rattle.rhai_chains.specs.Assigned as unless
 use Rattle.rhai_chains.specs.Assigned.{item_assigned, measured_as, property_assigned, FollowsUnless, GoesIn, WentIn, Stays}
 use Rattle.rhai_chains.specs.Chains as from
@@ -43,7 +43,7 @@ use Rattle.rhai_chains.specs.Chains.{FollowsFrom}
 use Rattle.rhai_chains.proofs.SpotLemmas.{back_again, Standing}
 
 -- what changed nothing ends as it would by itself
-plainly_ends : {H : Type 0} (r : Result (Dynamic H) (EvalAltResult H)) → marked (with_mark false r) ≡ ended r
+plainly_ends : {H : Type 0} (r : Result (Dynamic H) (EvalAltResult H)) → ended_or_changed (with_changed false r) ≡ ended r
 plainly_ends (Ok v) = refl
 plainly_ends (Err e) = refl
 
@@ -56,20 +56,20 @@ module _ {H : Type 0} where
 
   -- an assignment that failed
   failed : (outcome : Result (Dynamic H) (EvalAltResult H)) (result : Result (Dynamic H × Bool) (EvalAltResult H)) (e : EvalAltResult H) →
-      IfErr outcome (λ x. result ≡ Err x) → with_mark false outcome ≡ Err e → result ≡ Err e
+      IfErr outcome (λ x. result ≡ Err x) → with_changed false outcome ≡ Err e → result ≡ Err e
   failed (Ok v) result e fault is = cc
   failed (Err x) result e fault is = fault ∙ is
 
   one_place : (place : Option (Dynamic H)) (v w : Dynamic H) → place ≡ Some v → place ≡ Some w → v ≡ w
   one_place place v w is stands = cc
 
-  measured_marked : (r : Result (Dynamic H) (EvalAltResult H)) (k : List (Frame H)) (l : Local H) →
-      on_value r (λ x. core (Changed unit_value) k l) k l ≡ core (marked (with_mark true (finished r))) k l
-  measured_marked (Ok v) k l = refl
-  measured_marked (Err e) k l = refl
+  measured_changed : (r : Result (Dynamic H) (EvalAltResult H)) (k : List (Frame H)) (l : Local H) →
+      on_value r (λ x. core (Changed unit_value) k l) k l ≡ core (ended_or_changed (with_changed true (finished r))) k l
+  measured_changed (Ok v) k l = refl
+  measured_changed (Err e) k l = refl
 
   part_measured : (r : Result (Dynamic H) (EvalAltResult H)) (k : List (Frame H)) (l : Local H) →
-      core (measured_part r) k l ≡ core (marked (with_mark true (finished r))) k l
+      core (measured_part r) k l ≡ core (ended_or_changed (with_changed true (finished r))) k l
   part_measured (Ok v) k l = refl
   part_measured (Err e) k l = refl
 
@@ -78,18 +78,18 @@ module _ {S H : Type 0} (rules : Rules S H) where
   abbrev pub working : Dynamic H → State S H → State S H
   working v s = record s { local = focused_on (Some v) s.local }
 
-  -- an answer that is marked, or want of memory in its place
-  told_marked : (r x : Result (Dynamic H × Bool) (EvalAltResult H)) → Answers r x → (k : List (Frame H)) (s : State S H) →
-      Goes rules (at (marked x) k s) (at (marked r) k s)
-  told_marked (Ok v) x a k s = rw (← a tt) here
-  told_marked (Err e) x a k s = or_wants rules (marked x) k s e (λ m. rw (← a m) here)
+  -- an answer that tells of a change, or that memory ran out
+  told_of_change : (r x : Result (Dynamic H × Bool) (EvalAltResult H)) → Answers r x → (k : List (Frame H)) (s : State S H) →
+      Goes rules (at (ended_or_changed x) k s) (at (ended_or_changed r) k s)
+  told_of_change (Ok v) x a k s = rw (← a tt) here
+  told_of_change (Err e) x a k s = or_runs_out rules (ended_or_changed x) k s e (λ m. rw (← a m) here)
 
   -- ---- the frames of an assignment
 
   -- what stands at a place goes back there
   goes_up : (above v : Dynamic H) (at_spot : Spot) (k : List (Frame H)) (s : State S H) (r : Result (Dynamic H × Bool) (EvalAltResult H)) →
-      Goes rules (at (marked r) (StepDown above (ToPlace at_spot) ∷ k) (working v s))
-      (at (marked r) k (working (with_value above at_spot v) s))
+      Goes rules (at (ended_or_changed r) (StepDown above (ToPlace at_spot) ∷ k) (working v s))
+      (at (ended_or_changed r) k (working (with_value above at_spot v) s))
   goes_up above v at_spot k s (Ok (x, true)) =
       step_by rules _ _ (Go (core (Changed x) k (focused_on (Some (with_value above at_spot v)) s.local))) refl here
   goes_up above v at_spot k s (Ok (x, false)) =
@@ -100,14 +100,14 @@ module _ {S H : Type 0} (rules : Rules S H) where
   -- what was assigned to is measured
   measures : (outcome : Result (Dynamic H) (EvalAltResult H)) (r : Result (Dynamic H × Bool) (EvalAltResult H)) (pos : Position)
       (k : List (Frame H)) (s : State S H) →
-      IfOk outcome (λ _. Answers r (measured_as rules.setting.limits (looked_at s.local.around.cells (focus_of s.local)) pos)) →
+      IfOk outcome (λ _. Answers r (measured_as rules.setting.limits (as_measured s.local.around.cells (focus_of s.local)) pos)) →
       IfErr outcome (λ e. r ≡ Err e) →
-      Goes rules (at (marked (with_mark false outcome)) (Measured pos ∷ k) s) (at (marked r) k s)
+      Goes rules (at (ended_or_changed (with_changed false outcome)) (Measured pos ∷ k) s) (at (ended_or_changed r) k s)
   measures (Ok v) r pos k s fits fault =
-      let seen = looked_at s.local.around.cells (focus_of s.local) in
-      step_by rules _ _ (Go (core (marked (measured_as rules.setting.limits seen pos)) k s.local))
-      (ap (λ (c : Core H). Go c) (measured_marked (sized rules.setting.limits seen pos) k s.local))
-      (told_marked r (measured_as rules.setting.limits seen pos) fits k s)
+      let seen = as_measured s.local.around.cells (focus_of s.local) in
+      step_by rules _ _ (Go (core (ended_or_changed (measured_as rules.setting.limits seen pos)) k s.local))
+      (ap (λ (c : Core H). Go c) (measured_changed (sized rules.setting.limits seen pos) k s.local))
+      (told_of_change r (measured_as rules.setting.limits seen pos) fits k s)
   measures (Err e) r pos k s fits fault = rw fault (step_by rules _ _ (Go (core (Fail e) k s.local)) refl here)
 
   -- the same state, as it is worked on below and above a place
@@ -129,11 +129,11 @@ module _ {S H : Type 0} (rules : Rules S H) where
         Goes rules (with_core (assign_focus rules.setting root n k (focused_on place s.local)) s) q) (sym there) go
 
     abbrev Assigns : Type 0
-    Assigns = FollowsUnless (v ≡ unit_value) rules (assign_focus rules.setting root n) (working v s) (with_mark false outcome) (working w t)
+    Assigns = FollowsUnless (v ≡ unit_value) rules (assign_focus rules.setting root n) (working v s) (with_changed false outcome) (working w t)
 
     -- an assignment to an item goes on in the value above
     pub item_follows :
-        IfOk outcome (λ _. Answers result (measured_as rules.setting.limits (looked_at t.local.around.cells w) n.op.position)) → Assigns →
+        IfOk outcome (λ _. Answers result (measured_as rules.setting.limits (as_measured t.local.around.cells w) n.op.position)) → Assigns →
         FollowsUnless (value_at source at_spot ≡ Some unit_value) rules (item_assigned rules.setting root n at_spot source)
         (working source s) result (working (with_value source at_spot w) t)
     unfolding RunsFrom
@@ -141,21 +141,21 @@ module _ {S H : Type 0} (rules : Rules S H) where
         (runs (Measured n.op.position ∷ StepDown source (ToPlace at_spot) ∷ k)
         ⨾ measures outcome result n.op.position (StepDown source (ToPlace at_spot) ∷ k) (working w t) fits fault
         ⨾ goes_up source w at_spot k t result))
-    item_follows fits (unless.Wants apart pos is same) = unless.Wants
+    item_follows fits (unless.FindsNoMemory apart pos is same) = unless.FindsNoMemory
         (λ stands. apart (one_place (value_at source at_spot) v unit_value there stands)) pos
         (failed outcome result (error.ErrorOutOfMemory pos) fault is) (same_above source v w at_spot s t there same)
 
     -- and so does one to a property
     pub property_follows : IfOk outcome (λ _. Answers result (measured_as rules.setting.limits
-        (looked_at t.local.around.cells (with_value source at_spot w)) n.op.position)) → Assigns →
+        (as_measured t.local.around.cells (with_value source at_spot w)) n.op.position)) → Assigns →
         FollowsUnless (value_at source at_spot ≡ Some unit_value) rules (property_assigned rules.setting root n at_spot source)
         (working source s) result (working (with_value source at_spot w) t)
     unfolding RunsFrom
     property_follows fits (unless.Does runs) = unless.Does (λ k. from_place _ _
         (runs (StepDown source (ToPlace at_spot) ∷ Measured n.op.position ∷ k)
-        ⨾ goes_up source w at_spot (Measured n.op.position ∷ k) t (with_mark false outcome)
+        ⨾ goes_up source w at_spot (Measured n.op.position ∷ k) t (with_changed false outcome)
         ⨾ measures outcome result n.op.position k (working (with_value source at_spot w) t) fits fault))
-    property_follows fits (unless.Wants apart pos is same) = unless.Wants
+    property_follows fits (unless.FindsNoMemory apart pos is same) = unless.FindsNoMemory
         (λ stands. apart (one_place (value_at source at_spot) v unit_value there stands)) pos
         (failed outcome result (error.ErrorOutOfMemory pos) fault is) (same_above source v w at_spot s t there same)
 
@@ -169,27 +169,27 @@ module _ {S H : Type 0} (rules : Rules S H) where
 
     went_in : (v : Dynamic H) → put_back source at_spot w ≡ Some left →
         Goes rules (at (Back v) (PartAssigned source at_spot pos ∷ k) (working w t))
-        (at (marked (measured_as rules.setting.limits w pos)) k (working left t))
-    went_in v is = step_by rules _ _ (Go (core (marked (measured_as rules.setting.limits w pos)) k (focused_on (Some left) t.local)))
+        (at (ended_or_changed (measured_as rules.setting.limits w pos)) k (working left t))
+    went_in v is = step_by rules _ _ (Go (core (ended_or_changed (measured_as rules.setting.limits w pos)) k (focused_on (Some left) t.local)))
         (ap (λ (whole : Option (Dynamic H)). Go (part_assigned rules.setting whole source at_spot pos k (working w t).local)) is
         ∙ ap (λ (c : Core H). Go c) (part_measured (sized rules.setting.limits w pos) k (focused_on (Some left) t.local))) here
 
     not_in : (v : Dynamic H) → put_back source at_spot w ≡ None →
         Goes rules (at (Back v) (PartAssigned source at_spot pos ∷ k) (working w t))
-        (at (Fail (not_put rules.setting at_spot w pos)) k (working source t))
-    not_in v is = step_by rules _ _ (Go (core (Fail (not_put rules.setting at_spot w pos)) k (focused_on (Some source) t.local)))
+        (at (Fail (put_back_error rules.setting at_spot w pos)) k (working source t))
+    not_in v is = step_by rules _ _ (Go (core (Fail (put_back_error rules.setting at_spot w pos)) k (focused_on (Some source) t.local)))
         (ap (λ (whole : Option (Dynamic H)). Go (part_assigned rules.setting whole source at_spot pos k (working w t).local)) is) here
 
     -- where it is not taken back the place is as it was
     is_refused : (v : Dynamic H) (e : EvalAltResult H) → IsNotPut rules.setting.host_type source at_spot w pos e →
         Goes rules (at (Back v) (PartAssigned source at_spot pos ∷ k) (working w t)) (at (Fail e) k (working source t))
-    is_refused v (error.ErrorOutOfMemory p) is = wanting {at = p} (part_fails (error.ErrorOutOfMemory p))
+    is_refused v (error.ErrorOutOfMemory p) is = out_before_step {at = p} (part_fails (error.ErrorOutOfMemory p))
     is_refused v e is = rw (is refl).1 (not_in v (is refl).0)
 
     goes_in : (v : Dynamic H) (result : Result (Dynamic H × Bool) (EvalAltResult H)) →
         GoesIn rules.setting.limits rules.setting.host_type source at_spot w pos left result →
-        Goes rules (at (Back v) (PartAssigned source at_spot pos ∷ k) (working w t)) (at (marked result) k (working left t))
-    goes_in v result (WentIn is told) = went_in v is ⨾ told_marked result (measured_as rules.setting.limits w pos) told k (working left t)
+        Goes rules (at (Back v) (PartAssigned source at_spot pos ∷ k) (working w t)) (at (ended_or_changed result) k (working left t))
+    goes_in v result (WentIn is told) = went_in v is ⨾ told_of_change result (measured_as rules.setting.limits w pos) told k (working left t)
     goes_in v result (Stays e same is not) = rw (same, is) (is_refused v e not)
 
   module _ (root : Expr) (n : NewValue H) (at_spot : Spot) (source v w left : Dynamic H) (s t : State S H)
@@ -215,7 +215,7 @@ module _ {S H : Type 0} (rules : Rules S H) where
     unfolding RunsFrom
     part_follows link done result (assign.Does go) goes = from.Does (λ k. from_part _ _
         (go (PartAssigned source at_spot n.op.position ∷ k) ⨾ goes_in source w left at_spot n.op.position k t done result goes))
-    part_follows link done result (assign.Wants pos is same) goes = cc
+    part_follows link done result (assign.FindsNoMemory pos is same) goes = cc
 
     -- or its assignment fails
     pub part_is_not : (link : Link) (e : EvalAltResult H) →
@@ -226,23 +226,23 @@ module _ {S H : Type 0} (rules : Rules S H) where
         (go (PartAssigned source at_spot n.op.position ∷ k)
         ⨾ subst (λ (x : Dynamic H). Goes rules (at (Fail e) (PartAssigned source at_spot n.op.position ∷ k) (working w t))
         (at (Fail e) k (working x t))) (sym stays) (part_fails source w left at_spot n.op.position k t e)))
-    part_is_not link e (assign.Wants pos is same) stays = from.Wants pos
-        (ap (λ (r : Result (Dynamic H) (EvalAltResult H)). with_mark false r) is) (same_place stays same)
+    part_is_not link e (assign.FindsNoMemory pos is same) stays = from.FindsNoMemory pos
+        (ap (λ (r : Result (Dynamic H) (EvalAltResult H)). with_changed false r) is) (same_place stays same)
 
   -- ---- what is known of a `()`, and forgotten
 
   -- an assignment to a value, in the form of the crate that does it
   pub assigns : (done : Type 0) (root : Expr) (n : NewValue H) (s t : State S H) (r : Result (Dynamic H) (EvalAltResult H)) → (done → ⊥) →
       Follows rules (assign_focus rules.setting root n) s r t →
-      FollowsUnless done rules (assign_focus rules.setting root n) s (with_mark false r) t
+      FollowsUnless done rules (assign_focus rules.setting root n) s (with_changed false r) t
   unfolding RunsFrom
   assigns done root n s t r not (assign.Does go) = unless.Does (λ k. rw (plainly_ends r) (go k))
-  assigns done root n s t r not (assign.Wants pos is same) =
-      unless.Wants not pos (ap (λ (x : Result (Dynamic H) (EvalAltResult H)). with_mark false x) is) same
+  assigns done root n s t r not (assign.FindsNoMemory pos is same) =
+      unless.FindsNoMemory not pos (ap (λ (x : Result (Dynamic H) (EvalAltResult H)). with_changed false x) is) same
 
   pub assigns_at_once : (done : Type 0) (root : Expr) (n : NewValue H) (s t : State S H) (r : Result (Dynamic H) (EvalAltResult H)) →
       ((k : List (Frame H)) → Goes rules (with_core (assign_focus rules.setting root n k s.local) s) (at (ended r) k t)) →
-      FollowsUnless done rules (assign_focus rules.setting root n) s (with_mark false r) t
+      FollowsUnless done rules (assign_focus rules.setting root n) s (with_changed false r) t
   unfolding RunsFrom
   assigns_at_once done root n s t r go = unless.Does (λ k. rw (plainly_ends r) (go k))
 
@@ -250,7 +250,7 @@ module _ {S H : Type 0} (rules : Rules S H) where
   not_done : (done : Type 0) (start : List (Frame H) → Local H → Core H) (s t : State S H)
       (r : Result (Dynamic H × Bool) (EvalAltResult H)) → (done → ⊥) → FollowsFrom rules start s r t → FollowsUnless done rules start s r t
   not_done done start s t r not (from.Does runs) = unless.Does runs
-  not_done done start s t r not (from.Wants pos is same) = unless.Wants not pos is same
+  not_done done start s t r not (from.FindsNoMemory pos is same) = unless.FindsNoMemory not pos is same
 
   module _ (root : Expr) (n : NewValue H) (at_spot : Spot) (source : Dynamic H) (link : Link) (s t : State S H)
       (result : Result (Dynamic H × Bool) (EvalAltResult H)) where
@@ -269,12 +269,12 @@ module _ {S H : Type 0} (rules : Rules S H) where
         (not_done (value_at source at_spot ≡ Some unit_value) (assign_spot rules.setting false at_spot link root n source) s t result
         (no_place (layer_of source) at_spot unit_value part) follows)
 
-  -- it fails, or memory is wanting
-  fails_or_wants : (start : List (Frame H) → Local H → Core H) (s : State S H) (e : EvalAltResult H) →
+  -- it fails, or memory runs out
+  fails_or_runs_out : (start : List (Frame H) → Local H → Core H) (s : State S H) (e : EvalAltResult H) →
       (is_out_of_memory e ≡ false → (k : List (Frame H)) → start k s.local ≡ core (Fail e) k s.local) → FollowsFrom rules start s (Err e) s
   unfolding RunsFrom
-  fails_or_wants start s (error.ErrorOutOfMemory pos) same = from.Wants pos refl refl
-  fails_or_wants start s e same = from.Does (λ k. rw (same refl k) here)
+  fails_or_runs_out start s (error.ErrorOutOfMemory pos) same = from.FindsNoMemory pos refl refl
+  fails_or_runs_out start s e same = from.Does (λ k. rw (same refl k) here)
 
   -- ---- a spot that was found
 
@@ -293,14 +293,14 @@ module _ {S H : Type 0} (rules : Rules S H) where
     pub key_barred : (e : EvalAltResult H) → bars_key source index ≡ true → (is_out_of_memory e ≡ false →
         e ≡ error.ErrorAssignmentToConstant (name_in (out-Expr chain.root)) (start_of chain.root)) →
         FollowsFrom rules start (working source s) (Err e) (working source s)
-    key_barred e barred is = fails_or_wants start (working source s) e (λ m k.
+    key_barred e barred is = fails_or_runs_out start (working source s) e (λ m k.
         ap (λ (b : Bool). goes_on (unless_barred_by b chain.root wanted) k (working source s).local) barred
         ∙ ap (λ (x : EvalAltResult H). core (Fail x) k (working source s).local) (sym (is m)))
 
     -- an index may lead nowhere
     pub none_found : (e : EvalAltResult H) → bars_key source index ≡ false → (is_out_of_memory e ≡ false → wanted ≡ Err e) →
         FollowsFrom rules start (working source s) (Err e) (working source s)
-    none_found e free is = fails_or_wants start (working source s) e (λ m k.
+    none_found e free is = fails_or_runs_out start (working source s) e (λ m k.
         ap (λ (b : Bool). goes_on (unless_barred_by b chain.root wanted) k (working source s).local) free
         ∙ ap (λ (r : Result (Dynamic H × Spot) (EvalAltResult H)). goes_on r k (working source s).local) (is m))
 
@@ -311,11 +311,11 @@ module _ {S H : Type 0} (rules : Rules S H) where
       alike true k = refl
       alike false k = refl
 
-      wants : (added : (after ≡ source) ⊎ (value_at after at_spot ≡ Some unit_value)) →
+      spot_runs_out : (added : (after ≡ source) ⊎ (value_at after at_spot ≡ Some unit_value)) →
           (value_at after at_spot ≡ Some unit_value → ⊥) → (pos : Position) → result ≡ Err (error.ErrorOutOfMemory pos) →
           working left t ≡ working after s → FollowsFrom rules start (working source s) result (working left t)
-      wants (inl stays) apart pos is same = from.Wants pos is (same ∙ ap (λ (x : Dynamic H). working x s) stays)
-      wants (inr stands) apart pos is same = absurd (apart stands)
+      spot_runs_out (inl stays) apart pos is same = from.FindsNoMemory pos is (same ∙ ap (λ (x : Dynamic H). working x s) stays)
+      spot_runs_out (inr stands) apart pos is same = absurd (apart stands)
 
       -- what it leads to is assigned to
       pub spot_follows : bars_key source index ≡ false → wanted ≡ Ok (after, at_spot) → Standing source after at_spot →
@@ -324,8 +324,8 @@ module _ {S H : Type 0} (rules : Rules S H) where
           FollowsFrom rules start (working source s) result (working left t)
       unfolding RunsFrom
       spot_follows free finds stands (unless.Does runs) = from.Does (λ k.
-          subst (λ (c : Core H). Goes rules (with_core c (working source s)) (at (marked result) k (working left t)))
+          subst (λ (c : Core H). Goes rules (with_core c (working source s)) (at (ended_or_changed result) k (working left t)))
           (sym (ap (λ (b : Bool). goes_on (unless_barred_by b chain.root wanted) k (working source s).local) free
           ∙ ap (λ (r : Result (Dynamic H × Spot) (EvalAltResult H)). goes_on r k (working source s).local) finds
           ∙ alike (is_place_spot at_spot) k)) (runs k))
-      spot_follows free finds stands (unless.Wants apart pos is same) = wants stands.added apart pos is same
+      spot_follows free finds stands (unless.FindsNoMemory apart pos is same) = spot_runs_out stands.added apart pos is same

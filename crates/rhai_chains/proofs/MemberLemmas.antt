@@ -6,17 +6,17 @@ use Rattle.rhai_values.specs.declared.base.value.Dynamic.{Dynamic}
 use Rattle.rhai_state.specs.declared.error.EvalAltResult.{EvalAltResult}
 use Rattle.rhai_state.specs.declared.error.EvalAltResult.TheVariants as error
 use Rattle.rhai_machine.specs.machine.Machine.{Go}
-use Rattle.rhai_machine.specs.machine.Memory.{here, wanting, ◌⨾◌}
+use Rattle.rhai_machine.specs.machine.Memory.{here, out_before_step, ◌⨾◌}
 use Rattle.rhai_machine.specs.language.Setting.{Rules}
 use Rattle.rhai_machine.specs.language.State.{Answers, State}
-use Rattle.rhai_machine.specs.language.Frames.{Call, Frame, Property, MemberAccess, core, marked, Ask, Fail}
+use Rattle.rhai_machine.specs.language.Frames.{Call, Frame, Property, MemberAccess, core, ended_or_changed, Ask, Fail}
 use Rattle.rhai_machine.specs.language.Frames.{GetterTried, SetterTried, IndexerTried}
 use Rattle.rhai_machine.specs.language.Members.{after_setter, focus_of, get_item, get_property, getter_missing, got_by, indexer_missing}
 use Rattle.rhai_machine.specs.language.Members.{lacks_indexer, lacks_property, named, set_by, set_item, set_property, setter_missing}
 use Rattle.rhai_machine.specs.language.Runs.{at, Goes, Steps}
 use Rattle.rhai_steps.proofs.Pieces.{step_by}
-use Rattle.rhai_calls.specs.Marks.{MarkedRuns}
-use Rattle.rhai_steps.specs.Marked.{RunsFrom}
+use Rattle.rhai_calls.specs.ToldChanges.{MarkedRuns}
+use Rattle.rhai_steps.specs.OnFocus.{RunsFrom}
 use Rattle.rhai_chains.specs.Members.{tried, tried_by}
 
 -- the value that was answered
@@ -25,16 +25,16 @@ answered_is v w is = cc
 
 module _ {S H : Type 0} (rules : Rules S H) where
   -- memory runs out before a native is asked
-  pub wants_asking : (call : Call H) (s : State S H) (pos : Position) →
+  pub member_runs_out_asking : (call : Call H) (s : State S H) (pos : Position) →
       MarkedRuns rules (Ask call) s (Err (error.ErrorOutOfMemory pos)) s
   unfolding Steps
-  wants_asking call s pos k = wanting {at = pos} here
+  member_runs_out_asking call s pos k = out_before_step {at = pos} here
 
   -- ---- the indexer that is tried
 
   indexer_gone : (otherwise : Result (Dynamic H) (EvalAltResult H)) (k : List (Frame H)) (s : State S H) (e : EvalAltResult H)
       (lacks : Bool) → lacks_indexer e ≡ lacks →
-      Goes rules (at (Fail e) (IndexerTried otherwise ∷ k) s) (at (marked (tried_by lacks e otherwise)) k s)
+      Goes rules (at (Fail e) (IndexerTried otherwise ∷ k) s) (at (ended_or_changed (tried_by lacks e otherwise)) k s)
   indexer_gone (Ok v) k s e true is =
       step_by rules _ _ (Go (indexer_missing true e (Ok v) k s.local))
       (ap (λ (b : Bool). Go (indexer_missing b e (Ok v) k s.local)) is) here
@@ -46,7 +46,7 @@ module _ {S H : Type 0} (rules : Rules S H) where
       (ap (λ (b : Bool). Go (indexer_missing b e otherwise k s.local)) is) here
 
   indexer_answers : (r : Result (Dynamic H × Bool) (EvalAltResult H)) (otherwise : Result (Dynamic H) (EvalAltResult H))
-      (k : List (Frame H)) (s : State S H) → Goes rules (at (marked r) (IndexerTried otherwise ∷ k) s) (at (marked (tried r otherwise)) k s)
+      (k : List (Frame H)) (s : State S H) → Goes rules (at (ended_or_changed r) (IndexerTried otherwise ∷ k) s) (at (ended_or_changed (tried r otherwise)) k s)
   indexer_answers (Ok (v, true)) otherwise k s = step_by rules _ _ _ refl here
   indexer_answers (Ok (v, false)) otherwise k s = step_by rules _ _ _ refl here
   indexer_answers (Err e) otherwise k s = indexer_gone otherwise k s e (lacks_indexer e) refl
@@ -65,19 +65,19 @@ module _ {S H : Type 0} (rules : Rules S H) where
     tries_from otherwise q is k = rw is (runs (IndexerTried otherwise ∷ k) ⨾ indexer_answers r otherwise k new)
 
   -- memory runs out before it is
-  pub wants_trying : (asked : Dynamic H → Call H) (otherwise : Result (Dynamic H) (EvalAltResult H)) (s : State S H) (e : EvalAltResult H)
+  pub member_runs_out_trying : (asked : Dynamic H → Call H) (otherwise : Result (Dynamic H) (EvalAltResult H)) (s : State S H) (e : EvalAltResult H)
       (v : Dynamic H) → Answers (Err e) (Ok v) →
       RunsFrom rules (λ k l. core (Ask (asked (focus_of l))) (IndexerTried otherwise ∷ k) l) s (Err e) s
-  wants_trying asked otherwise s (error.ErrorOutOfMemory pos) v is =
-      tries_from asked s s (Err (error.ErrorOutOfMemory pos)) (wants_asking (asked (focus_of s.local)) s pos) otherwise
+  member_runs_out_trying asked otherwise s (error.ErrorOutOfMemory pos) v is =
+      tries_from asked s s (Err (error.ErrorOutOfMemory pos)) (member_runs_out_asking (asked (focus_of s.local)) s pos) otherwise
       (Err (error.ErrorOutOfMemory pos)) refl
-  wants_trying asked otherwise s e v is = let other : ◌≡◌ {A = Result (Dynamic H) (EvalAltResult H)} (Err e) (Ok v) = is refl in cc
+  member_runs_out_trying asked otherwise s e v is = let other : ◌≡◌ {A = Result (Dynamic H) (EvalAltResult H)} (Err e) (Ok v) = is refl in cc
 
   -- ---- the getter
 
   module _ (access : MemberAccess H) (name : List ℕ) where
     getter_gives : (v : Dynamic H) (changed : Bool) (k : List (Frame H)) (s : State S H) →
-        Goes rules (at (marked (Ok (v, changed))) (GetterTried access name ∷ k) s) (at (marked (Ok (v, changed))) k s)
+        Goes rules (at (ended_or_changed (Ok (v, changed))) (GetterTried access name ∷ k) s) (at (ended_or_changed (Ok (v, changed))) k s)
     getter_gives v true k s = step_by rules _ _ _ refl here
     getter_gives v false k s = step_by rules _ _ _ refl here
 
@@ -117,7 +117,7 @@ module _ {S H : Type 0} (rules : Rules S H) where
 
   module _ (access : MemberAccess H) (name : List ℕ) (value : Dynamic H) (ignores : Bool) where
     setter_gives : (v : Dynamic H) (changed : Bool) (k : List (Frame H)) (s : State S H) →
-        Goes rules (at (marked (Ok (v, changed))) (SetterTried access name value ignores ∷ k) s) (at (marked (Ok (v, changed))) k s)
+        Goes rules (at (ended_or_changed (Ok (v, changed))) (SetterTried access name value ignores ∷ k) s) (at (ended_or_changed (Ok (v, changed))) k s)
     setter_gives v true k s = step_by rules _ _ _ refl here
     setter_gives v false k s = step_by rules _ _ _ refl here
 

@@ -8,12 +8,12 @@ use Rattle.rhai_values.specs.declared.base.value.Dynamic.{Dynamic}
 use Rattle.rhai_state.specs.declared.error.EvalAltResult.{EvalAltResult}
 use Rattle.rhai_state.specs.declared.error.EvalAltResult.TheVariants as error
 use Rattle.rhai_machine.specs.machine.Machine.{Go}
-use Rattle.rhai_machine.specs.machine.Memory.{here, wanting, ◌⨾◌}
+use Rattle.rhai_machine.specs.machine.Memory.{here, out_before_step, ◌⨾◌}
 use Rattle.rhai_machine.specs.machine.Point.{Point}
 use Rattle.rhai_machine.specs.language.Setting.{Rules}
 use Rattle.rhai_machine.specs.language.State.{Answers, Local, State}
 use Rattle.rhai_machine.specs.language.Values.{unit_value}
-use Rattle.rhai_machine.specs.language.Frames.{NewValue, Member, Property, Item, MemberAccess, Frame, Core, core, marked, on_value, Back}
+use Rattle.rhai_machine.specs.language.Frames.{NewValue, Member, Property, Item, MemberAccess, Frame, Core, core, ended_or_changed, on_value, Back}
 use Rattle.rhai_machine.specs.language.Frames.{Changed, Fail, MemberGot, MemberOperated, MemberSet}
 use Rattle.rhai_machine.specs.language.Calls.{sized}
 use Rattle.rhai_machine.specs.language.Chains.{after_set, assign_focus, assign_member, is_property}
@@ -23,7 +23,7 @@ use Rattle.rhai_machine.specs.language.Unwinding.{got_none, operated_core}
 use Rattle.rhai_steps.proofs.Pieces.{step_by}
 use Rattle.rhai_assign.specs.Follows as assign
 use Rattle.rhai_assign.specs.Follows.{Follows}
-use Rattle.rhai_steps.specs.Marked.{RunsFrom}
+use Rattle.rhai_steps.specs.OnFocus.{RunsFrom}
 use Rattle.rhai_chains.specs.Assigned.{none_got, set_last, value_got, value_operated}
 use Rattle.rhai_chains.proofs.AssignLemmas.{working}
 
@@ -65,7 +65,7 @@ module _ {S H : Type 0} (rules : Rules S H) where
   -- what an item's native answered is forgotten
   item_set : (answer result : Result (Dynamic H × Bool) (EvalAltResult H)) (k : List (Frame H)) (s : State S H) →
       IfOk answer (λ _. result ≡ Ok (unit_value, true)) → IfErr answer (λ e. result ≡ Err e) →
-      Goes rules (at (marked answer) (MemberSet unit_value ∷ k) s) (at (marked result) k s)
+      Goes rules (at (ended_or_changed answer) (MemberSet unit_value ∷ k) s) (at (ended_or_changed result) k s)
   item_set (Ok (v, true)) result k s set fault = rw set
       (step_by rules _ _ (Go (core (Back v) (MemberSet unit_value ∷ k) s.local)) refl
       (step_by rules _ _ (Go (core (Changed unit_value) k s.local)) refl here))
@@ -74,7 +74,7 @@ module _ {S H : Type 0} (rules : Rules S H) where
 
   module _ (access : MemberAccess H) (v : Dynamic H) (s t : State S H) (answer : Result (Dynamic H × Bool) (EvalAltResult H)) where
     abbrev sets_over : (answered : Result (Dynamic H × Bool) (EvalAltResult H)) → (k over : List (Frame H)) → Type 0
-    sets_over answered k over = Goes rules (with_core (set_core false access v over s.local) s) (at (marked answered) k t)
+    sets_over answered k over = Goes rules (with_core (set_core false access v over s.local) s) (at (ended_or_changed answered) k t)
 
     -- what the setter of a property gives is the answer
     pub sets_property : is_property access.member ≡ true →
@@ -82,7 +82,7 @@ module _ {S H : Type 0} (rules : Rules S H) where
     unfolding RunsFrom
     sets_property is runs k = subst (sets_over answer k) (sym (behind_property access.member k is)) (runs k)
 
-    -- and of an item `()`, marked
+    -- and of an item `()`, which tells of a change
     pub sets_item : (result : Result (Dynamic H × Bool) (EvalAltResult H)) → is_property access.member ≡ false →
         IfOk answer (λ _. result ≡ Ok (unit_value, true)) → IfErr answer (λ e. result ≡ Err e) →
         RunsFrom rules (set_core false access v) s answer t → RunsFrom rules (set_last access v) s result t
@@ -121,7 +121,7 @@ module _ {S H : Type 0} (rules : Rules S H) where
       (e : EvalAltResult H) → is_property access.member ≡ false → Answers (Err e) (sized rules.setting.limits v pos) →
       RunsFrom rules (value_operated access v pos answer) (working rules f s) (Err e) (working rules f s)
   unfolding RunsFrom
-  item_refused access f v pos answer s (error.ErrorOutOfMemory at_memory) is told k = wanting {at = at_memory}
+  item_refused access f v pos answer s (error.ErrorOutOfMemory at_memory) is told k = out_before_step {at = at_memory}
       (step_by rules _ _ (Go (core (Fail (error.ErrorOutOfMemory at_memory)) k (working rules f s).local)) refl here)
   item_refused access f v pos answer s e is told k = step_by rules _ _ (Go (core (Fail e) k (working rules f s).local))
       (ap (λ (c : Core H). Go c) (operated_item access.member access v pos k (working rules f s).local is)
@@ -147,19 +147,20 @@ module _ {S H : Type 0} (rules : Rules S H) where
         RunsFrom rules (value_got access root n v) (working rules f s) result u
     unfolding RunsFrom
     got_follows done u result (assign.Does go) runs k = begins k _ (go (over k) ⨾ runs k)
-    got_follows done u result (assign.Wants pos is same) runs k = cc
+    got_follows done u result (assign.FindsNoMemory pos is same) runs k = cc
 
     -- or fails
     pub got_fails : (e : EvalAltResult H) →
-        Follows rules (assign_focus rules.setting root n) (working rules v s) (Err e) (working rules w t) → RunsFrom rules (value_got access root n v) (working rules f s) (Err e) (working rules f t)
+        Follows rules (assign_focus rules.setting root n) (working rules v s) (Err e) (working rules w t) →
+        RunsFrom rules (value_got access root n v) (working rules f s) (Err e) (working rules f t)
     unfolding RunsFrom
     got_fails e (assign.Does go) k =
         begins k _ (go (over k) ⨾ step_by rules _ _ (Go (core (Fail e) k (working rules f t).local)) refl here)
-    got_fails e (assign.Wants pos is same) k =
+    got_fails e (assign.FindsNoMemory pos is same) k =
         let told : e ≡ error.ErrorOutOfMemory pos = cc in
         let stays : working rules f t ≡ working rules f s = ap (λ (x : State S H). working rules f x) same in
         subst (λ (x : State S H). Goes rules (at (Back v) (MemberGot access root n ∷ k) (working rules f s)) (at (Fail e) k x)) (sym stays)
-        (rw told (wanting {at = pos}
+        (rw told (out_before_step {at = pos}
         (step_by rules _ _ (Go (core (Fail (error.ErrorOutOfMemory pos)) k (working rules f s).local)) refl here)))
 
   -- ---- it was not got
@@ -192,7 +193,7 @@ module _ {S H : Type 0} (rules : Rules S H) where
 
   module _ (access : MemberAccess H) (root : Expr) (n : NewValue H) (s u : State S H) where
     comes_up : (v : Dynamic H) (marks : Bool) (t : State S H) (k : List (Frame H)) →
-        Goes rules (at (marked (Ok (v, marks))) (MemberGot access root n ∷ k) t) (at (Back v) (MemberGot access root n ∷ k) t)
+        Goes rules (at (ended_or_changed (Ok (v, marks))) (MemberGot access root n ∷ k) t) (at (Back v) (MemberGot access root n ∷ k) t)
     comes_up v true t k = step_by rules _ _ (Go (core (Back v) (MemberGot access root n ∷ k) t.local)) refl here
     comes_up v false t k = here
 
@@ -203,14 +204,14 @@ module _ {S H : Type 0} (rules : Rules S H) where
         RunsFrom rules (set_last access n.value) s result u → assigned result
     unfolding RunsFrom
     sets_plainly result is runs k = subst (λ (op : Option Token).
-        Goes rules (with_core (assign_member rules.setting op access root n k s.local) s) (at (marked result) k u)) (sym is) (runs k)
+        Goes rules (with_core (assign_member rules.setting op access root n k s.local) s) (at (ended_or_changed result) k u)) (sym is) (runs k)
 
     pub operates : (token : Token) (v : Dynamic H) (marks : Bool) (t : State S H) (result : Result (Dynamic H × Bool) (EvalAltResult H)) →
         n.op.op ≡ Some token → RunsFrom rules (get_core access) s (Ok (v, marks)) t →
         RunsFrom rules (value_got access root n v) t result u → assigned result
     unfolding RunsFrom
     operates token v marks t result is gets runs k = subst (λ (op : Option Token).
-        Goes rules (with_core (assign_member rules.setting op access root n k s.local) s) (at (marked result) k u)) (sym is)
+        Goes rules (with_core (assign_member rules.setting op access root n k s.local) s) (at (ended_or_changed result) k u)) (sym is)
         (gets (MemberGot access root n ∷ k) ⨾ comes_up v marks t k ⨾ runs k)
 
     pub gets_none : (token : Token) (e : EvalAltResult H) (t : State S H) (result : Result (Dynamic H × Bool) (EvalAltResult H)) →
@@ -218,5 +219,5 @@ module _ {S H : Type 0} (rules : Rules S H) where
         RunsFrom rules (none_got access root n e) t result u → assigned result
     unfolding RunsFrom
     gets_none token e t result is gets runs k = subst (λ (op : Option Token).
-        Goes rules (with_core (assign_member rules.setting op access root n k s.local) s) (at (marked result) k u)) (sym is)
+        Goes rules (with_core (assign_member rules.setting op access root n k s.local) s) (at (ended_or_changed result) k u)) (sym is)
         (gets (MemberGot access root n ∷ k) ⨾ runs k)

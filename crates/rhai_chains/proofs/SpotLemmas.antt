@@ -14,7 +14,7 @@ use Rattle.rhai_places.specs.declared.spot.Access.{Access}
 use Rattle.rhai_places.specs.declared.spot.Refusal.{Refusal}
 use Rattle.rhai_places.specs.declared.spot.Spot.{Spot}
 use Rattle.rhai_places.specs.declared.spot.Spot.TheVariants as spot
-use Rattle.rhai_places.specs.Found.{found, found_by, settled, through, with_key, IsKeyless}
+use Rattle.rhai_places.specs.Found.{found, found_by, spot_or_error, through, with_key, IsKeyless}
 use Rattle.rhai_places.specs.Indexing.{located}
 use Rattle.rhai_places.specs.Parts.{IsPart, IsPlace, IsThere, value_at, value_in, with_value, with_value_in}
 use Rattle.rhai_places.proofs.FoundLemmas.{keyless}
@@ -126,7 +126,7 @@ module _ {H : Type 0} where
         record { kept = kept_if (layer_of after) at (λ missing. is_other (same_spot ∙ missing)) there; added = inl (sym same_value) }
 
     settled_stands : (index : Dynamic H) (r : Result Spot Refusal) → located (layer_of source) (layer_of index) ≡ r →
-        Gives (settled how host cells source index r) → IsThere (layer_of after) at → Standing source after at
+        Gives (spot_or_error how host cells source index r) → IsThere (layer_of after) at → Standing source after at
     settled_stands index (Ok spot.Missing) leads is there =
         let given : Gives (Ok (with_key source (layer_of source) (layer_of index))) = rw adds at is in
         let same : with_key source (layer_of source) (layer_of index) ≡ (after, at) = cc in

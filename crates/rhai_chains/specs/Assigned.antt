@@ -20,8 +20,8 @@ use Rattle.rhai_machine.specs.language.Calls.{sized}
 use Rattle.rhai_machine.specs.language.Chains.{after_set, assign_focus}
 use Rattle.rhai_machine.specs.language.Members.{focused_on, set_core}
 use Rattle.rhai_assign.specs.Updates.{finished}
-use Rattle.rhai_calls.specs.Marks.{with_mark}
-use Rattle.rhai_steps.specs.Marked.{RunsFrom}
+use Rattle.rhai_calls.specs.ToldChanges.{with_changed}
+use Rattle.rhai_steps.specs.OnFocus.{RunsFrom}
 
 module _ {H : Type 0} where
   -- a spot that is there, and is no key that is missing
@@ -29,16 +29,16 @@ module _ {H : Type 0} where
   IsKept source spot.Missing = ⊥
   IsKept source at = IsThere source at
 
-  -- As `FollowsFrom`; but where this was done, as a key that was inserted, memory is not wanting before anything was done.
+  -- As `FollowsFrom`; but where this was done, as a key that was inserted, memory does not run out before anything was done.
   pub data FollowsUnless {S : Type 0} (done : Type 0) (rules : Rules S H) (start : List (Frame H) → Local H → Core H) (old : State S H)
       (result : Result (Dynamic H × Bool) (EvalAltResult H)) (new : State S H) : Type 0 where
     Does : RunsFrom rules start old result new → FollowsUnless done rules start old result new
-    Wants : (done → ⊥) → (pos : Position) → result ≡ Err (error.ErrorOutOfMemory pos) → new ≡ old →
+    FindsNoMemory : (done → ⊥) → (pos : Position) → result ≡ Err (error.ErrorOutOfMemory pos) → new ≡ old →
         FollowsUnless done rules start old result new
 
-  -- an assignment ends marked, once what was assigned to is measured
+  -- an assignment tells of a change, once what was assigned to is measured
   abbrev pub measured_as : Limits → Dynamic H → Position → Result (Dynamic H × Bool) (EvalAltResult H)
-  measured_as limits v at = with_mark true (finished (sized limits v at))
+  measured_as limits v at = with_changed true (finished (sized limits v at))
 
   -- What became of an assigned part: it went into its place, and was measured then; or the place stays, and this is why.
   pub data GoesIn (limits : Limits) (host_name : H → List ℕ) (source : Dynamic H) (at : Spot) (part : Dynamic H) (pos : Position) (left :

@@ -11,19 +11,20 @@ use Rattle.rhai_state.specs.declared.error.EvalAltResult.TheVariants as error
 use Rattle.rhai_machine.specs.language.State.{Local, State}
 use Rattle.rhai_machine.specs.language.Links.{Link, LinkForm, AtIndex, AtProperty, AtMethod, asked_by, link_of}
 use Rattle.rhai_machine.specs.language.Frames.{Chain, NewValue, Frame, Core, core, Walk}
-use Rattle.rhai_steps.specs.Marked.{RunsFrom}
+use Rattle.rhai_steps.specs.OnFocus.{RunsFrom}
 use Rattle.rhai_chains.specs.declared.chain.NewValue.{NewValue as CodeValue}
 use Rattle.rhai_chains.specs.declared.chain.Switches.{Switches}
 use Rattle.rhai_chains.specs.declared.links.Link.{Link as CodeLink}
 use Rattle.rhai_chains.specs.declared.links.LinkForm.{LinkForm as CodeForm}
 use Rattle.rhai_chains.specs.declared.links.LinkForm.TheVariants as form
 
--- a link of the code as the machine has it
+-- what a link of the code is, as the machine has it
 abbrev pub form_seen : CodeForm → LinkForm
 form_seen (form.Index index) = AtIndex index.now
 form_seen (form.Property name pos) = AtProperty name.now pos
 form_seen (form.Method call pos) = AtMethod call.now.name call.now.args pos
 
+-- a link of the code, as the machine has it
 abbrev pub link_seen : CodeLink → Link
 link_seen link = record {
   form = form_seen link.form;
@@ -55,6 +56,7 @@ module _ {H : Type 0} where
   abbrev pub new_value : CodeValue H → NewValue H
   new_value new = record { op = new.op; value = new.value }
 
+  -- what is assigned, if anything is, as the machine has it
   abbrev pub new_of : Option (CodeValue H) → Option (NewValue H)
   new_of new = option_map new_value new
 
@@ -72,9 +74,9 @@ module _ {H : Type 0} where
   abbrev pub WalkRuns : {S : Type 0} → Rules S H → Chain H → State S H → Result (Dynamic H × Bool) (EvalAltResult H) → State S H → Type 0
   WalkRuns rules chain old result new = RunsFrom rules (λ k l. core (Walk chain) k l) old result new
 
-  -- A part of a walk that begins in the middle of a rule: over any stack the machine goes from there to how it ended; or memory was wanting
+  -- A part of a walk that begins in the middle of a rule: over any stack the machine goes from there to how it ended; or memory ran out
   -- before the part did anything, where the machine has done so already.
   pub data FollowsFrom {S : Type 0} (rules : Rules S H) (start : List (Frame H) → Local H → Core H) (old : State S H)
       (result : Result (Dynamic H × Bool) (EvalAltResult H)) (new : State S H) : Type 0 where
     Does : RunsFrom rules start old result new → FollowsFrom rules start old result new
-    Wants : (pos : Position) → result ≡ Err (error.ErrorOutOfMemory pos) → new ≡ old → FollowsFrom rules start old result new
+    FindsNoMemory : (pos : Position) → result ≡ Err (error.ErrorOutOfMemory pos) → new ≡ old → FollowsFrom rules start old result new

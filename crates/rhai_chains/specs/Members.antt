@@ -4,7 +4,7 @@ use Rattle.rhai_values.specs.declared.base.value.Dynamic.{Dynamic}
 use Rattle.rhai_state.specs.declared.error.EvalAltResult.{EvalAltResult}
 use Rattle.rhai_machine.specs.language.Frames as machine
 use Rattle.rhai_machine.specs.language.Members.{lacks_indexer}
-use Rattle.rhai_calls.specs.Marks.{with_mark}
+use Rattle.rhai_calls.specs.ToldChanges.{with_changed}
 use Rattle.rhai_chains.specs.declared.members.Member.{Member as CodeMember}
 use Rattle.rhai_chains.specs.declared.members.Member.TheVariants as member
 use Rattle.rhai_chains.specs.declared.members.MemberAccess.{MemberAccess as CodeAccess}
@@ -15,15 +15,17 @@ module _ {H : Type 0} where
   member_of (member.Property name pos) = machine.Property name.now pos
   member_of (member.Item index) = machine.Item index
 
+  -- how the code gets and sets a member, as the machine has it
   abbrev pub access_of : CodeAccess H → machine.MemberAccess H
   access_of access = record { member = member_of access.member; at = access.at; guarded = access.guarded }
 
-  -- what comes of the indexer: where it is missing something stands for it
+  -- what comes of an indexer that failed: where it is missing something stands for it, and else its error does
   abbrev pub tried_by : (lacks : Bool) → EvalAltResult H → (otherwise : Result (Dynamic H) (EvalAltResult H)) →
       Result (Dynamic H × Bool) (EvalAltResult H)
-  tried_by true e otherwise = with_mark false otherwise
+  tried_by true e otherwise = with_changed false otherwise
   tried_by false e otherwise = Err e
 
+  -- what comes of the indexer: its answer, or what stands for it where it is missing
   abbrev pub tried : Result (Dynamic H × Bool) (EvalAltResult H) → (otherwise : Result (Dynamic H) (EvalAltResult H)) →
       Result (Dynamic H × Bool) (EvalAltResult H)
   tried (Ok answer) otherwise = Ok answer

@@ -5,19 +5,19 @@ use Rattle.rhai_state.specs.declared.error.EvalAltResult.{EvalAltResult}
 use Rattle.rhai_state.specs.Errors.{is_out_of_memory}
 use Rattle.rhai_places.specs.declared.spot.Access.{Access}
 use Rattle.rhai_places.specs.declared.spot.Spot.{Spot}
-use Rattle.rhai_machine.specs.language.Links.{Link, place_in_text}
+use Rattle.rhai_machine.specs.language.Links.{Link, link_position}
 
 -- how a link finds its spot: whether a missing key is inserted there, and whether it is an error
 abbrev pub way_through : Link → (adds fails : Bool) → Access
 way_through link adds fails = record {
-  idx_pos = place_in_text link.form;
+  idx_pos = link_position link.form;
   op_pos = link.at;
   add_if_not_found = adds;
   fail_on_invalid_map_property = fails;
 }
 
 module _ {H : Type 0} where
-  -- the spot is there in the value as it is left; at an error, which is the one that is wanted unless memory was wanting, it stays
+  -- the spot is there in the value as it is left; at an error, which is the one that is wanted unless memory ran out, it stays
   abbrev pub FindsSpot : Result Spot (EvalAltResult H) → (wanted : Result (Dynamic H × Spot) (EvalAltResult H)) → (before after : Dynamic H) →
       Type 0
   FindsSpot (Ok at) wanted before after = wanted ≡ Ok (after, at)

@@ -26,7 +26,7 @@ pub enum Ready<'e> {
     Literal(&'e Expr),
 }
 
-/// The expressions whose values a link asks for.
+/// Lists the expressions whose values a link asks for.
 pub fn asked<'e>(link: Link<'e>) -> &'e [Expr]
     ensures { result.now ≡ asked_by (form_seen link.entry.form) }
 {
@@ -37,7 +37,7 @@ pub fn asked<'e>(link: Link<'e>) -> &'e [Expr]
     }
 }
 
-/// Whether an expression is a literal.
+/// Tells whether an expression is a literal.
 fn is_literal<H: Host>(expr: &Expr) -> bool
     ensures { result ≡ is_some (literal_of {H = H} (out-Expr expr.now)) }
 {
@@ -52,7 +52,7 @@ fn is_literal<H: Host>(expr: &Expr) -> bool
     )
 }
 
-/// What a link asks for, where that needs no step.
+/// Finds what a link asks for, where that needs no step.
 fn ready_form<'e, H: Host>(form: LinkForm<'e>) -> Option<Ready<'e>>
     ensures { IsReady result (ready_by {H = H} (form_seen form.entry)) }
 {
@@ -73,9 +73,9 @@ fn ready_form<'e, H: Host>(form: LinkForm<'e>) -> Option<Ready<'e>>
     }
 }
 
-/// What a chain is given at once: one link alone asks for nothing, or for a literal. None of any other
+/// Finds what a chain is given at once: one link alone asks for nothing, or for a literal. None of any other
 /// chain, whose arguments are charged and evaluated.
-pub fn needs_no_step<'e, H: Host>(chain: &'e Expr) -> Option<Ready<'e>>
+pub fn ready_at_once<'e, H: Host>(chain: &'e Expr) -> Option<Ready<'e>>
     ensures { IsReady result (at_once {H = H} (link_in (out-Expr chain.now))) }
 {
     let link = link_of(chain)?;
@@ -85,7 +85,7 @@ pub fn needs_no_step<'e, H: Host>(chain: &'e Expr) -> Option<Ready<'e>>
     }
 }
 
-/// The value of a literal that needs no step: nothing is charged.
+/// Makes the value of a literal that needs no step: nothing is charged.
 pub fn ready_value<H: Host>(alloc: Global, literal: &Expr) -> Result<Dynamic<H>, EvalAltResult<H>>
     requires { IsTrue (is_some (literal_of {H = H} (out-Expr literal.now))) }
     ensures { (v : _) → literal_of (out-Expr literal.now) ≡ Some v → Answers result (Ok v) }

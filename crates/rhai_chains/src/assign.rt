@@ -19,12 +19,12 @@ ghost use Rattle.rhai_machine.specs.language.Located.{bars_key as is_barred, is_
 ghost use Rattle.rhai_machine.specs.language.Located.{lacks_key as is_lacking};
 ghost use Rattle.rhai_machine.specs.language.Setting.{rules_of};
 ghost use Rattle.rhai_machine.specs.language.State.{Answers};
-ghost use Rattle.rhai_machine.specs.language.Unwinding.{looked_at};
+ghost use Rattle.rhai_machine.specs.language.Unwinding.{as_measured};
 ghost use Rattle.rhai_machine.specs.language.Values.{unit_value as unit};
 ghost use Rattle.rhai_steps.specs.Agreement.{KeepsSight};
 ghost use Rattle.rhai_steps.specs.States.{state_of};
-ghost use Rattle.rhai_calls.specs.Marks.{with_mark};
-ghost use Rattle.rhai_steps.specs.Marked.{lending, RunsFrom};
+ghost use Rattle.rhai_calls.specs.ToldChanges.{with_changed};
+ghost use Rattle.rhai_steps.specs.OnFocus.{lending, RunsFrom};
 ghost use Rattle.rhai_chains.specs.Assigned.{item_assigned, measured_as, none_got, property_assigned};
 ghost use Rattle.rhai_chains.specs.Assigned.{set_last, value_got, value_operated};
 ghost use Rattle.rhai_chains.specs.Assigned.{FollowsUnless, GoesIn, IsKept};
@@ -34,7 +34,7 @@ ghost use Rattle.rhai_chains.specs.Members.{access_of};
 use crate::chain::{NewValue, Switches};
 use crate::links::{Link, LinkForm};
 use crate::members::{Member, MemberAccess, get_member, lacks_indexer, set_member};
-use crate::spots::{find_spot, way_by};
+use crate::spots::{access_for, find_spot};
 use rhai_assign::focus::{assign_focus, assign_inserted};
 use rhai_places::part::read_part;
 use rhai_places::place::place_mut;
@@ -54,7 +54,7 @@ use rhai_values::base::value::{AccessMode, Dynamic, Host, Union};
 use rhai_values::cells::CellStore;
 use std::alloc::Global;
 
-/// A constant without a name that is assigned to.
+/// Builds the error of a constant without a name that is assigned to.
 #[cold]
 #[inline(never)]
 fn nameless_constant<H>(alloc: Global, pos: Position) -> EvalAltResult<H>
@@ -66,7 +66,7 @@ fn nameless_constant<H>(alloc: Global, pos: Position) -> EvalAltResult<H>
     }
 }
 
-/// A constant that a chain assigns to, with the name of the chain's root.
+/// Builds the error of a constant that a chain assigns to, with the name of the chain's root.
 #[cold]
 #[inline(never)]
 fn constant_of<H>(alloc: Global, root: &Expr) -> EvalAltResult<H>
@@ -80,7 +80,7 @@ fn constant_of<H>(alloc: Global, root: &Expr) -> EvalAltResult<H>
     }
 }
 
-/// Whether a value is a map that does not have a key.
+/// Tells whether a value is a map that does not have a key.
 fn lacks_key<H>(source: &Dynamic<H>, index: &Dynamic<H>) -> bool
     ensures { result ≡ is_lacking (layer_of source.now) (layer_of index.now) }
 {
@@ -90,14 +90,14 @@ fn lacks_key<H>(source: &Dynamic<H>, index: &Dynamic<H>) -> bool
     }
 }
 
-/// Whether a value is a map that may not be changed and does not have a key.
+/// Tells whether a value is a map that may not be changed and does not have a key.
 fn bars_key<H>(source: &Dynamic<H>, index: &Dynamic<H>) -> bool
     ensures { result ≡ is_barred source.now index.now }
 {
     matches!(source.mode, AccessMode::ReadOnly) && lacks_key(source, index)
 }
 
-/// Whether a value is a `()` that may be changed, as a key has it that was inserted.
+/// Tells whether a value is a `()` that may be changed, as a key has it that was inserted.
 fn is_plain_unit<H>(value: &Dynamic<H>) -> bool
     ensures { IsTrue result ↔ (value.now ≡ unit) }
 {
@@ -107,9 +107,10 @@ fn is_plain_unit<H>(value: &Dynamic<H>) -> bool
     }
 }
 
-/// A value as it is measured: that of its cell where it is a handle, unless the cell is held.
-fn looked_through<'a, H>(cells: &'a CellStore<H>, value: &'a Dynamic<H>) -> &'a Dynamic<H>
-    ensures { result.now ≡ looked_at (cells_of cells.now) value.now }
+/// Looks at a value as it is measured. A handle is looked through to the value of its cell, unless the cell
+/// is held.
+fn measured_value<'a, H>(cells: &'a CellStore<H>, value: &'a Dynamic<H>) -> &'a Dynamic<H>
+    ensures { result.now ≡ as_measured (cells_of cells.now) value.now }
 {
     match &value.value {
         Union::Cell(id) => match cells.get(*id) {
@@ -120,7 +121,7 @@ fn looked_through<'a, H>(cells: &'a CellStore<H>, value: &'a Dynamic<H>) -> &'a 
     }
 }
 
-/// What an assignment ends with, once what it assigned to is measured: `()`, marked.
+/// Measures what was assigned to. The assignment ends with `()` then, and tells of a change.
 fn measure<H: Host>(
     limits: &Limits,
     alloc: Global,
@@ -139,8 +140,8 @@ fn measure<H: Host>(
     }
 }
 
-/// The same through a handle, unless the assignment failed.
-fn measured<H: Host>(
+/// Measures what was assigned to, through a handle, unless the assignment failed.
+fn measure_assigned<H: Host>(
     limits: &Limits,
     alloc: Global,
     cells: &CellStore<H>,
@@ -149,15 +150,15 @@ fn measured<H: Host>(
     pos: Position,
 ) -> Result<(Dynamic<H>, bool), EvalAltResult<H>>
     ensures fits { IfOk outcome (λ _. Answers result
-        (measured_as limits.now (looked_at (cells_of cells.now) target.now) pos)) }
+        (measured_as limits.now (as_measured (cells_of cells.now) target.now) pos)) }
     ensures fault { IfErr outcome (λ e. result ≡ Err e) }
 {
     let_go(outcome?);
-    measure(limits, alloc, looked_through(cells, target), pos)
+    measure(limits, alloc, measured_value(cells, target), pos)
 }
 
-/// Assigns to a value. A `()` may be a key's that was inserted: there memory is wanting only where the
-/// machine wants it.
+/// Assigns to a value. A `()` may be a key's that was inserted: there memory runs out only where the machine
+/// finds none.
 fn assign_to<H: Host, T: NativeTable<H>>(
     limits: &Limits,
     fast: bool,
@@ -174,7 +175,7 @@ fn assign_to<H: Host, T: NativeTable<H>>(
         let rules = rules_of limits.now H.name_of offer T.natives in
         FollowsUnless (target.old ≡ unit) rules (assign_focus_core rules.setting root.now (new_value new))
         (state_of (T.state table.old) global.old scope (lending held target.old))
-        (with_mark false result) (state_of (T.state table.new) global.new scope (lending held target.new)) }
+        (with_changed false result) (state_of (T.state table.new) global.new scope (lending held target.new)) }
 {
     let NewValue { op, value } = new;
     if is_plain_unit(target) {
@@ -208,7 +209,7 @@ fn assign_item<H: Host, T: NativeTable<H>>(
     let pos = new.op.position;
     let place = place_mut(&mut source.value, spot);
     let outcome = assign_to(limits, fast, alloc, global, table, place, root, new);
-    measured(limits, alloc, &global.cells, place, outcome, pos)
+    measure_assigned(limits, alloc, &global.cells, place, outcome, pos)
 }
 
 /// Assigns to a property of a map, which is measured then.
@@ -236,10 +237,11 @@ fn assign_property<H: Host, T: NativeTable<H>>(
     let pos = new.op.position;
     let place = place_mut(&mut source.value, spot);
     let outcome = assign_to(limits, fast, alloc, global, table, place, root, new);
-    measured(limits, alloc, &global.cells, source, outcome, pos)
+    measure_assigned(limits, alloc, &global.cells, source, outcome, pos)
 }
 
-/// An assigned part goes back into its place, and is measured then. What is refused leaves the place.
+/// Puts an assigned part back into its place, and measures it then. What is refused leaves the place as it
+/// was.
 fn put_assigned<H: Host>(
     limits: &Limits,
     alloc: Global,
@@ -363,7 +365,7 @@ fn assign_place<H: Host, T: NativeTable<H>>(
     }
 }
 
-/// Whether a value stands at a spot.
+/// Tells whether a value stands at a spot.
 fn is_place(spot: Spot) -> bool
     ensures { result ≡ is_place_spot spot }
 {
@@ -402,9 +404,9 @@ fn assign_spot<H: Host, T: NativeTable<H>>(
     assign_part(limits, fast, alloc, global, table, source, spot, root, new)
 }
 
-/// Assigns to what an index or a key leads to: a place, which is measured then, or of a property its map; or
-/// a part, which goes back into its place and is measured. A key that is missing is inserted, but a map that
-/// may not be changed gets none. The answer is `()`, marked.
+/// Assigns to what an index or a key leads to. A place is measured then, or of a property its map; a part
+/// goes back into its place and is measured. A key that is missing is inserted, but a map that may not be
+/// changed gets none. The answer is `()`, and tells of a change.
 ///
 /// # Errors
 /// Those of `crate::spots::find_spot`; at the root's start `ErrorAssignmentToConstant` for a missing key of a
@@ -436,7 +438,7 @@ pub fn assign_at<H: Host, T: NativeTable<H>>(
         let_go(new.value);
         return Err(constant_of(alloc, root));
     }
-    let how = way_by(link, true, switches);
+    let how = access_for(link, true, switches);
     match find_spot(alloc, &global.cells, source, index, how) {
         Ok(spot) => {
             let fast = switches.fast_operators;
@@ -451,14 +453,15 @@ pub fn assign_at<H: Host, T: NativeTable<H>>(
     }
 }
 
-/// Whether a member is a property.
+/// Tells whether a member is a property.
 fn is_property<H>(access: &MemberAccess<'_, H>) -> bool
     ensures { result ≡ is_of_property (access_of access.now).member }
 {
     matches!(access.member, Member::Property(..))
 }
 
-/// What comes of a member that was set at the end of an assignment: of an item `()`, marked.
+/// Ends an assignment in which an item was set. Its answer is `()` for what the item's native gave, and tells
+/// of a change.
 fn item_set<H: Host>(
     answer: Result<(Dynamic<H>, bool), EvalAltResult<H>>,
 ) -> Result<(Dynamic<H>, bool), EvalAltResult<H>>
@@ -570,7 +573,8 @@ fn operate<H: Host, T: NativeTable<H>>(
     }
 }
 
-/// Where a member was not got: an item without an indexer is set to the right side as it is.
+/// Sets an item without an indexer to the right side as it is, where it was not got. Any other member that
+/// was not got answers the error.
 fn set_ungot<H: Host, T: NativeTable<H>>(
     limits: &Limits,
     alloc: Global,
@@ -601,8 +605,8 @@ fn set_ungot<H: Host, T: NativeTable<H>>(
     Err(error)
 }
 
-/// Assigns to a member of the focus: sets it, or by an operator gets it, operates on what was got, and sets
-/// that.
+/// Assigns to a member of the focus. The member is set, or by an operator it is got, what was got is operated
+/// on, and it is set to that.
 pub fn assign_member<H: Host, T: NativeTable<H>>(
     limits: &Limits,
     switches: Switches,

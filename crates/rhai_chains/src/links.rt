@@ -41,21 +41,21 @@ pub struct Link<'e> {
     pub behind: Option<&'e Expr>,
 }
 
-/// Whether a chain stops at `()`.
+/// Tells whether a chain stops at `()`.
 fn stops(options: ASTFlags) -> bool
     ensures { result ≡ stops_in options }
 {
     options.contains(ASTFlags::NEGATED)
 }
 
-/// Whether a chain stands in brackets, and does not go on.
+/// Tells whether a chain stands in brackets, and does not go on.
 fn breaks(options: ASTFlags) -> bool
     ensures { result ≡ breaks_in options }
 {
     options.contains(ASTFlags::BREAK)
 }
 
-/// What the operator of a chain works on, None of what is no chain.
+/// Returns what the operator of a chain works on, None of what is no chain.
 pub fn first_of(chain: &Expr) -> Option<&Expr>
     ensures { option_copied result ≡ first_in (out-Expr chain.now) }
 {
@@ -65,7 +65,7 @@ pub fn first_of(chain: &Expr) -> Option<&Expr>
     }
 }
 
-/// A method without a path; a call with one is no link.
+/// Makes a link of a method without a path. A call with one is no link.
 fn method_form(call: &FnCallExpr, pos: Position) -> Option<LinkForm<'_>>
     ensures { option_map form_seen result ≡ if is_unqualified call.now.namespace.path
         then Some (AtMethod call.now.name call.now.args pos) else None }
@@ -77,7 +77,7 @@ fn method_form(call: &FnCallExpr, pos: Position) -> Option<LinkForm<'_>>
     }
 }
 
-/// What stands behind a dot: a property, or a method without a path.
+/// Reads what stands behind a dot: a property, or a method without a path.
 fn form_behind_dot(expr: &Expr) -> Option<LinkForm<'_>>
     ensures { option_map form_seen result ≡ dot_form (out-Expr expr.now) }
 {
@@ -88,7 +88,7 @@ fn form_behind_dot(expr: &Expr) -> Option<LinkForm<'_>>
     }
 }
 
-/// A link with its options.
+/// Builds a link with its options.
 fn link_with<'e>(
     form: LinkForm<'e>,
     at: Position,
@@ -109,7 +109,7 @@ fn link_with<'e>(
     }
 }
 
-/// The link of an index: the first of the chain behind it, or all that stands there.
+/// Reads the link of an index: the first of the chain behind it, or all that stands there.
 fn index_link(behind: &Expr, options: ASTFlags, at: Position) -> Link<'_>
     ensures { link_seen result ≡
         index_link_in (breaks_in options) (first_in (out-Expr behind.now)) behind.now options at }
@@ -124,8 +124,8 @@ fn index_link(behind: &Expr, options: ASTFlags, at: Position) -> Link<'_>
     }
 }
 
-/// The link of a dot: the first of the chain behind it, or what stands there alone. A dot in brackets does
-/// not go on.
+/// Reads the link of a dot: the first of the chain behind it, or what stands there alone. A dot in brackets
+/// does not go on.
 fn dot_link(behind: &Expr, options: ASTFlags, at: Position) -> Option<Link<'_>>
     ensures { option_map link_seen result ≡
         dot_link_in (breaks_in options) (first_in (out-Expr behind.now)) behind.now options at }
@@ -146,7 +146,7 @@ fn dot_link(behind: &Expr, options: ASTFlags, at: Position) -> Option<Link<'_>>
     }
 }
 
-/// The first link of a chain, None of what is no chain.
+/// Reads the first link of a chain, None of what is no chain.
 pub fn link_of(chain: &Expr) -> Option<Link<'_>>
     ensures { option_map link_seen result ≡ link_in (out-Expr chain.now) }
 {

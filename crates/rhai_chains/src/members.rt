@@ -14,11 +14,11 @@ ghost use Rattle.rhai_machine.specs.language.Members.{lacks_property as lacks_pr
 ghost use Rattle.rhai_machine.specs.language.Setting.{rules_of};
 ghost use Rattle.rhai_steps.specs.Agreement.{KeepsSight};
 ghost use Rattle.rhai_steps.specs.States.{state_of};
-ghost use Rattle.rhai_calls.specs.Marks.{MarkedRuns};
-ghost use Rattle.rhai_steps.specs.Marked.{lending, RunsFrom};
+ghost use Rattle.rhai_calls.specs.ToldChanges.{MarkedRuns};
+ghost use Rattle.rhai_steps.specs.OnFocus.{lending, RunsFrom};
 ghost use Rattle.rhai_chains.specs.Members.{access_of, tried};
 
-use rhai_calls::native::{Passing, marked, pass_native};
+use rhai_calls::native::{Passing, pass_native, tell_changed};
 use rhai_few::Few;
 use rhai_state::error::EvalAltResult;
 use rhai_state::limits::Limits;
@@ -50,21 +50,21 @@ pub struct MemberAccess<'a, H> {
     pub guarded: bool,
 }
 
-/// Whether an error says that there is no such property.
+/// Tells whether an error says that there is no such property.
 fn lacks_property<H: Host>(error: &EvalAltResult<H>) -> bool
     ensures { result ≡ lacks_property_in error.now }
 {
     matches!(error, EvalAltResult::ErrorDotExpr(_, _))
 }
 
-/// Whether an error says that there is no indexer for two types.
+/// Tells whether an error says that there is no indexer for two types.
 pub fn lacks_indexer<H: Host>(error: &EvalAltResult<H>) -> bool
     ensures { result ≡ lacks_indexer_in error.now }
 {
     matches!(error, EvalAltResult::ErrorIndexingType(_, _))
 }
 
-/// The name of a getter or a setter: that of the property behind what such names begin with.
+/// Builds the name of a getter or a setter: that of the property behind what such names begin with.
 fn name_behind(alloc: Global, prefix: &str, name: &Shared<Text>) -> Result<Text, AllocError>
     ensures { IfOk result (λ text. text ≡ prefix.now ++ name.now) }
 {
@@ -73,7 +73,7 @@ fn name_behind(alloc: Global, prefix: &str, name: &Shared<Text>) -> Result<Text,
     Ok(Text::from_string(text))
 }
 
-/// A list of two values, or want of memory.
+/// Puts two values into a list of their own, if there is memory for it.
 fn list_of_both<H: Host>(
     alloc: Global,
     first: Dynamic<H>,
@@ -87,7 +87,7 @@ fn list_of_both<H: Host>(
     Ok(items)
 }
 
-/// The first value of a list.
+/// Takes the first value out of a list.
 fn first_of<H: Host>(items: &mut Few<Dynamic<H>>) -> Dynamic<H>
     requires { 0 < length items.old }
     ensures { slice_get items.old 0 ≡ Some result }
@@ -116,7 +116,7 @@ fn ask_property<H: Host, T: NativeTable<H>>(
         focus.old rest.now))
         (state_of (T.state table.old) global.old scope (lending held focus.old))
         result (state_of (T.state table.new) global.new scope (lending held focus.new)) }
-    ensures unmarked { IfOk result (λ answer. passing.marks ≡ false → answer.1 ≡ false) }
+    ensures untold { IfOk result (λ answer. passing.marks ≡ false → answer.1 ≡ false) }
 {
     let Ok(text) = name_behind(alloc, prefix, name) else {
         return Err(EvalAltResult::ErrorOutOfMemory(pos));
@@ -143,7 +143,7 @@ fn ask_item<H: Host, T: NativeTable<H>>(
         MarkedRuns (rules_of limits.now H.name_of offer T.natives) (Ask (item_got at focus.old index.old))
         (state_of (T.state table.old) global.old scope (lending held focus.old))
         result (state_of (T.state table.new) global.new scope (lending held focus.new)) }
-    ensures unmarked { IfOk result (λ answer. answer.1 ≡ false) }
+    ensures untold { IfOk result (λ answer. answer.1 ≡ false) }
     ensures index { index.new ≡ index.old }
 {
     let passing = Passing {
@@ -264,7 +264,7 @@ fn ask_to_set<H: Host, T: NativeTable<H>>(
     answer
 }
 
-/// What comes of the indexer: where it is missing, something stands for it.
+/// Answers as the indexer did, or where it is missing with what stands for it.
 fn unless_missing<H: Host>(
     answer: Result<(Dynamic<H>, bool), EvalAltResult<H>>,
     otherwise: Result<Dynamic<H>, EvalAltResult<H>>,
@@ -279,7 +279,7 @@ fn unless_missing<H: Host>(
         Err(error) => {
             if lacks_indexer(&error) {
                 drop(error);
-                marked(otherwise, false)
+                tell_changed(otherwise, false)
             } else {
                 drop(otherwise);
                 Err(error)
@@ -288,8 +288,7 @@ fn unless_missing<H: Host>(
     }
 }
 
-/// The indexer is asked for a property that has no getter. Where it is missing too, the getter's error
-/// stands.
+/// Asks the indexer for a property that has no getter. Where it is missing too, the getter's error stands.
 fn get_named<H: Host, T: NativeTable<H>>(
     limits: &Limits,
     alloc: Global,
@@ -307,7 +306,7 @@ fn get_named<H: Host, T: NativeTable<H>>(
         (λ k l. core (Ask (item_got at (focus_of l) (named name.now))) (IndexerTried (Err missing) ∷ k) l)
         (state_of (T.state table.old) global.old scope (lending held focus.old))
         result (state_of (T.state table.new) global.new scope (lending held focus.new)) }
-    ensures unmarked { IfOk result (λ answer. answer.1 ≡ false) }
+    ensures untold { IfOk result (λ answer. answer.1 ≡ false) }
 {
     match text_value(name, at) {
         Ok(index) => {
@@ -323,7 +322,7 @@ fn get_named<H: Host, T: NativeTable<H>>(
     }
 }
 
-/// A property of the focus.
+/// Gets a property of the focus.
 fn get_property<H: Host, T: NativeTable<H>>(
     limits: &Limits,
     alloc: Global,
@@ -342,7 +341,7 @@ fn get_property<H: Host, T: NativeTable<H>>(
         (got_by (Property name.now pos) (record { member = member; at = at; guarded = guarded }))
         (state_of (T.state table.old) global.old scope (lending held focus.old))
         result (state_of (T.state table.new) global.new scope (lending held focus.new)) }
-    ensures unmarked { IfOk result (λ answer. answer.1 ≡ false) }
+    ensures untold { IfOk result (λ answer. answer.1 ≡ false) }
 {
     let none = Items::new(alloc);
     let rest = none.as_slice();
@@ -364,8 +363,8 @@ fn get_property<H: Host, T: NativeTable<H>>(
     }
 }
 
-/// The value of a member of the focus, which is lent to the native. It is not marked, and the access stays
-/// as it was.
+/// Gets the value of a member of the focus, which is lent to the native. It tells of no change, and the
+/// access stays as it was.
 ///
 /// # Errors
 /// Those of the natives; where a property has neither getter nor indexer the getter's `ErrorDotExpr`.
@@ -383,7 +382,7 @@ pub fn get_member<H: Host, T: NativeTable<H>>(
         RunsFrom (rules_of limits.now H.name_of offer T.natives) (get_core (access_of access.old))
         (state_of (T.state table.old) global.old scope (lending held focus.old))
         result (state_of (T.state table.new) global.new scope (lending held focus.new)) }
-    ensures unmarked { IfOk result (λ answer. answer.1 ≡ false) }
+    ensures untold { IfOk result (λ answer. answer.1 ≡ false) }
     ensures access { access_of access.new ≡ access_of access.old }
 {
     let at = access.at;
@@ -396,7 +395,7 @@ pub fn get_member<H: Host, T: NativeTable<H>>(
     }
 }
 
-/// The indexer sets a property that has no setter.
+/// Asks the indexer to set a property that has no setter.
 fn set_named<H: Host, T: NativeTable<H>>(
     limits: &Limits,
     alloc: Global,
@@ -433,8 +432,11 @@ fn set_named<H: Host, T: NativeTable<H>>(
     }
 }
 
-/// What stands for a missing indexer after a setter: the setter's error, or `()` where that is ignored.
-fn instead<H: Host>(ignores: bool, error: EvalAltResult<H>) -> Result<Dynamic<H>, EvalAltResult<H>>
+/// Tells what stands for a missing indexer after a setter: the setter's error, or `()` where that is ignored.
+fn instead_of_indexer<H: Host>(
+    ignores: bool,
+    error: EvalAltResult<H>,
+) -> Result<Dynamic<H>, EvalAltResult<H>>
     ensures { result ≡ after_setter ignores error }
 {
     if ignores {
@@ -478,7 +480,7 @@ fn set_property<H: Host, T: NativeTable<H>>(
         }
         Err(error) => {
             if lacks_property(&error) {
-                let otherwise = instead(ignores, error);
+                let otherwise = instead_of_indexer(ignores, error);
                 set_named(
                     limits, alloc, global, table, focus, name, value, guarded, at, otherwise,
                 )
@@ -521,9 +523,9 @@ fn set_item<H: Host, T: NativeTable<H>>(
     }
 }
 
-/// Sets a member of the focus, which is lent to the native. The answer is the native's, marked where that
-/// is not pure. Where the absence of an indexer is ignored, `()` stands for what it answers. An index goes
-/// to the native, and `()` is left of it.
+/// Sets a member of the focus, which is lent to the native. The answer is the native's, and tells of a change
+/// where that is not pure. Where the absence of an indexer is ignored, `()` stands for what it answers. An
+/// index goes to the native, and `()` is left of it.
 ///
 /// # Errors
 /// Those of the natives; where a property has neither setter nor indexer the setter's `ErrorDotExpr`,

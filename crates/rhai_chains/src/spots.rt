@@ -25,8 +25,8 @@ use rhai_values::base::value::{Dynamic, Host, Union};
 use rhai_values::cells::CellStore;
 use std::alloc::Global;
 
-/// How a link finds its spot.
-pub fn way_by(link: Link<'_>, adds: bool, switches: Switches) -> Access
+/// Tells how a link finds its spot.
+pub fn access_for(link: Link<'_>, adds: bool, switches: Switches) -> Access
     ensures { result ≡ way_through (link_seen link.entry) adds switches.fail_on_invalid_map_property }
 {
     let idx_pos = match link.form {
@@ -42,7 +42,7 @@ pub fn way_by(link: Link<'_>, adds: bool, switches: Switches) -> Access
     }
 }
 
-/// The spot that an index leads to; a key that a map does not have is inserted where that is asked. An
+/// Finds the spot that an index leads to. A key that a map does not have is inserted where that is asked. An
 /// index that is a handle counts as its cell's value.
 ///
 /// # Errors
@@ -64,7 +64,7 @@ pub fn find_spot<H: Host>(
     }
 }
 
-/// The spot that an index leads to which is no handle.
+/// Finds the spot that an index leads to which is no handle.
 fn find_by_value<H: Host>(
     alloc: Global,
     cells: &CellStore<H>,
@@ -84,7 +84,7 @@ fn find_by_value<H: Host>(
     }
 }
 
-/// The spot of a key that a map does not have yet.
+/// Inserts a key that a map does not have yet, and returns its spot.
 fn add_missing<H: Host>(
     source: &mut Dynamic<H>,
     index: &Dynamic<H>,
@@ -101,7 +101,7 @@ fn add_missing<H: Host>(
     }
 }
 
-/// What is taken of a spot: a copy of a place, `()` for a key that is missing, or a part.
+/// Takes what a spot leads to. It is a copy of a place, `()` for a key that is missing, or a part.
 pub fn take_spot<H: Host>(
     alloc: Global,
     source: &Dynamic<H>,
@@ -121,7 +121,7 @@ pub fn take_spot<H: Host>(
     }
 }
 
-/// The item or the value at a place.
+/// Borrows the item or the value at a place.
 fn place_ref<H>(source: &Union<H>, spot: Spot) -> &Dynamic<H>
     requires { IsPlace (out-Union H source.now) spot }
     ensures { value_in (out-Union H source.now) spot ≡ Some result.now }

@@ -1,5 +1,6 @@
 -- What is found of a call that is no `eval`, and what it declares.
-use Rattle.std.proofs.Common.{◌≡◌, ap, ◌∙◌, Bool, true, false, ◌&&◌, IsTrue, List, [], ◌∷◌, ◌++◌, length, map, refl, sym, Result, subst, if◌then◌else◌}
+use Rattle.std.proofs.Common.{◌≡◌, ap, ◌∙◌, Bool, true, false, ◌&&◌, IsTrue, List, [], ◌∷◌, ◌++◌, length, map, refl, sym, Result, subst}
+use Rattle.std.proofs.Common.{if◌then◌else◌}
 use Rattle.std.proofs.lemmas.List.{length-map}
 use Rattle.std.specs.Result.{IfErr, OnOk}
 use Rattle.rhai_tree.specs.declared.expr.Expr.TheFolds.{fold_out-FnCallExpr}
@@ -13,8 +14,8 @@ use Rattle.rhai_tree.specs.Reading as walk
 use Rattle.rhai_tree.specs.Reading.{faulty, sound}
 use Rattle.rhai_tree.specs.WellFormed.{faults_in_all, seen_call, seen_expr}
 use Rattle.rhai_tree.specs.declared.fault.CheckFault.TheVariants.{BadImportOffset}
-use Rattle.rhai_check.specs.Declares as declares
-use Rattle.rhai_check.specs.Declares.{Needs, any_need, declares_call, needs_of}
+use Rattle.rhai_check.specs.MemoryNeeds as declares
+use Rattle.rhai_check.specs.MemoryNeeds.{Needs, any_need, call_needs_memory, needs_of}
 use Rattle.rhai_check.specs.Refusals.{Refuses}
 use Rattle.rhai_check.specs.declared.check.place.Place.{Place}
 use Rattle.rhai_check.specs.Around.{above, around}
@@ -34,7 +35,8 @@ module _ (r : walk.Reading) (call : FnCallExpr) (pos : Position) (c : r.Around)
 
 -- it may run where its path and its arguments may
 pub call_runs : {A : Type 0} (r : Result A CheckFault) (call : FnCallExpr) (pos : Position) (d : Declared) →
-    is_eval_call call.namespace call.name (length call.args) ≡ false → is_good_root call.namespace.index call.namespace.path d.imports ≡ true →
+    is_eval_call call.namespace call.name (length call.args) ≡ false → is_good_root call.namespace.index call.namespace.path
+    d.imports ≡ true →
     OnOk r ((base : Frame) → IsTrue (all_resolve_exprs (map tests_of call.args) (above base d))) →
     OnOk r ((base : Frame) → IsTrue ((walk.seen_call sound call).value pos (above base d)))
 call_runs r call pos d plain good h = ok_then r (λ runs base.
@@ -43,19 +45,21 @@ call_runs r call pos d plain good h = ok_then r (λ runs base.
     ∙ runs base) h
 
 -- a call declares what its arguments do
-call_declares : (call : FnCallExpr) → declares_call call ≡ any_need (map needs_of call.args)
-call_declares call = fold_out-FnCallExpr Needs Bool Bool Bool (Unit {0}) Bool declares.expr_step declares.stmt_step declares.conditional_step
+call_declares : (call : FnCallExpr) → call_needs_memory call ≡ any_need (map needs_of call.args)
+call_declares call = fold_out-FnCallExpr Needs Bool Bool Bool (Unit {0}) Bool declares.expr_step declares.stmt_step
+    declares.conditional_step
     declares.call_step (λ entry. tt) declares.block_step call
 
 -- what refuses its arguments refuses it
 pub call_refused : {A : Type 0} (r : Result A CheckFault) (call : FnCallExpr) (pos : Position) (d : Declared) (place : Place) →
-    is_eval_call call.namespace call.name (length call.args) ≡ false → is_good_root call.namespace.index call.namespace.path d.imports ≡ true →
+    is_eval_call call.namespace call.name (length call.args) ≡ false → is_good_root call.namespace.index call.namespace.path
+    d.imports ≡ true →
     IfErr r (λ fault. Refuses (faults_in_all (map seen_expr call.args) (around d place)) (any_need (map needs_of call.args)) fault) →
-    IfErr r (λ fault. Refuses ((seen_call call).value pos (around d place)) (declares_call call) fault)
+    IfErr r (λ fault. Refuses ((seen_call call).value pos (around d place)) (call_needs_memory call) fault)
 call_refused r call pos d place plain good h =
     let behind = faults_in_all (map seen_expr call.args) (around d place) in
     let found : (seen_call call).value pos (around d place) ≡ behind =
     call_found faulty call pos (around d place) plain
     ∙ ap (λ (b : Bool). (if b then [] else BadImportOffset call.namespace.position ∷ []) ++ behind) good in
-    err_then r (λ fault refuses. subst (λ (fs : List CheckFault). Refuses fs (declares_call call) fault) (sym found)
+    err_then r (λ fault refuses. subst (λ (fs : List CheckFault). Refuses fs (call_needs_memory call) fault) (sym found)
     (subst (λ (b : Bool). Refuses behind b fault) (sym (call_declares call)) refuses)) h

@@ -18,8 +18,8 @@ use Rattle.rhai_tree.specs.declared.flags.ASTFlags.{ASTFlags}
 use Rattle.rhai_tree.specs.declared.position.Position.{Position}
 use Rattle.rhai_tree.specs.Layers.{ExprLayer}
 use Rattle.rhai_tree.specs.Context.{Context}
-use Rattle.rhai_check.specs.Declares as declares
-use Rattle.rhai_check.specs.Declares.{declares_expr}
+use Rattle.rhai_check.specs.MemoryNeeds as declares
+use Rattle.rhai_check.specs.MemoryNeeds.{expr_needs_memory}
 use Rattle.rhai_tree.specs.Frame.{tests_of, resolves_expr, dot_resolves, name_resolves, bracket_resolves}
 use Rattle.rhai_tree.specs.Names.{Frame}
 use Rattle.rhai_tree.specs.Reading as walk
@@ -34,9 +34,12 @@ use Rattle.rhai_check.specs.declared.check.declared.Declared.{Declared}
 
 module _ (r : walk.Reading) where
   -- what is seen of the parts of one level
-  abbrev pub parts : ExprLayer → layer.Expr-F (walk.Seen r) (walk.SeenStmt r) (walk.SeenConditional r) (walk.SeenCall r) (walk.SeenEntry r) (walk.Seen r)
-  parts = map-Expr Expr Stmt ConditionalExpr FnCallExpr MapEntry StmtBlock (walk.Seen r) (walk.SeenStmt r) (walk.SeenConditional r) (walk.SeenCall r)
-      (walk.SeenEntry r) (walk.Seen r) (walk.seen_expr r) (walk.seen_stmt r) (walk.seen_conditional r) (walk.seen_call r) (walk.seen_entry r)
+  abbrev pub parts : ExprLayer → layer.Expr-F (walk.Seen r) (walk.SeenStmt r) (walk.SeenConditional r) (walk.SeenCall r) (walk.SeenEntry
+      r) (walk.Seen r)
+  parts = map-Expr Expr Stmt ConditionalExpr FnCallExpr MapEntry StmtBlock (walk.Seen r) (walk.SeenStmt r) (walk.SeenConditional r)
+      (walk.SeenCall r)
+      (walk.SeenEntry r) (walk.Seen r) (walk.seen_expr r) (walk.seen_stmt r) (walk.seen_conditional r) (walk.seen_call r)
+      (walk.seen_entry r)
       (walk.seen_block r)
 
   abbrev pub level : ExprLayer → walk.Seen r
@@ -48,8 +51,10 @@ module _ (r : walk.Reading) where
 
   -- a block is no chain
   block_apart : (block : StmtBlock) → (walk.seen_block r block).link ≡ walk.IndexAlone
-  block_apart block = ap (λ (s : walk.Seen r). s.link) (fold_out-StmtBlock (walk.Seen r) (walk.SeenStmt r) (walk.SeenConditional r) (walk.SeenCall r)
-      (walk.SeenEntry r) (walk.Seen r) (walk.expr_step r) (walk.stmt_step r) (walk.conditional_step r) (walk.call_step r) (walk.entry_step r)
+  block_apart block = ap (λ (s : walk.Seen r). s.link) (fold_out-StmtBlock (walk.Seen r) (walk.SeenStmt r) (walk.SeenConditional r)
+      (walk.SeenCall r)
+      (walk.SeenEntry r) (walk.Seen r) (walk.expr_step r) (walk.stmt_step r) (walk.conditional_step r) (walk.call_step r)
+      (walk.entry_step r)
       (walk.block_step r) block)
 
   -- where a chain ends at a bracket, what is behind it is an expression by itself
@@ -231,20 +236,20 @@ module _ (e first rest : Expr) (l : ExprLayer) (ends : Bool) (behind : walk.Find
         ok_then r (λ other. whole ∙ name_passes (walk.named_in faulty (seen_expr first).link) behind pos c none other) h
 
     module _ (declared : declares.form_step (expr_declares l) ≡ true) (fault : CheckFault) where
-      refuses_whole : Refuses (first_faults first behind pos c) (declares_expr first || declares_expr rest) fault
-          → Refuses (dot_faults ends (seen_expr e).link pos c) (declares_expr e) fault
+      refuses_whole : Refuses (first_faults first behind pos c) (expr_needs_memory first || expr_needs_memory rest) fault
+          → Refuses (dot_faults ends (seen_expr e).link pos c) (expr_needs_memory e) fault
       refuses_whole h = refuses_more _ _ _ _ fault (λ k. subst (λ (fs : List CheckFault). IsFirst fs fault) (sym whole) k)
           (λ k. declares-expr e l is ∙ declared) h
 
-      pub chain_refused : Refuses (name_faults (seen_expr first).link pos c) (declares_expr first) fault
-          → Refuses (dot_faults ends (seen_expr e).link pos c) (declares_expr e) fault
+      pub chain_refused : Refuses (name_faults (seen_expr first).link pos c) (expr_needs_memory first) fault
+          → Refuses (dot_faults ends (seen_expr e).link pos c) (expr_needs_memory e) fault
       chain_refused h =
-          refuses_whole (name_refused (walk.named_in faulty (seen_expr first).link) behind pos c _ (declares_expr rest) fault h)
+          refuses_whole (name_refused (walk.named_in faulty (seen_expr first).link) behind pos c _ (expr_needs_memory rest) fault h)
 
-      pub rest_refused : name_faults (seen_expr first).link pos c ≡ [] → Refuses (behind c) (declares_expr rest) fault
-          → Refuses (dot_faults ends (seen_expr e).link pos c) (declares_expr e) fault
+      pub rest_refused : name_faults (seen_expr first).link pos c ≡ [] → Refuses (behind c) (expr_needs_memory rest) fault
+          → Refuses (dot_faults ends (seen_expr e).link pos c) (expr_needs_memory e) fault
       rest_refused none h =
-          refuses_whole (behind_refused (walk.named_in faulty (seen_expr first).link) behind pos c (declares_expr first) _ fault none h)
+          refuses_whole (behind_refused (walk.named_in faulty (seen_expr first).link) behind pos c (expr_needs_memory first) _ fault none h)
 
 -- such a chain may run
 pub chain_runs : {A : Type 0} (r : Result A CheckFault) (e first : Expr) (l : ExprLayer) (ends : Bool) (behind : walk.Finds sound)

@@ -20,7 +20,8 @@ use Rattle.rhai_check.specs.declared.check.declared.Declared.{Declared}
 
 -- what is seen of an entry has its key
 key_seen : (r : walk.Reading) (entry : MapEntry) → walk.key_in r (walk.seen_entry r entry) ≡ key_of entry
-key_seen r entry = ap (walk.key_in r) (fold_out-MapEntry (walk.Seen r) (walk.SeenStmt r) (walk.SeenConditional r) (walk.SeenCall r) (walk.SeenEntry r)
+key_seen r entry = ap (walk.key_in r) (fold_out-MapEntry (walk.Seen r) (walk.SeenStmt r) (walk.SeenConditional r) (walk.SeenCall r)
+    (walk.SeenEntry r)
     (walk.Seen r) (walk.expr_step r) (walk.stmt_step r) (walk.conditional_step r) (walk.call_step r) (walk.entry_step r)
     (walk.block_step r) entry)
 

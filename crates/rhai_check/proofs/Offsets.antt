@@ -61,7 +61,8 @@ kept : (o k at : ℕ) (test : Bool) → o ≡ suc k → further o test at ≡ su
 kept (suc o) k at test e = e
 kept zero k at test e = cc
 
-found_above : (base : List Name) (name : Name) (names : List Name) (k : ℕ) → offset_of name names ≡ suc k → offset_of name (base ++ names) ≡ suc k
+found_above : (base : List Name) (name : Name) (names : List Name) (k : ℕ) → offset_of name names ≡ suc k →
+    offset_of name (base ++ names) ≡ suc k
 found_above [] name names k e = e
 found_above (n ∷ base) name names k e = kept _ k _ (bytes_eq n name) (found_above base name names k e)
 
@@ -97,7 +98,10 @@ module _ (base : Frame) (namespace : Namespace) (d : Declared) (good : is_good_r
       → is_good offset name (if is_unqualified namespace.path then d.names else []) ≡ true
       → variable_resolves offset name namespace pos (above base d) ≡ true
   variable_above offset name pos e =
-      rw (root_above base.imports namespace.index namespace.path d.imports good, among_above base.names offset name namespace.path d.names e)
+      rw (
+        root_above base.imports namespace.index namespace.path d.imports good,
+        among_above base.names offset name namespace.path d.names e,
+      )
       refl
 
 -- behind a path an offset is good where there is none

@@ -16,8 +16,8 @@ use Rattle.rhai_tree.specs.declared.position.Position.{Position}
 use Rattle.rhai_tree.specs.Layers.{ExprLayer, StmtLayer}
 use Rattle.rhai_tree.specs.Context.{Context, importing}
 use Rattle.rhai_check.specs.Around.{above, around}
-use Rattle.rhai_check.specs.Declares as declares
-use Rattle.rhai_check.specs.Declares.{declares_expr}
+use Rattle.rhai_check.specs.MemoryNeeds as declares
+use Rattle.rhai_check.specs.MemoryNeeds.{expr_needs_memory}
 use Rattle.rhai_tree.specs.Reading as walk
 use Rattle.rhai_tree.specs.Reading.{faulty, sound}
 use Rattle.rhai_tree.specs.Frame.{tests_of, resolves_stmt, var_names}
@@ -90,7 +90,7 @@ runs_at e l frame is h = ap (λ (s : Tests). s.value frame) (resolves-expr e l i
 
 pub refused_expr_at : {A : Type 0} (r : Result A CheckFault) (e : Expr) (l : ExprLayer) (c : Context) → out-Expr e ≡ l
     → IfErr r (λ fault. Refuses ((walk.expr_step faulty (expr_faults l)).value c) (declares.form_step (expr_declares l)) fault)
-    → IfErr r (λ fault. Refuses ((seen_expr e).value c) (declares_expr e) fault)
+    → IfErr r (λ fault. Refuses ((seen_expr e).value c) (expr_needs_memory e) fault)
 refused_expr_at r e l c is h = err_then r (λ fault. refuses_expr_at e l c fault is) h
 
 -- the left side of an assignment that is no place
@@ -113,7 +113,8 @@ var_passes (Ok x) faults index name place d new none is = rw (none, around_var i
 var_passes (Err e) faults index name place d new none is = tt
 
 pub var_runs : {A : Type 0} (r : Result A CheckFault) (value : walk.Finds sound) (index : Option NonZeroUsize) (name : Name)
-    (d new : Declared) → OnOk r ((base : Frame) → IsTrue (value (above base d))) → OnOk r (new ≡ record d { names = var_names index name d.names })
+    (d new : Declared) → OnOk r ((base : Frame) → IsTrue (value (above base d))) →
+    OnOk r (new ≡ record d { names = var_names index name d.names })
     → OnOk r ((base : Frame) →
     ◌≡◌ {A = Bool × Frame} (value (above base d), walk.after_var sound index name (above base d)) (true, above base new))
 var_runs (Ok x) value index name d new h is = λ base. rw (h base, above_var index name base d, is) refl

@@ -1,4 +1,4 @@
--- A fault of a part is a fault of what holds the part.
+-- A fault of a part is a fault of what contains the part.
 use Rattle.std.proofs.Common.{◌≡◌, ◌≢◌, Bool, true, false, ◌||◌, IsTrue, List, [], ◌∷◌, ◌++◌, refl, sym, ap, ◌∙◌, subst, length, ◌<◌, ℕ}
 use Rattle.std.proofs.Common.{suc, arith, Result, Ok, Err, drop, map, get_or}
 use Rattle.std.specs.List.{Contains}
@@ -13,7 +13,7 @@ use Rattle.rhai_tree.specs.declared.expr.Expr.{Expr}
 use Rattle.rhai_tree.specs.declared.expr.Stmt.{Stmt}
 use Rattle.rhai_tree.specs.Context.{Context}
 use Rattle.rhai_tree.specs.Forms.{any_of}
-use Rattle.rhai_check.specs.Declares.{any_need, needs_of, declares_expr, declares_stmt}
+use Rattle.rhai_check.specs.MemoryNeeds.{any_need, needs_of, expr_needs_memory, stmt_needs_memory}
 use Rattle.rhai_check.specs.Refusals.{IsFirst, Refuses}
 use Rattle.rhai_tree.specs.WellFormed.{seen_expr, seen_stmt, faults_in_all, faults_in_list}
 
@@ -25,7 +25,7 @@ either_right : (a b : Bool) → IsTrue b → IsTrue (a || b)
 either_right true b e = refl
 either_right false b e = e
 
--- what stands, or wants memory, in a part does so in the whole
+-- what refuses a part, a fault or memory that ran out, refuses the whole
 pub refuses_more : (fs gs : List CheckFault) (a b : Bool) (e : CheckFault) → (IsFirst fs e → IsFirst gs e) → (IsTrue a → IsTrue b)
     → Refuses fs a e → Refuses gs b e
 refuses_more fs gs a b (BadOffset pos) f g h = f h
@@ -72,30 +72,30 @@ refused (Err y) faults declares e (is, and) h = subst (λ (z : CheckFault). Refu
 pub refuses_expr : (exprs : List Expr) (i : ℕ) (x : Expr) (c : Context) (e : CheckFault) → i < length exprs → x ≡ get_or exprs i x
     → faults_in_all (map seen_expr exprs) c ≡ faults_in_all (map seen_expr (drop i exprs)) c
     → (IsTrue (any_need (map needs_of (drop i exprs))) → IsTrue (any_need (map needs_of exprs)))
-    → Refuses ((seen_expr x).value c) (declares_expr x) e
+    → Refuses ((seen_expr x).value c) (expr_needs_memory x) e
     → Refuses (faults_in_all (map seen_expr exprs) c) (any_need (map needs_of exprs)) e
 refuses_expr exprs i x c e lt is same declares h =
     let here : drop i exprs ≡ x ∷ drop (suc i) exprs = drop-cons exprs i x lt ∙ ap (λ y. y ∷ drop (suc i) exprs) (sym is) in
     let rest = λ (fs : List Expr). faults_in_all (map seen_expr fs) c in
     let whole : faults_in_all (map seen_expr exprs) c ≡ (seen_expr x).value c ++ faults_in_all (map seen_expr (drop (suc i) exprs)) c =
     same ∙ ap rest here in
-    let first = refuses_first ((seen_expr x).value c) (faults_in_all (map seen_expr (drop (suc i) exprs)) c) (declares_expr x)
+    let first = refuses_first ((seen_expr x).value c) (faults_in_all (map seen_expr (drop (suc i) exprs)) c) (expr_needs_memory x)
     (any_need (map needs_of (drop (suc i) exprs))) e h in
     refuses_more _ _ (any_need (map needs_of (drop i exprs))) _ e (λ k. k) declares (rw (whole, here) first)
 
 pub refuses_stmt : (stmts : List Stmt) (i : ℕ) (x : Stmt) (c d : Context) (e : CheckFault) → i < length stmts → x ≡ get_or stmts i x
     → faults_in_list (map seen_stmt stmts) c ≡ faults_in_list (map seen_stmt (drop i stmts)) d
-    → (IsTrue (any_of (map declares_stmt (drop i stmts))) → IsTrue (any_of (map declares_stmt stmts)))
-    → Refuses (seen_stmt x d).0 (declares_stmt x) e
-    → Refuses (faults_in_list (map seen_stmt stmts) c).0 (any_of (map declares_stmt stmts)) e
+    → (IsTrue (any_of (map stmt_needs_memory (drop i stmts))) → IsTrue (any_of (map stmt_needs_memory stmts)))
+    → Refuses (seen_stmt x d).0 (stmt_needs_memory x) e
+    → Refuses (faults_in_list (map seen_stmt stmts) c).0 (any_of (map stmt_needs_memory stmts)) e
 refuses_stmt stmts i x c d e lt is same declares h =
     let here : drop i stmts ≡ x ∷ drop (suc i) stmts = drop-cons stmts i x lt ∙ ap (λ y. y ∷ drop (suc i) stmts) (sym is) in
     let rest = λ (fs : List Stmt). (faults_in_list (map seen_stmt fs) d).0 in
     let whole : (faults_in_list (map seen_stmt stmts) c).0 ≡ (seen_stmt x d).0 ++
     (faults_in_list (map seen_stmt (drop (suc i) stmts)) (seen_stmt x d).1).0 = ap (λ p. p.0) same ∙ ap rest here in
     let first = refuses_first (seen_stmt x d).0 (faults_in_list (map seen_stmt (drop (suc i) stmts)) (seen_stmt x d).1).0
-    (declares_stmt x) (any_of (map declares_stmt (drop (suc i) stmts))) e h in
-    refuses_more _ _ (any_of (map declares_stmt (drop i stmts))) _ e (λ k. k) declares (rw (whole, here) first)
+    (stmt_needs_memory x) (any_of (map stmt_needs_memory (drop (suc i) stmts))) e h in
+    refuses_more _ _ (any_of (map stmt_needs_memory (drop i stmts))) _ e (λ k. k) declares (rw (whole, here) first)
 
 -- the first fault is one of them
 stands_first : (faults : List CheckFault) (e : CheckFault) → IsFirst faults e → Contains faults e

@@ -1,4 +1,5 @@
--- What is forgotten at the end of a block. The names that a variable declares for what follows, a `for` for its body, and a catch variable for its branch.
+-- What is forgotten at the end of a block. The names that a variable declares for what follows, a `for` for its body, and a catch
+-- variable for its branch.
 use Rattle.std.proofs.Common.{◌≡◌, ap, refl, sym, ◌∙◌, subst, Bool, true, ◌||◌, IsTrue, List, [], ◌∷◌, ◌++◌, length, take}
 use Rattle.std.proofs.Common.{append_assoc}
 use Rattle.std.proofs.Math.Seq.{take-append_seam}
@@ -16,8 +17,8 @@ use Rattle.rhai_tree.specs.declared.position.Position.{Position}
 use Rattle.rhai_tree.specs.Layers.{ExprLayer}
 use Rattle.rhai_tree.specs.Positions.{position_of}
 use Rattle.rhai_tree.specs.Context.{Context, looping, declaring}
-use Rattle.rhai_check.specs.Around.{above, around, cut, marked, Continues}
-use Rattle.rhai_check.specs.Declares.{declares_block, declares_catch, names_a_catch, needs_of}
+use Rattle.rhai_check.specs.Around.{above, around, cut, extent_of, Continues}
+use Rattle.rhai_check.specs.MemoryNeeds.{block_needs_memory, catch_needs_memory, names_a_catch, needs_of}
 use Rattle.rhai_tree.specs.Forms.{catch_name, catch_of}
 use Rattle.rhai_tree.specs.Frame.{with_name, turn_names, var_names, resolves_block, turns_resolve, catch_resolves}
 use Rattle.rhai_tree.specs.Names.{Frame, Name, Begins, naming, with_import, with_variable}
@@ -33,12 +34,12 @@ use Rattle.rhai_check.proofs.Refused.{refuses_more, refuses_later}
 abbrev pub in_loop : Place → Place
 in_loop place = record place { in_loop = true }
 
--- ---- what is declared since a mark is forgotten
+-- ---- what is declared later is forgotten
 
 taken : (old new : List Name) → Begins old new → take (length old) new ≡ old
 taken old new (added, is) = ap (take (length old)) is ∙ take-append_seam old added
 
-pub restored : (d new : Declared) → Continues d new → cut (marked d) new ≡ d
+pub restored : (d new : Declared) → Continues d new → cut (extent_of d) new ≡ d
 restored d new (names, imports) = λ i. record { names = taken d.names new.names names i; imports = taken d.imports new.imports imports i }
 
 pub continues_same : (d new : Declared) → new ≡ d → Continues d new
@@ -132,7 +133,7 @@ module _ (variable : Ident) (counter : Option Ident) (d : Declared) where
   ]
 
   -- and are taken back
-  pub turn_back : cut (marked d) turned ≡ d
+  pub turn_back : cut (extent_of d) turned ≡ d
   turn_back = restored d turned (with_names d turned (turn_names variable counter d.names) begins_turn refl)
 
   module _ (body : StmtBlock) where
@@ -176,7 +177,7 @@ abbrev pub Caught : (catch : Option (Option Name)) → (d new : Declared) → Ty
 Caught catch d new = IsSomeAnd catch (λ name. new ≡ record d { names = with_name name d.names })
 
 -- it is taken back
-pub caught_back : (catch : Option (Option Name)) (d new : Declared) → Caught catch d new → cut (marked d) new ≡ d
+pub caught_back : (catch : Option (Option Name)) (d new : Declared) → Caught catch d new → cut (extent_of d) new ≡ d
 caught_back (Some name) d new is = restored d new (with_names d new (with_name name d.names) (begins_name name d.names) is)
 caught_back None d new is = absurd is
 
@@ -204,13 +205,13 @@ module _ (variable : Expr) (branch : StmtBlock) (d new : Declared) (is : Caught 
   branch_runs h base = caught_runs (catch_of variable) (position_of variable) (resolves_block branch) d new is h base
 
   pub branch_refused : (place : Place) (fault : CheckFault) →
-      Refuses ((seen_block branch).value (around new place)) (declares_block branch) fault →
-      Refuses (catch_faults variable branch (around d place)) (declares_catch variable branch) fault
+      Refuses ((seen_block branch).value (around new place)) (block_needs_memory branch) fault →
+      Refuses (catch_faults variable branch (around d place)) (catch_needs_memory variable branch) fault
   branch_refused place fault h =
       let found : catch_faults variable branch (around d place) ≡ (seen_block branch).value (around new place) =
       caught (catch_of variable) (position_of variable) (seen_block branch).value d new place is in
-      subst (λ (fs : List CheckFault). Refuses fs (declares_catch variable branch) fault) (sym found)
-      (refuses_later [] ((seen_block branch).value (around new place)) (names_a_catch (catch_of variable)) (declares_block branch) fault
+      subst (λ (fs : List CheckFault). Refuses fs (catch_needs_memory variable branch) fault) (sym found)
+      (refuses_later [] ((seen_block branch).value (around new place)) (names_a_catch (catch_of variable)) (block_needs_memory branch) fault
       refl h)
 
 -- what is seen of a catch variable is what it is
@@ -228,9 +229,9 @@ pub needs_same : (variable : Expr) → (needs_of variable).in_catch ≡ names_a_
 needs_same variable = in-catch variable ∙ ap names_a_catch (catch_level (out-Expr variable))
 
 pub catch_refused : (variable : Expr) (branch : StmtBlock) (c : Context) (e : CheckFault) →
-    Refuses (catch_faults variable branch c) (declares_catch variable branch) e →
+    Refuses (catch_faults variable branch c) (catch_needs_memory variable branch) e →
     Refuses (walk.found_in_catch faulty (seen_expr variable).catch (seen_expr variable).pos (seen_block branch).value c)
-    ((needs_of variable).in_catch || declares_block branch) e
+    ((needs_of variable).in_catch || block_needs_memory branch) e
 catch_refused variable branch c e h = refuses_more _ _ _ _ e
     (λ k. subst (λ (fs : List CheckFault). IsFirst fs e) (sym (catch_same faulty variable (seen_block branch).value c)) k)
-    (λ k. subst (λ (b : Bool). IsTrue (b || declares_block branch)) (sym (needs_same variable)) k) h
+    (λ k. subst (λ (b : Bool). IsTrue (b || block_needs_memory branch)) (sym (needs_same variable)) k) h

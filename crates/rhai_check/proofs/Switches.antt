@@ -23,7 +23,7 @@ use Rattle.rhai_tree.specs.Context.{Context}
 use Rattle.rhai_tree.specs.Frame.{resolves_expr, resolves_stmt, resolves_conditional, conditionals_resolve}
 use Rattle.rhai_tree.specs.Names.{Frame}
 use Rattle.rhai_tree.specs.Forms.{any_of}
-use Rattle.rhai_check.specs.Declares.{declares_expr, declares_conditional, declares_stmt}
+use Rattle.rhai_check.specs.MemoryNeeds.{expr_needs_memory, conditional_needs_memory, stmt_needs_memory}
 use Rattle.rhai_tree.specs.Reading as walk
 use Rattle.rhai_tree.specs.Reading.{faulty, sound}
 use Rattle.rhai_check.specs.Refusals.{IsFirst, Refuses}
@@ -36,17 +36,17 @@ use Rattle.rhai_check.proofs.Walk.{refuses_stmt_at}
 pub refuses_conditional : (parts : List ConditionalExpr) (i : ℕ) (x : ConditionalExpr) (c : Context) (e : CheckFault)
     → i < length parts → x ≡ get_or parts i x
     → faults_in_conditionals (map seen_conditional parts) c ≡ faults_in_conditionals (map seen_conditional (drop i parts)) c
-    → (IsTrue (any_of (map declares_conditional (drop i parts))) → IsTrue (any_of (map declares_conditional parts)))
-    → Refuses (seen_conditional x c) (declares_conditional x) e
-    → Refuses (faults_in_conditionals (map seen_conditional parts) c) (any_of (map declares_conditional parts)) e
+    → (IsTrue (any_of (map conditional_needs_memory (drop i parts))) → IsTrue (any_of (map conditional_needs_memory parts)))
+    → Refuses (seen_conditional x c) (conditional_needs_memory x) e
+    → Refuses (faults_in_conditionals (map seen_conditional parts) c) (any_of (map conditional_needs_memory parts)) e
 refuses_conditional parts i x c e lt is same declares h =
     let here : drop i parts ≡ x ∷ drop (suc i) parts = drop-cons parts i x lt ∙ ap (λ y. y ∷ drop (suc i) parts) (sym is) in
     let rest = λ (fs : List ConditionalExpr). faults_in_conditionals (map seen_conditional fs) c in
     let whole : faults_in_conditionals (map seen_conditional parts) c
     ≡ seen_conditional x c ++ faults_in_conditionals (map seen_conditional (drop (suc i) parts)) c = same ∙ ap rest here in
     let first = refuses_first (seen_conditional x c) (faults_in_conditionals (map seen_conditional (drop (suc i) parts)) c)
-    (declares_conditional x) (any_of (map declares_conditional (drop (suc i) parts))) e h in
-    refuses_more _ _ (any_of (map declares_conditional (drop i parts))) _ e (λ k. k) declares (rw (whole, here) first)
+    (conditional_needs_memory x) (any_of (map conditional_needs_memory (drop (suc i) parts))) e h in
+    refuses_more _ _ (any_of (map conditional_needs_memory (drop i parts))) _ e (λ k. k) declares (rw (whole, here) first)
 
 -- what is found of the cases of a `switch`, whose results are as many as are seen
 pub cases_found : (r : walk.Reading) (parts : List ConditionalExpr) (cases : List SwitchCase) (ranges : List RangeCase)
@@ -68,25 +68,25 @@ module _ (s : Stmt) (expr : Expr) (parts : List ConditionalExpr) (cases : List S
     behind = (seen_expr expr).value (around d place) ++ faults_in_conditionals (map seen_conditional parts) (around d place)
 
     pub switch_bad : is_switch (length parts) cases ranges default ≡ false →
-        Refuses (seen_stmt s (around d place)).0 (declares_stmt s) (BadSwitch pos)
+        Refuses (seen_stmt s (around d place)).0 (stmt_needs_memory s) (BadSwitch pos)
     switch_bad bad = refuses_stmt_at s form (around d place) (BadSwitch pos) is
         (subst (λ (fs : List CheckFault). IsFirst (fs ++ behind) (BadSwitch pos))
         (sym (cases_found faulty parts cases ranges default pos (around d place) false bad)) refl)
 
     module _ (good : is_switch (length parts) cases ranges default ≡ true) where
-      refuses_behind_cases : (e : CheckFault) → Refuses behind (declares_expr expr || any_of (map declares_conditional parts)) e →
-          Refuses (seen_stmt s (around d place)).0 (declares_stmt s) e
+      refuses_behind_cases : (e : CheckFault) → Refuses behind (expr_needs_memory expr || any_of (map conditional_needs_memory parts)) e →
+          Refuses (seen_stmt s (around d place)).0 (stmt_needs_memory s) e
       refuses_behind_cases e h = refuses_stmt_at s form (around d place) e is
           (refuses_later _ behind false _ e (cases_found faulty parts cases ranges default pos (around d place) true good) h)
 
-      pub value_refused : (e : CheckFault) → Refuses ((seen_expr expr).value (around d place)) (declares_expr expr) e →
-          Refuses (seen_stmt s (around d place)).0 (declares_stmt s) e
+      pub value_refused : (e : CheckFault) → Refuses ((seen_expr expr).value (around d place)) (expr_needs_memory expr) e →
+          Refuses (seen_stmt s (around d place)).0 (stmt_needs_memory s) e
       value_refused e h = refuses_behind_cases e (refuses_first _ _ _ _ e h)
 
       module _ (none : (seen_expr expr).value (around d place) ≡ []) where
         pub parts_refused : (e : CheckFault) →
-            Refuses (faults_in_conditionals (map seen_conditional parts) (around d place)) (any_of (map declares_conditional parts)) e →
-            Refuses (seen_stmt s (around d place)).0 (declares_stmt s) e
+            Refuses (faults_in_conditionals (map seen_conditional parts) (around d place)) (any_of (map conditional_needs_memory parts)) e →
+            Refuses (seen_stmt s (around d place)).0 (stmt_needs_memory s) e
         parts_refused e h = refuses_behind_cases e (refuses_later _ _ _ _ e none h)
 
         pub switch_passes : {A : Type 0} (r : Result A CheckFault) (new : Declared) →

@@ -10,8 +10,9 @@ use Rattle.rhai_tree.specs.declared.expr.MapEntry.{MapEntry}
 use Rattle.rhai_tree.specs.declared.expr.StmtBlock.{StmtBlock}
 use Rattle.rhai_tree.specs.declared.expr.Stmt.{Stmt, out-Stmt}
 use Rattle.rhai_tree.specs.Context.{Context}
-use Rattle.rhai_check.specs.Declares as declares
-use Rattle.rhai_check.specs.Declares.{Needs, needs_of, names_a_catch, declares_expr, declares_call, declares_conditional, declares_block, declares_stmt}
+use Rattle.rhai_check.specs.MemoryNeeds as declares
+use Rattle.rhai_check.specs.MemoryNeeds.{Needs, needs_of, names_a_catch, expr_needs_memory, call_needs_memory, conditional_needs_memory, block_needs_memory}
+use Rattle.rhai_check.specs.MemoryNeeds.{stmt_needs_memory}
 use Rattle.rhai_tree.specs.Forms.{catch_name}
 use Rattle.rhai_tree.specs.Reading as walk
 use Rattle.rhai_tree.specs.Reading.{faulty}
@@ -47,11 +48,11 @@ stmt_faults = map-Stmt Expr Stmt ConditionalExpr FnCallExpr MapEntry StmtBlock S
 -- whether the parts of one level declare
 abbrev pub expr_declares : ExprLayer → layer.Expr-F Needs Bool Bool Bool (Unit {0}) Bool
 expr_declares = map-Expr Expr Stmt ConditionalExpr FnCallExpr MapEntry StmtBlock Needs Bool Bool Bool (Unit {0}) Bool
-    needs_of declares_stmt declares_conditional declares_call (λ entry. tt) declares_block
+    needs_of stmt_needs_memory conditional_needs_memory call_needs_memory (λ entry. tt) block_needs_memory
 
 abbrev pub stmt_declares : StmtLayer → layer.Stmt-F Needs Bool Bool Bool (Unit {0}) Bool
 stmt_declares = map-Stmt Expr Stmt ConditionalExpr FnCallExpr MapEntry StmtBlock Needs Bool Bool Bool (Unit {0}) Bool
-    needs_of declares_stmt declares_conditional declares_call (λ entry. tt) declares_block
+    needs_of stmt_needs_memory conditional_needs_memory call_needs_memory (λ entry. tt) block_needs_memory
 
 pub seen-expr : (e : Expr) (l : ExprLayer) → out-Expr e ≡ l → seen_expr e ≡ walk.expr_step faulty (expr_faults l)
 seen-expr e l is = fold_out-Expr Seen SeenStmt SeenConditional SeenCall SeenEntry Seen
@@ -65,7 +66,7 @@ seen-stmt s l is = fold_out-Stmt Seen SeenStmt SeenConditional SeenCall SeenEntr
     (walk.block_step faulty) s
     ∙ ap (λ (k : StmtLayer). walk.stmt_step faulty (stmt_faults k)) is
 
-pub declares-expr : (e : Expr) (l : ExprLayer) → out-Expr e ≡ l → declares_expr e ≡ declares.form_step (expr_declares l)
+pub declares-expr : (e : Expr) (l : ExprLayer) → out-Expr e ≡ l → expr_needs_memory e ≡ declares.form_step (expr_declares l)
 declares-expr e l is = ap (λ (n : Needs). n.declares) (fold_out-Expr Needs Bool Bool Bool (Unit {0}) Bool declares.expr_step
     declares.stmt_step declares.conditional_step declares.call_step (λ entry. tt) declares.block_step e)
     ∙ ap (λ (k : ExprLayer). declares.form_step (expr_declares k)) is
@@ -74,7 +75,7 @@ pub in-catch : (e : Expr) → (needs_of e).in_catch ≡ names_a_catch (catch_nam
 in-catch e = ap (λ (n : Needs). n.in_catch) (fold_out-Expr Needs Bool Bool Bool (Unit {0}) Bool declares.expr_step
     declares.stmt_step declares.conditional_step declares.call_step (λ entry. tt) declares.block_step e)
 
-declares-stmt : (s : Stmt) (l : StmtLayer) → out-Stmt s ≡ l → declares_stmt s ≡ declares.stmt_step (stmt_declares l)
+declares-stmt : (s : Stmt) (l : StmtLayer) → out-Stmt s ≡ l → stmt_needs_memory s ≡ declares.stmt_step (stmt_declares l)
 declares-stmt s l is = fold_out-Stmt Needs Bool Bool Bool (Unit {0}) Bool declares.expr_step declares.stmt_step declares.conditional_step
     declares.call_step (λ entry. tt) declares.block_step s
     ∙ ap (λ (k : StmtLayer). declares.stmt_step (stmt_declares k)) is
@@ -82,19 +83,19 @@ declares-stmt s l is = fold_out-Stmt Needs Bool Bool Bool (Unit {0}) Bool declar
 -- what refuses one level refuses the form
 pub refuses_expr_at : (e : Expr) (l : ExprLayer) (c : Context) (fault : CheckFault) → out-Expr e ≡ l
     → Refuses ((walk.expr_step faulty (expr_faults l)).value c) (declares.form_step (expr_declares l)) fault
-    → Refuses ((seen_expr e).value c) (declares_expr e) fault
+    → Refuses ((seen_expr e).value c) (expr_needs_memory e) fault
 refuses_expr_at e l c fault is h =
     let faults : (seen_expr e).value c ≡ (walk.expr_step faulty (expr_faults l)).value c =
     ap (λ (s : Seen). s.value c) (seen-expr e l is) in
     let declaring = declares-expr e l is in
-    subst (λ (fs : List CheckFault). Refuses fs (declares_expr e) fault) (sym faults)
+    subst (λ (fs : List CheckFault). Refuses fs (expr_needs_memory e) fault) (sym faults)
     (subst (λ (d : Bool). Refuses ((walk.expr_step faulty (expr_faults l)).value c) d fault) (sym declaring) h)
 
 pub refuses_stmt_at : (s : Stmt) (l : StmtLayer) (c : Context) (fault : CheckFault) → out-Stmt s ≡ l
     → Refuses (walk.stmt_step faulty (stmt_faults l) c).0 (declares.stmt_step (stmt_declares l)) fault
-    → Refuses (seen_stmt s c).0 (declares_stmt s) fault
+    → Refuses (seen_stmt s c).0 (stmt_needs_memory s) fault
 refuses_stmt_at s l c fault is h =
     let faults : (seen_stmt s c).0 ≡ (walk.stmt_step faulty (stmt_faults l) c).0 = ap (λ (f : SeenStmt). (f c).0) (seen-stmt s l is) in
     let declaring = declares-stmt s l is in
-    subst (λ (fs : List CheckFault). Refuses fs (declares_stmt s) fault) (sym faults)
+    subst (λ (fs : List CheckFault). Refuses fs (stmt_needs_memory s) fault) (sym faults)
     (subst (λ (d : Bool). Refuses (walk.stmt_step faulty (stmt_faults l) c).0 d fault) (sym declaring) h)

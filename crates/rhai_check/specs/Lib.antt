@@ -1,4 +1,4 @@
 pub mod Around
-pub mod Declares
+pub mod MemoryNeeds
 pub mod Refusals
 pub mod Types

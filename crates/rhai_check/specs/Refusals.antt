@@ -5,12 +5,12 @@ use Rattle.rhai_tree.specs.declared.fault.CheckFault.TheVariants.{BadOffset, Bad
 use Rattle.rhai_tree.specs.declared.fault.CheckFault.TheVariants.{BadMapKey, BadCatch, LoopControlOutside, ExportNotGlobal, EvalCall}
 use Rattle.rhai_tree.specs.declared.fault.CheckFault.TheVariants.{NotAnExpression, QualifiedMethod, NoMemory}
 
--- the first of some faults
+-- a fault is the first of some
 abbrev pub IsFirst : List CheckFault → CheckFault → Type 0
 IsFirst [] fault = ⊥
 IsFirst (first ∷ rest) fault = first ≡ fault
 
--- the first fault of the part, or want of memory, where the part may need some
+-- the checker may answer a fault: the first of a part, or that memory ran out, where the part may need some
 abbrev pub Refuses : List CheckFault → Bool → CheckFault → Type 0
 Refuses faults declares (BadOffset pos) = IsFirst faults (BadOffset pos)
 Refuses faults declares (BadImportOffset pos) = IsFirst faults (BadImportOffset pos)

@@ -2,7 +2,7 @@
 
 ghost use Rattle.std.specs.Prelude.{◌≡◌, ◌≢◌, IsTrue, IfOk, IfErr, OnOk};
 ghost use Rattle.std.specs.List.{Contains};
-ghost use Rattle.rhai_check.specs.Declares.{needs_memory};
+ghost use Rattle.rhai_check.specs.MemoryNeeds.{needs_memory};
 ghost use Rattle.rhai_tree.specs.WellFormed.{Stands, faults_in_function, IsFormedFunction, IsFormedTree};
 
 mod cases;

@@ -9,6 +9,6 @@ abbrev pub ranges_by : Option ℤ → List RangeCase → List ℕ
 ranges_by (Some n) ranges = in_ranges n ranges
 ranges_by None ranges = []
 
--- those of the case, and then those of the ranges
+-- the numbers that are left to be tried: those of the case, and then those of the ranges
 abbrev pub numbers_left : Candidates → List ℕ
 numbers_left left = left.numbers.now ++ ranges_by left.integer left.ranges.now

@@ -34,7 +34,7 @@ pub struct Candidates<'t> {
     ranges: &'t [RangeCase],
 }
 
-/// Whether an integer lies in a range.
+/// Tells whether an integer lies in a range.
 fn is_within(n: i64, range: RangeCase) -> bool
     ensures { result ≡ lies_within n range }
 {
@@ -44,7 +44,7 @@ fn is_within(n: i64, range: RangeCase) -> bool
     }
 }
 
-/// The number of a range's result.
+/// Reads the number of a range's result.
 fn number_of(range: RangeCase) -> usize
     ensures { result ≡ number_in range }
 {
@@ -53,8 +53,8 @@ fn number_of(range: RangeCase) -> usize
     }
 }
 
-/// The numbers of the case that a value equals, by type and content.
-fn blocks_of<'t, H>(value: &Dynamic<H>, cases: &'t [SwitchCase]) -> &'t [usize]
+/// Finds the numbers of the case that a value equals, by type and content.
+fn case_numbers<'t, H>(value: &Dynamic<H>, cases: &'t [SwitchCase]) -> &'t [usize]
     ensures { result.now ≡ by_cases value.now cases.now }
 {
     'each_case: for case in cases {
@@ -65,7 +65,7 @@ fn blocks_of<'t, H>(value: &Dynamic<H>, cases: &'t [SwitchCase]) -> &'t [usize]
     &[]
 }
 
-/// The value, if it is an integer.
+/// Reads the value, if it is an integer.
 fn integer_of<H>(value: &Dynamic<H>) -> Option<i64>
     ensures { (ranges : _) → ranges_by result ranges ≡ by_ranges value.now.value ranges }
 {
@@ -75,7 +75,7 @@ fn integer_of<H>(value: &Dynamic<H>) -> Option<i64>
     }
 }
 
-/// What a value leads to: nothing where it cannot be hashed.
+/// Finds what a value leads to: nothing where it cannot be hashed.
 pub fn candidates_for<'t, H>(
     value: &Dynamic<H>,
     cases: &'t [SwitchCase],
@@ -94,15 +94,15 @@ pub fn candidates_for<'t, H>(
         };
     }
     Candidates {
-        numbers: blocks_of(value, cases),
+        numbers: case_numbers(value, cases),
         integer: integer_of(value),
         ranges,
     }
 }
 
 impl<'t> Candidates<'t> {
-    /// The next number of the case, if it has one left.
-    fn next_block(&mut self) -> Option<usize>
+    /// Takes the next number of the case, if it has one left.
+    fn next_of_case(&mut self) -> Option<usize>
         ensures none { result ≡ None → self.new ≡ self.old }
         ensures empty { result ≡ None → self.old.numbers.now ≡ [] }
         ensures some { IfSome result (λ number. numbers_left self.old ≡ number ∷ numbers_left self.new) }
@@ -114,8 +114,8 @@ impl<'t> Candidates<'t> {
         Some(*number)
     }
 
-    /// The next number of the ranges in which the integer lies.
-    fn next_range(&mut self, n: i64) -> Option<usize>
+    /// Takes the next number of the ranges in which the integer lies.
+    fn next_of_ranges(&mut self, n: i64) -> Option<usize>
         ensures numbers { self.new.numbers.now ≡ self.old.numbers.now }
         ensures integer { self.new.integer ≡ self.old.integer }
         ensures none { result ≡ None → ranges_by (Some n) self.old.ranges.now ≡ [] }
@@ -131,21 +131,21 @@ impl<'t> Candidates<'t> {
         None
     }
 
-    /// The number that is tried next.
+    /// Takes the number that is tried next.
     fn next_number(&mut self) -> Option<usize>
         ensures none { result ≡ None → numbers_left self.old ≡ [] }
         ensures some { IfSome result (λ number. numbers_left self.old ≡ number ∷ numbers_left self.new) }
     {
-        if let Some(number) = self.next_block() {
+        if let Some(number) = self.next_of_case() {
             return Some(number);
         }
         match self.integer {
-            Some(n) => self.next_range(n),
+            Some(n) => self.next_of_ranges(n),
             None => None,
         }
     }
 
-    /// The result that is tried next. A number without a result is passed over.
+    /// Takes the result that is tried next. A number without a result is passed over.
     pub fn next(&mut self, results: &'t [ConditionalExpr]) -> Option<&'t ConditionalExpr>
         ensures none { result ≡ None → results_of results.now (numbers_left self.old) ≡ [] }
         ensures some { IfSome result (λ candidate. results_of results.now (numbers_left self.old)
@@ -162,7 +162,7 @@ impl<'t> Candidates<'t> {
     }
 }
 
-/// The result where none that was tried has a condition that holds.
+/// Finds the result where none that was tried has a condition that holds.
 pub fn default_result(results: &[ConditionalExpr], number: Option<usize>) -> Option<&Expr>
     ensures { (cases : _) (ranges : _) → option_copied result ≡ default_of
         (record { results = results.now; cases = cases; ranges = ranges; default = number }) }
@@ -170,7 +170,7 @@ pub fn default_result(results: &[ConditionalExpr], number: Option<usize>) -> Opt
     Some(&results.get(number?)?.expr)
 }
 
-/// A condition that is written as a truth value, which is read without a charge.
+/// Reads a condition that is written as a truth value, which takes no charge.
 pub fn written_truth(condition: &Expr) -> Option<bool>
     ensures { result ≡ truth_literal (out-Expr condition.now) }
 {

@@ -7,7 +7,7 @@ use rhai_tree::Items;
 use rhai_tree::expr::Stmt;
 use std::alloc::{AllocError, Global};
 
-/// `rhai_build::Builder::finish`.
+/// Repeats clauses of `rhai_build::Builder::finish`, and calls it.
 pub fn finish<const N: usize>(
     _alloc: Global,
     builder: Builder,

@@ -2,7 +2,7 @@
 
 ghost use Rattle.std.specs.Prelude.{◌≡◌, ◌≢◌, IsTrue, IfOk, IfErr, OnOk};
 ghost use Rattle.std.specs.List.{Contains};
-ghost use Rattle.rhai_check.specs.Declares.{needs_memory};
+ghost use Rattle.rhai_check.specs.MemoryNeeds.{needs_memory};
 ghost use Rattle.rhai_tree.specs.WellFormed.{Stands, faults_in_function, IsFormedFunction, IsFormedTree};
 
 use rhai_tree::Items;
@@ -12,7 +12,7 @@ use rhai_tree::fault::CheckFault;
 use rhai_tree::function::ScriptFuncDef;
 use std::alloc::Global;
 
-/// `rhai_check::check::check_tree`.
+/// Repeats clauses of `rhai_check::check::check_tree`, and calls it.
 pub fn check_tree(
     alloc: Global,
     statements: Items<Stmt>,
@@ -30,7 +30,7 @@ pub fn check_tree(
     rhai_check::check::check_tree(alloc, statements, functions)
 }
 
-/// `rhai_check::check::check_function`.
+/// Repeats clauses of `rhai_check::check::check_function`, and calls it.
 pub fn check_function(alloc: Global, def: ScriptFuncDef) -> Result<CheckedFn, CheckFault>
     ensures passed { IfOk result (λ function. function ≡ def) }
     ensures formed { OnOk result (IsFormedFunction def) }

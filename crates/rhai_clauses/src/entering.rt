@@ -9,7 +9,7 @@ use rhai_tree::{Shared, Text};
 use rhai_values::base::value::{Dynamic, Host};
 use std::alloc::AllocError;
 
-/// `rhai_functions::entering::push_parameters`.
+/// Repeats clauses of `rhai_functions::entering::push_parameters`, and calls it.
 pub fn push_parameters<H: Host>(
     scope: &mut Scope<H>,
     params: &[Shared<Text>],

@@ -1,7 +1,7 @@
-//! What no law says of the public calls below the evaluator: when memory may be wanting and what is left
+//! What no law says of the public calls below the evaluator: when memory may run out and what is left
 //! then, which of several faults is told, and what is written as text. Nothing here is run. Each function
-//! tells the contract of a call again, word for word, and makes that call: so the contract of the call
-//! implies it, and a body that it refuses cannot be that of the call. The edits beside are such bodies.
+//! tells clauses of a call's contract again, and makes that call: so the contract of the call implies them,
+//! and a body that they refuse cannot be that of the call. The edits beside are such bodies.
 #![tactic(auto)]
 
 pub mod building;

@@ -7,7 +7,7 @@ use rhai_tree::token::Token;
 use rhai_values::base::value::{Dynamic, Host};
 use std::alloc::Global;
 
-/// `rhai_operators::builtin_unary`.
+/// Repeats clauses of `rhai_operators::builtin_unary`, and calls it.
 pub fn builtin_unary<H: Host>(
     alloc: Global,
     op: Token,
@@ -18,7 +18,7 @@ pub fn builtin_unary<H: Host>(
     rhai_operators::builtin_unary(alloc, op, x)
 }
 
-/// `rhai_operators::builtin_binary`.
+/// Repeats clauses of `rhai_operators::builtin_binary`, and calls it.
 pub fn builtin_binary<H: Host>(
     alloc: Global,
     op: Token,

@@ -9,7 +9,7 @@ ghost use Rattle.rhai_places.specs.Found.{found, takes_memory, through, IsFound,
 ghost use Rattle.rhai_places.specs.Parts.{IsPart, is_slice, part_of};
 ghost use Rattle.rhai_places.specs.PutBack.{IsNotPut, is_of_text, put_back};
 ghost use Rattle.rhai_places.specs.Targets.{IsFit, IsNotPropagated, is_of_a_text, is_place, propagated};
-ghost use Rattle.rhai_places.specs.Targets.{shown, taken};
+ghost use Rattle.rhai_places.specs.Targets.{shown, taken_value};
 
 use rhai_places::spot::{Access, Spot};
 use rhai_places::target::Target;
@@ -19,7 +19,7 @@ use rhai_values::base::value::{Dynamic, Host};
 use rhai_values::cells::CellStore;
 use std::alloc::{AllocError, Global};
 
-/// `rhai_places::part::read_part`.
+/// Repeats clauses of `rhai_places::part::read_part`, and calls it.
 pub fn read_part<H>(
     alloc: Global,
     source: &Dynamic<H>,
@@ -32,7 +32,7 @@ pub fn read_part<H>(
     rhai_places::part::read_part(alloc, source, spot)
 }
 
-/// `rhai_places::put::put_part`.
+/// Repeats clauses of `rhai_places::put::put_part`, and calls it.
 pub fn put_part<H: Host>(
     alloc: Global,
     source: &mut Dynamic<H>,
@@ -50,7 +50,8 @@ pub fn put_part<H: Host>(
     rhai_places::put::put_part(alloc, source, spot, part, position)
 }
 
-/// `rhai_places::indexing::get_indexed_mut`, but for the clause that tells what the object ends as.
+/// Repeats clauses of `rhai_places::indexing::get_indexed_mut`, and calls it. Left out is the clause that
+/// tells what the value ends as.
 pub fn get_indexed_mut<'t, H: Host>(
     source: &'t mut Dynamic<H>,
     alloc: Global,
@@ -68,26 +69,26 @@ pub fn get_indexed_mut<'t, H: Host>(
     rhai_places::indexing::get_indexed_mut(source, alloc, cells, index, how)
 }
 
-/// `rhai_places::target::Target::as_mut`.
+/// Repeats clauses of `rhai_places::target::Target::as_mut`, and calls it.
 pub fn as_mut<'a, 't, H>(target: &'a mut Target<'t, H>) -> &'a mut Dynamic<H>
     ensures { result.now ≡ shown target.old.part target.old.at.now }
 {
     target.as_mut()
 }
 
-/// `rhai_places::target::Target::take_or_clone`.
+/// Repeats clauses of `rhai_places::target::Target::take_or_clone`, and calls it.
 pub fn take_or_clone<H: Host>(
     alloc: Global,
     target: Target<'_, H>,
 ) -> Result<Dynamic<H>, EvalAltResult<H>>
-    ensures ok { IfOk result (λ value. value ≡ taken target.entry.part target.entry.at.now) }
+    ensures ok { IfOk result (λ value. value ≡ taken_value target.entry.part target.entry.at.now) }
     ensures err { IfErr result (λ e. is_out_of_memory e ≡ true) }
     ensures memory { OnErr result (is_place target.entry.part ≡ true) }
 {
     target.take_or_clone(alloc)
 }
 
-/// `rhai_places::target::Target::propagate_changed_value`.
+/// Repeats clauses of `rhai_places::target::Target::propagate_changed_value`, and calls it.
 pub fn propagate_changed_value<H: Host>(
     alloc: Global,
     target: &mut Target<'_, H>,

@@ -10,7 +10,7 @@ use rhai_tree::signature::ParamName;
 use std::fmt;
 use std::fmt::{Formatter, Write};
 
-/// `rhai_tree::signature::write_signature`.
+/// Repeats clauses of `rhai_tree::signature::write_signature`, and calls it.
 pub fn write_signature<P: ParamName, W: Write>(
     access: FnAccess,
     this_type: Option<&str>,

@@ -5,7 +5,7 @@ ghost use Rattle.rhai_tree.specs.Names.{Begins};
 ghost use Rattle.rhai_eval.specs.Places.{with_place};
 ghost use Rattle.rhai_eval.specs.States.{under};
 ghost use Rattle.rhai_laws.specs.Kept.{Grown, Kept};
-ghost use Rattle.rhai_methods.specs.Targets.{StaysAlike, stands};
+ghost use Rattle.rhai_methods.specs.Targets.{StaysAlike, value_walked_on};
 ghost use Rattle.rhai_state.specs.Scope.{names_in};
 ghost use Rattle.rhai_steps.specs.Agreement.{AgreesAt, passes};
 ghost use Rattle.rhai_steps.specs.States.{holding, state_of};
@@ -23,7 +23,7 @@ use rhai_tree::expr::{Expr, OpAssignment, Stmt};
 use rhai_values::base::value::{Dynamic, Host};
 use std::alloc::Global;
 
-/// `Engine::eval_stmt_block` on a `this`.
+/// Repeats clauses of `Engine::eval_stmt_block`, and calls it on a `this`.
 pub fn eval_stmt_block<H: Host, T: NativeTable<H>>(
     engine: &Engine<H>,
     alloc: Global,
@@ -59,7 +59,7 @@ pub fn eval_stmt_block<H: Host, T: NativeTable<H>>(
     outcome
 }
 
-/// `Engine::eval_op_assignment`.
+/// Repeats clauses of `Engine::eval_op_assignment`, and calls it.
 pub fn eval_op_assignment<H: Host, T: NativeTable<H>>(
     engine: &Engine<H>,
     alloc: Global,
@@ -74,9 +74,9 @@ pub fn eval_op_assignment<H: Host, T: NativeTable<H>>(
     requires value { IsNoHandle new_val.value }
     ensures kept { (scope : _) (this : _) → Kept (under H.name_of engine.now T.natives)
         (state_of (T.state table.old) global.old scope
-        (with_place this (Some (stands target.old.part target.old.at.now))))
+        (with_place this (Some (value_walked_on target.old.part target.old.at.now))))
         (state_of (T.state table.new) global.new scope
-        (with_place this (Some (stands target.new.part target.new.at.now)))) }
+        (with_place this (Some (value_walked_on target.new.part target.new.at.now)))) }
     ensures same_reference { target.new.at.ghost_name ≡ target.old.at.ghost_name }
     ensures part { StaysAlike target.old.part target.old.at.now target.new.part target.new.at.now }
 {

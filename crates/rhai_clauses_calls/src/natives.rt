@@ -20,7 +20,7 @@ use rhai_tree::token::Token;
 use rhai_values::base::value::{Dynamic, Host};
 use std::alloc::Global;
 
-/// `Engine::exec_native_fn_call` on a first argument.
+/// Repeats clauses of `Engine::exec_native_fn_call`, and calls it on a first argument.
 pub fn exec_native_fn_call<H: Host, T: NativeTable<H>>(
     engine: &Engine<H>,
     alloc: Global,
@@ -54,7 +54,7 @@ pub fn exec_native_fn_call<H: Host, T: NativeTable<H>>(
     outcome
 }
 
-/// `Engine::call_indexer_get`.
+/// Repeats clauses of `Engine::call_indexer_get`, and calls it.
 pub fn call_indexer_get<H: Host, T: NativeTable<H>>(
     engine: &Engine<H>,
     alloc: Global,
@@ -74,7 +74,7 @@ pub fn call_indexer_get<H: Host, T: NativeTable<H>>(
     outcome
 }
 
-/// `Engine::get_indexed_mut`.
+/// Repeats clauses of `Engine::get_indexed_mut`, and calls it.
 pub fn get_indexed_mut<'t, H: Host, T: NativeTable<H>>(
     engine: &Engine<H>,
     alloc: Global,

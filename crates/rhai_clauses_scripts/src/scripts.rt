@@ -1,7 +1,7 @@
 //! Whole scripts and functions of scripts.
 
 ghost use Rattle.rhai_tree.specs.Names.{Begins};
-ghost use Rattle.rhai_cycle.specs.Memory.{may_ask};
+ghost use Rattle.rhai_eval_core.specs.Memory.{may_ask};
 ghost use Rattle.rhai_eval.specs.States.{under};
 ghost use Rattle.rhai_laws.specs.Kept.{Grown, Kept};
 ghost use Rattle.rhai_state.specs.Errors.{is_out_of_memory};
@@ -20,7 +20,7 @@ use rhai_tree::position::Position;
 use rhai_values::base::value::{Dynamic, EncapsulatedEnviron, Host};
 use std::alloc::Global;
 
-/// `Engine::eval_global_statements`.
+/// Repeats clauses of `Engine::eval_global_statements`, and calls it.
 pub fn eval_global_statements<H: Host, T: NativeTable<H>>(
     engine: &Engine<H>,
     alloc: Global,
@@ -51,7 +51,7 @@ pub fn eval_global_statements<H: Host, T: NativeTable<H>>(
     outcome
 }
 
-/// `Engine::call_script_fn` on a `this`.
+/// Repeats clauses of `Engine::call_script_fn`, and calls it on a `this`.
 pub fn call_script_fn<H: Host, T: NativeTable<H>>(
     engine: &Engine<H>,
     alloc: Global,

@@ -27,10 +27,10 @@ use Rattle.rhai_machine.specs.language.Places.{focus_target, this_at, this_targe
 use Rattle.rhai_machine.specs.language.Frames.{Attempt, InPlace, AsValue, Assignment, Update, Frame}
 use Rattle.rhai_machine.specs.language.Frames.{Core, core, where_there, QuestionUpdate}
 use Rattle.rhai_machine.specs.language.Frames.{FireUpdate}
-use Rattle.rhai_machine.specs.language.Calls.{sized, applied, replied, placed_if_none}
+use Rattle.rhai_machine.specs.language.Calls.{sized, applied, replied, with_position}
 use Rattle.rhai_machine.specs.language.Assignment.{store_this, to_this, variable_of_assignment}
 use Rattle.rhai_machine.specs.language.Assignment.{assignment_move, written_core, done, if_fast, says_missing, operation_of}
-use Rattle.rhai_machine.specs.language.Assignment.{native_of, left_in, update_core, assign_core, store_core, changed_core, fault_core}
+use Rattle.rhai_machine.specs.language.Assignment.{native_of, target_left, update_core, assign_core, store_core, changed_core, fault_core}
 use Rattle.rhai_machine.specs.language.Assignment.{value_core, answered_core, lent_core, barred_core, fire_update}
 use Rattle.std.specs.Option.{unwrap_or}
 use Rattle.rhai_state.specs.Scope.{value_in}
@@ -119,14 +119,16 @@ module _ {H : Type 0} (a : Told H) (k : List (Frame H)) (l : Local H) (settled :
       Writable a.of t.place k
   focus_writable name pos t is = focus_at_writable name pos (focus_of l).value t is
 
-  this_at_writable : (pos : Position) (u : Union H) (v : Dynamic H) (t : Target H) → l.this ≡ Some v → this_at l.around.cells pos u v ≡ Ok t →
+  this_at_writable : (pos : Position) (u : Union H) (v : Dynamic H) (t : Target H) → l.this ≡ Some v →
+      this_at l.around.cells pos u v ≡ Ok t →
       Writable a.of t.place k
   this_at_writable pos (value.Cell id) v t bound is =
       focus_cell_writable [] pos v.mode id.number (value_of_cell l.around.cells id.number) t is
   this_at_writable pos _ v t bound is = unless_writable (is_constant v.mode) [] pos (target InThis v) t is
       (λ never. free_by (due a.of k).this (Some v) (constant_due a.of k).1 (rw bound at (settled.1.1)) never)
 
-  pub this_writable : (pos : Position) (this : Option (Dynamic H)) (t : Target H) → l.this ≡ this → this_target l.around.cells pos this ≡ Ok t →
+  pub this_writable : (pos : Position) (this : Option (Dynamic H)) (t : Target H) → l.this ≡ this →
+      this_target l.around.cells pos this ≡ Ok t →
       Writable a.of t.place k
   this_writable pos (Some v) t bound is = this_at_writable pos v.value v t bound is
   this_writable pos None t bound is = cc
@@ -224,7 +226,7 @@ module _ {H : Type 0} (a : Told H) where
         update_keeps (op_assign_of u.operator u.target u.operand) (record u { attempt = AsValue }) k l stands
     answered_keeps InPlace (Gives v) u k l stands = changed_keeps (sized s.limits v u.at) u k l
     answered_keeps InPlace (Faults e) u k l stands =
-        fault_keeps (says_missing (native_of InPlace u.operator) e) (placed_if_none u.at e) u k l stands
+        fault_keeps (says_missing (native_of InPlace u.operator) e) (with_position u.at e) u k l stands
     answered_keeps AsValue reply u k l stands =
         value_keeps (replied s.limits s.host_type reply (Some u.target) (u.operand ∷ []) (operation_of u) false l.around.cells) u k l
         stands
@@ -246,7 +248,7 @@ module _ {H : Type 0} (a : Told H) (s : Setting H) where
   fire_there (value.Cell id) u k l is stands = same a tt (λ h. h.1)
   fire_there _ u k l is stands = λ h. record {
     asks = subst (λ (x : Union H). IsNoHandle x) (sym is) tt;
-    answered = λ reply left pure keeps. (lent_keeps (telling a pure) s reply (left_in u left) u k l stands).holds (tt, h.1);
+    answered = λ reply left pure keeps. (lent_keeps (telling a pure) s reply (target_left u left) u k l stands).holds (tt, h.1);
   }
 
   pub fire_update_keeps : (u : Update H) (k : List (Frame H)) (l : Local H) → Writable a.of u.place k →

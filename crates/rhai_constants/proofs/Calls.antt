@@ -43,7 +43,7 @@ use Rattle.rhai_machine.specs.language.Arguments.{linked_core, passed, passed_as
 use Rattle.rhai_machine.proofs.MeantLaws.{meant_entry}
 use Rattle.rhai_constants.specs.Constants.{is_bottom}
 use Rattle.rhai_constants.proofs.ConstantLemmas.{constant_mode}
-use Rattle.rhai_constants.proofs.Keeping.{Told, IsDue, PurposeFlat, Loan, Marks, calm, due, Open, Settled, Calls, Inv, Keeps, through}
+use Rattle.rhai_constants.proofs.Keeping.{Told, IsDue, PurposeFlat, Loan, TellsChange, calm, due, Open, Settled, Calls, Inv, Keeps, through}
 use Rattle.rhai_constants.proofs.Keeping.{knowing, Moves}
 use Rattle.rhai_constants.proofs.Settling.{same, ended_keeps}
 
@@ -79,7 +79,7 @@ module _ {H : Type 0} (a : Told H) where
   changed_keeps (Err e) k l o = same a tt (λ h. h.1)
 
   pub answered_keeps : (marks : Bool) (reply : Reply H) (r : Result (Dynamic H) (EvalAltResult H)) (k : List (Frame H)) (l : Local H) →
-      Marks marks (Open a.of k) → Keeps a (calm k l) (core (answered marks reply r) k l)
+      TellsChange marks (Open a.of k) → Keeps a (calm k l) (core (answered marks reply r) k l)
   answered_keeps false reply r k l o = ended_keeps a r k l
   answered_keeps true (Gives v) r k l o = changed_keeps r k l o
   answered_keeps true Missing r k l o = ended_keeps a r k l

@@ -55,7 +55,8 @@ use Rattle.rhai_values.specs.Layers.{UnionLayer}
 use Rattle.rhai_values.specs.Literals.{literal_step, value_of_literal}
 use Rattle.rhai_places.specs.declared.spot.Access.{Access}
 use Rattle.rhai_places.specs.declared.spot.Refusal.{Refusal}
-use Rattle.rhai_places.specs.Found.{through_layer, through as through_index, with_key, without_key, settled as settled_at, found_by, found, IsKeyless}
+use Rattle.rhai_places.specs.Found.{through_layer, through as through_index, with_key, without_key, spot_or_error as settled_at, found_by, found}
+use Rattle.rhai_places.specs.Found.{IsKeyless}
 use Rattle.rhai_places.specs.Indexing.{located}
 use Rattle.rhai_places.specs.Parts.{part_in}
 use Rattle.rhai_places.proofs.FoundLemmas.{keyless}
@@ -68,7 +69,8 @@ use Rattle.rhai_machine.specs.language.Located.{bars_key, lacks_key, access_by}
 use Rattle.rhai_machine.specs.language.Chains.{begun_core, this_root_core, way_back, unless_barred_by}
 use Rattle.rhai_constants.specs.Constants.{is_bottom, AreFlat}
 use Rattle.rhai_constants.proofs.ConstantLemmas.{constant_mode, part_no_handle}
-use Rattle.rhai_constants.proofs.Keeping.{Told, IsDue, IsFree, IsConstantDue, Loan, Where, WayBack, due_root, due_at, due_part, calm, due, constant_due}
+use Rattle.rhai_constants.proofs.Keeping.{Told, IsDue, IsFree, IsConstantDue, Loan, Where, WayBack, due_root, due_at, due_part, calm, due}
+use Rattle.rhai_constants.proofs.Keeping.{constant_due}
 use Rattle.rhai_constants.proofs.Keeping.{Open, Settled, Walks, Keeps, quiet, after, knowing, Moves}
 use Rattle.rhai_constants.proofs.Settling.{Below, same, given, ended_keeps, free_due}
 use Rattle.rhai_constants.proofs.Assignments.{there_keeps, stored_keeps, focus_writable}
@@ -135,13 +137,15 @@ module _ {H : Type 0} where
 
   -- ---- what an index finds
 
-  looked_itself : (cells : Cells H) (d : Dynamic H) (l : UnionLayer H) → layer_of d ≡ l → IsNoHandle d.value → through_layer cells d l ≡ Some d
+  looked_itself : (cells : Cells H) (d : Dynamic H) (l : UnionLayer H) → layer_of d ≡ l → IsNoHandle d.value →
+      through_layer cells d l ≡ Some d
   looked_itself cells d (union.Cell id) is no_handle =
       let handle : d.value ≡ value.Cell id = sym (roll-out-Union H d.value) ∙ ap (roll-Union H) is ∙ rolls-Cell id in
       absurd (subst (λ (u : Union H). IsNoHandle u) handle no_handle)
   looked_itself cells d _ is no_handle = refl
 
-  source_is : (source later : Dynamic H) (at other : Spot) → ◌≡◌ {A = Result (Dynamic H × Spot) (EvalAltResult H)} (Ok (source, at)) (Ok (later, other)) → source ≡ later
+  source_is : (source later : Dynamic H) (at other : Spot) → ◌≡◌ {A = Result (Dynamic H × Spot) (EvalAltResult H)} (Ok (source, at)) (Ok
+      (later, other)) → source ≡ later
   source_is source later at other is = let both : (source, at) ≡ (later, other) = cc in ap (λ (p : Dynamic H × Spot). p.0) both
 
   if_source : (fails : Bool) (source later : Dynamic H) (at : Spot) (e : EvalAltResult H) →
@@ -271,7 +275,8 @@ module _ {H : Type 0} (a : Told H) where
 
   pub open_keeps : (link : Option Link) (chain : Chain H) (k : List (Frame H)) (l : Local H) →
       Moves a (core (OpenChain chain) k l) (open_move link chain k l)
-  open_keeps (Some link) chain k l = after a (calm k l) (λ t. t) (opened_keeps link.behind (ready link.form) chain k l (ready_flat link.form))
+  open_keeps (Some link) chain k l = after a (calm k l) (λ t. t) (opened_keeps link.behind (ready link.form) chain k l
+      (ready_flat link.form))
   open_keeps None chain k l = tt
 
   -- a chain begins on a value that its root's lender has
@@ -336,7 +341,11 @@ module _ {H : Type 0} (a : Told H) where
       (goes (frames_inside id.number k l) (inside id.number inner l) ((tt, (w.1.0, w.1.1)), tt))
   entered_by_keeps at chain _ inner go k l is w goes = knowing a (λ h.
       let same_value : focus_of l ≡ inner = cc in
-      goes k l (w, subst (λ (v : Dynamic H). IsDue (due a.of k).focus (Some v)) same_value (focus_due (due a.of k).focus l.focus h.1.1.1.0)))
+      goes k l (
+        w,
+        subst (λ (v : Dynamic H). IsDue (due a.of k).focus (Some v)) same_value (focus_due (due a.of k).focus
+            l.focus h.1.1.1.0),
+      ))
 
   entered_keeps : (at : Position) (chain : Chain H) (inner : Dynamic H) (go : List (Frame H) → Local H → Core H) (k : List (Frame H))
       (l : Local H) → seen_through l.around.cells (focus_of l) at ≡ Ok inner → Walks a.of chain k →
@@ -440,11 +449,11 @@ module _ {H : Type 0} (a : Told H) where
   way_back_is (AtProperty name at) link index chain k w = tt
   way_back_is (AtMethod name args at) link index chain k w = tt
 
-  -- a part of a constant may be worked on by a method, as no mark comes of that
-  part_marked : (wanted : Option (Dynamic H)) (source : Dynamic H) (at : Spot) (O : Type 0) → IsConstantDue wanted →
+  -- a part of a constant may be worked on by a method, as none says that it changed it
+  part_unchanged : (wanted : Option (Dynamic H)) (source : Dynamic H) (at : Spot) (O : Type 0) → IsConstantDue wanted →
       IsDue wanted (Some source) → O → (IsFree wanted × O) ⊎ IsLeaf (part_of source at)
-  part_marked None source at O c d o = inl (tt, o)
-  part_marked (Some w) source at O c d o = let same_value : source ≡ w = cc in inr (part_leaf w source at (constant_mode w c) same_value)
+  part_unchanged None source at O c d o = inl (tt, o)
+  part_unchanged (Some w) source at O c d o = let same_value : source ≡ w = cc in inr (part_leaf w source at (constant_mode w c) same_value)
 
   module _ (s : Setting H) where
     pub asked_keeps : (link : Option Link) (chain : Chain H) (rest : ExprLayer) (made : List (Dynamic H)) (k : List (Frame H))
@@ -496,8 +505,8 @@ module _ {H : Type 0} (a : Told H) where
     -- a method of the focus, over what waits for its value
     method_of_keeps : (name : List ℕ) (args : List Expr) (pos : Position) (was_handle : Bool) (chain : Chain H) (k : List (Frame H))
         (l : Local H) → Open a.of k ⊎ IsLeaf (focus_of l) → Keeps a (calm k l) (method_of s name args pos was_handle chain k l)
-    method_of_keeps name args pos was_handle chain k l marked = knowing a (λ h. method_keeps a s (focus_of l) k l
-        (λ others. always others k l h.1.1) marked
+    method_of_keeps name args pos was_handle chain k l open_or_leaf = knowing a (λ h. method_keeps a s (focus_of l) k l
+        (λ others. always others k l h.1.1) open_or_leaf
         (record { name = name; at = pos; first_at = first_position args; was_handle = was_handle })
         (take (length args) chain.args))
 
@@ -589,7 +598,7 @@ module _ {H : Type 0} (a : Told H) where
         after a (calm (PartMethod source at pos ∷ k) (focused_on (Some (part_of source at)) l))
         (λ h. (tt, ((d, h.1.0), (h.1.1.0, (part_due (due a.of k).focus source at d, h.1.1.1.1)))))
         (method_of_keeps name args pos false chain (PartMethod source at pos ∷ k) (focused_on (Some (part_of source at)) l)
-        (part_marked (due a.of k).focus source at (Open a.of k) (constant_due a.of k).0 d o))
+        (part_unchanged (due a.of k).focus source at (Open a.of k) (constant_due a.of k).0 d o))
 
     part_walked : (chain : Chain H) (at : Spot) (source : Dynamic H) (k : List (Frame H)) (l : Local H) →
         IsDue (due a.of k).focus (Some source) → Open a.of k → AreFlat chain.args →
@@ -607,7 +616,8 @@ module _ {H : Type 0} (a : Told H) where
     part_form_keeps (AtProperty name pos) link at chain source k l d o f = part_walked chain at source k l d o f
 
     part_keeps : (link : Option Link) (at : Spot) (chain : Chain H) (source : Dynamic H) (k : List (Frame H)) (l : Local H) →
-        IsDue (due a.of k).focus (Some source) → Open a.of k → AreFlat chain.args → Keeps a (calm k l) (part_core s link at chain source k l)
+        IsDue (due a.of k).focus (Some source) → Open a.of k → AreFlat chain.args →
+        Keeps a (calm k l) (part_core s link at chain source k l)
     part_keeps (Some link) at chain source k l d o f = part_form_keeps link.form link at chain source k l d o f
     part_keeps None at chain source k l d o f = part_walked chain at source k l d o f
 

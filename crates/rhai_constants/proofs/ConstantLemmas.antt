@@ -70,7 +70,8 @@ module _ {H : Type 0} where
   pub constant_mode : (w : Dynamic H) → IsConstant w → is_constant w.mode ≡ true
   constant_mode w c = ap is_constant (sym (ap (λ d. d.mode) c))
 
-  item_constant : (xs : List (Dynamic H)) (n : ℕ) (u : Dynamic H) → map (with_mode ReadOnly) xs ≡ xs → slice_get xs n ≡ Some u → IsConstant u
+  item_constant : (xs : List (Dynamic H)) (n : ℕ) (u : Dynamic H) → map (with_mode ReadOnly) xs ≡ xs →
+      slice_get xs n ≡ Some u → IsConstant u
   item_constant [] n u c is = let no : None ≡ Some u = is in absurd (cc no)
   item_constant (x ∷ xs) zero u c is =
       let one : with_mode ReadOnly x ≡ x = cc in

@@ -1,7 +1,8 @@
 -- What natives leave: a constant that is lent is asked about first, and a pure native leaves it.
 use Rattle.std.proofs.Common.{refl, sym, ap, subst, ◌∙◌}
 use Rattle.std.specs.Option.{option_map}
-use Rattle.std.specs.Prelude.{◌≡◌, ◌⊎◌, ℕ, ◌+◌, Bool, true, false, not, ◌&&◌, List, [], ◌∷◌, length, Option, Some, None, Result, Ok, Err, is_some}
+use Rattle.std.specs.Prelude.{◌≡◌, ◌⊎◌, ℕ, ◌+◌, Bool, true, false, not, ◌&&◌, List, [], ◌∷◌, length, Option, Some, None, Result, Ok, Err}
+use Rattle.std.specs.Prelude.{is_some}
 use Rattle.std.proofs.Common.{inl, inr}
 use Rattle.rhai_machine.specs.Types.{Dynamic, EvalAltResult, Union}
 use Rattle.rhai_values.specs.declared.base.value.Union.TheVariants as value
@@ -16,7 +17,7 @@ use Rattle.rhai_machine.specs.language.Frames.{Operation, Lender, FromEntry, Fro
 use Rattle.rhai_machine.specs.language.Calls.{First, first_of, first_in, in_cell, lendable, place_of, while_from, put_left, call_native}
 use Rattle.rhai_machine.specs.language.Calls.{fire_first, fire_move, barred_call, question_first, question_move, key_of, noted, replied}
 use Rattle.rhai_constants.proofs.ConstantLemmas.{constant_mode}
-use Rattle.rhai_constants.proofs.Keeping.{Told, telling, IsDue, IsConstantDue, FirstIsConstant, IsShielded, Loan, Marks, UnlessHandle}
+use Rattle.rhai_constants.proofs.Keeping.{Told, telling, IsDue, IsConstantDue, FirstIsConstant, IsShielded, Loan, TellsChange, UnlessHandle}
 use Rattle.rhai_constants.proofs.Keeping.{due, constant_due, Open, Lent, Settled, Calls, IsPure, Fired, LentNow, Keeps, knowing, Moves}
 use Rattle.rhai_constants.proofs.Settling.{same, put_settled}
 use Rattle.rhai_constants.proofs.Calls.{answered_keeps}
@@ -130,7 +131,7 @@ module _ {H : Type 0} (a : Told H) where
   nothing_fired None call cells = tt
   nothing_fired (Some w) call cells = tt
 
-  -- the mark is no part of what is lent
+  -- whether the call says that it changed its first argument is no part of what is lent
   fired_noted : (wanted : Option (Dynamic H)) (call : Call H) (m : Bool) (args : List (Dynamic H)) (cells : Cells H) →
       Fired a wanted call args cells → Fired a wanted (record call { marks = m }) args cells
   fired_noted None call m args cells f = tt
@@ -149,17 +150,17 @@ module _ {H : Type 0} (a : Told H) where
   noted_lent false pure call k l h = h
   noted_lent true pure call k l h = lent_noted call.lender call (not pure) k l h
 
-  noted_marks : (marks pure : Bool) (call : Call H) (O : Type 0) → call.marks ≡ marks → Marks marks (O ⊎ IsShielded call) →
-      (IsShielded call → pure ≡ true) → Marks (noted marks pure call).marks O
-  noted_marks false pure call O is m h = rw is tt
-  noted_marks true true call O is m h = tt
-  noted_marks true false call O is (inl o) h = o
-  noted_marks true false call O is (inr s) h = let no_way : false ≡ true = h s in cc
+  noted_tells : (marks pure : Bool) (call : Call H) (O : Type 0) → call.marks ≡ marks → TellsChange marks (O ⊎ IsShielded call) →
+      (IsShielded call → pure ≡ true) → TellsChange (noted marks pure call).marks O
+  noted_tells false pure call O is m h = rw is tt
+  noted_tells true true call O is m h = tt
+  noted_tells true false call O is (inl o) h = o
+  noted_tells true false call O is (inr s) h = let no_way : false ≡ true = h s in cc
 
   module _ (s : Setting H) (named : s.host_type ≡ a.of.host) where
     barred_keeps : (barred pure : Bool) (call : Call H) (k : List (Frame H)) (l : Local H) →
         (barred ≡ false → LentNow a (noted call.marks pure call).lender (noted call.marks pure call) k l
-        × Marks (noted call.marks pure call).marks (Open a.of k)) →
+        × TellsChange (noted call.marks pure call).marks (Open a.of k)) →
         Keeps a (core (Question call) k l) (barred_call s barred pure call k l)
     barred_keeps true pure call k l h = same a tt (λ h. h.1)
     barred_keeps false pure call k l h = same a (h refl) (λ h. h.1)
@@ -170,7 +171,8 @@ module _ {H : Type 0} (a : Told H) where
       value_itself no_handle = ap (λ (f : First H). f.value)
           (first_itself l.around.cells call.operation call.lender x.value x first no_handle ok)
 
-      pure_of : (pure : Bool) → a.pure (purity_of (key_of call) (type_name_of s.host_type l.around.cells first.value) (1 + length rest)) ≡ pure →
+      pure_of : (pure : Bool) → a.pure (purity_of (key_of call) (type_name_of s.host_type l.around.cells first.value)
+          (1 + length rest)) ≡ pure →
           IsNoHandle x.value → pure ≡ true → IsPure a call x rest l.around.cells
       pure_of pure is no_handle holds =
           ap (λ host. a.pure (purity_of (key_of call) (type_name_of host l.around.cells x) (1 + length rest))) (sym named)
@@ -193,7 +195,7 @@ module _ {H : Type 0} (a : Told H) where
       question_asked pure is calls = barred_keeps (call.guarded && is_barred pure first.value) pure call k l (λ passes. (
         noted_lent call.marks pure call k l (lent_due call.lender call x rest pure k l args calls.0
             (λ no_handle. (barred_itself pure passes no_handle, pure_of pure is no_handle))),
-        noted_marks call.marks pure call (Open a.of k) refl calls.1 (shielded pure passes),
+        noted_tells call.marks pure call (Open a.of k) refl calls.1 (shielded pure passes),
       ))
 
       -- ---- the answer
@@ -208,7 +210,8 @@ module _ {H : Type 0} (a : Told H) where
       due_left (Some w) v no_handle fired keeps =
           keeps (is_no_handle x.value (IsPure a call x rest l.around.cells) no_handle fired.1) ∙ ap Some fired.0
 
-      fired_at : (wanted : Option (Dynamic H)) → Fired a wanted call call.args l.around.cells → Fired a wanted call (x ∷ rest) l.around.cells
+      fired_at : (wanted : Option (Dynamic H)) → Fired a wanted call call.args l.around.cells →
+          Fired a wanted call (x ∷ rest) l.around.cells
       fired_at wanted fired = subst (λ (xs : List (Dynamic H)). Fired a wanted call xs l.around.cells) args fired
 
       lender_left : (lender : Option Lender) (left : Option (Dynamic H)) → IsNoHandle x.value → LentNow a lender call k l →
@@ -282,7 +285,7 @@ module _ {H : Type 0} (a : Told H) where
         Moves a (core (Question call) k l) (question_move s call args k l)
     question_args call [] k l is = knowing a (λ h. same a (
       noted_lent call.marks (a.pure (purity_of (key_of call) [] 0)) call k l (nothing_lent call.lender call k l is h.0.0),
-      noted_marks call.marks (a.pure (purity_of (key_of call) [] 0)) call (Open a.of k) refl h.0.1
+      noted_tells call.marks (a.pure (purity_of (key_of call) [] 0)) call (Open a.of k) refl h.0.1
           (λ sh. absurd (unshielded call is sh)),
     ) (λ h. h.1))
     question_args call (x ∷ rest) k l is = question_by call x rest (first_of l.around.cells call x) k l is refl

@@ -44,7 +44,7 @@ use Rattle.rhai_machine.specs.language.Values.{Cells, is_handle}
 use Rattle.rhai_machine.specs.language.Frames.{Share}
 use Rattle.rhai_constants.specs.Constants.{is_bottom, shares, replaces_at}
 use Rattle.rhai_constants.proofs.Keeping.{Told, calm, Longer, Writable, Keeps, through, after, Moves}
-use Rattle.rhai_constants.proofs.Settling.{same, given, longer, newer_held, put_keeps}
+use Rattle.rhai_constants.proofs.Settling.{same, given, longer, newer_below, put_keeps}
 use Rattle.rhai_constants.proofs.Calls.{on_keeps}
 
 module _ {H : Type 0} (a : Told H) where
@@ -70,7 +70,7 @@ module _ {H : Type 0} (a : Told H) where
 
   started_keeps : (turns : Option (Turns H)) (loop : ForLoop) (k : List (Frame H)) (l : Local H) →
       Keeps a (calm k l) (started_core turns loop k l)
-  started_keeps (Some turns) loop k l = given a (λ h. longer a k l h.1.1) (λ h. newer_held a (loop_entries loop) k l h.1)
+  started_keeps (Some turns) loop k l = given a (λ h. longer a k l h.1.1) (λ h. newer_below a (loop_entries loop) k l h.1)
   started_keeps None loop k l = same a tt (λ h. h.1)
 
   -- what it walks is there
@@ -104,7 +104,8 @@ module _ {H : Type 0} (a : Told H) where
     placed_keeps : (r : Result Place (EvalAltResult H)) (l : Local H) → place_of_entry name at index l ≡ r →
         Keeps a (calm k l) (on_value r (λ place. go (put place v l)) k l)
     placed_keeps (Ok place) l is = through a
-        (put_keeps a place v k l (by_writable name at index l.around.cells (option_map (λ v. v.value) (value_in l.scope (Some index))) place k
+        (put_keeps a place v k l (by_writable name at index l.around.cells (option_map (λ v. v.value)
+        (value_in l.scope (Some index))) place k
         longer is))
         (h (put place v l))
     placed_keeps (Err e) l is = same a tt (λ h. h.1)
@@ -148,7 +149,8 @@ module _ {H : Type 0} (a : Told H) where
   -- ---- shared variables
 
   -- another entry is shared than the constant's
-  not_there : (index at : ℕ) (bottom rest : Bool) → bottom && (nat_eq index at && rest) ≡ false → rest ≡ true → bottom ≡ true → index ≡ at → ⊥
+  not_there : (index at : ℕ) (bottom rest : Bool) → bottom && (nat_eq index at && rest) ≡ false → rest ≡ true →
+      bottom ≡ true → index ≡ at → ⊥
   not_there index at true true is r b e = grind (arith, nat_tests, is, e)
   not_there index at true false is r b e = cc
   not_there index at false rest is r b e = cc
@@ -170,7 +172,8 @@ module _ {H : Type 0} (a : Told H) where
   found_keeps ident (Some index) None rest k l is = same a tt (λ h. h.1)
   found_keeps ident None there rest k l is = same a tt (λ h. h.1)
 
-  pub share_keeps : (variables : List SharedVariable) (k : List (Frame H)) (l : Local H) → replaces_at a.of.index (Share variables) k l ≡ false →
+  pub share_keeps : (variables : List SharedVariable) (k : List (Frame H)) (l : Local H) →
+      replaces_at a.of.index (Share variables) k l ≡ false →
       Keeps a (calm k l) (share_core variables k l)
   share_keeps [] k l is = same a tt (λ h. h.1)
   share_keeps (variable ∷ rest) k l is =
@@ -223,11 +226,12 @@ module _ {H : Type 0} (a : Told H) where
     for_keeps true loop k l = same a tt (λ h. h.1)
     for_keeps false loop k l = same a tt (λ h. h.1)
 
-    branch_with_keeps : (full : Bool) (variable : Ident) (v : Dynamic H) (caught : EvalAltResult H) (branch : StmtBlock) (k : List (Frame H))
+    branch_with_keeps : (full : Bool) (variable : Ident) (v : Dynamic H) (caught : EvalAltResult H) (branch : StmtBlock) (k
+        : List (Frame H))
         (l : Local H) → Keeps a (calm k l) (branch_with full variable v caught branch k l)
     branch_with_keeps true variable v caught branch k l = same a tt (λ h. h.1)
     branch_with_keeps false variable v caught branch k l =
-        same a tt (λ h. newer_held a (new_entry variable.name ReadWrite v ∷ []) k l h.1)
+        same a tt (λ h. newer_below a (new_entry variable.name ReadWrite v ∷ []) k l h.1)
 
     branch_keeps : (variable : Option Ident) (caught : EvalAltResult H) (branch : StmtBlock) (k : List (Frame H)) (l : Local H) →
         Keeps a (calm k l) (branch_core s variable caught branch k l)

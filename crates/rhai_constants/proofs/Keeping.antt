@@ -18,9 +18,10 @@ use Rattle.rhai_places.specs.Paths.{ToPlace, ToCell}
 use Rattle.rhai_machine.specs.language.State.{Local}
 use Rattle.rhai_machine.specs.language.Values.{Cells, unit_value}
 use Rattle.rhai_machine.specs.language.Places.{Place, InEntry, InCell, InThis, InFocus, is_constant}
-use Rattle.rhai_machine.specs.language.Activations.{Object, NoObject, OwnThis, TheFocus, Variables, Caller, UpTo, Without}
+use Rattle.rhai_machine.specs.language.Activations.{ThisFrom, NoThis, OwnThis, TheFocus, Variables, Caller, UpTo, Without}
 use Rattle.rhai_machine.specs.language.Calls.{key_of}
-use Rattle.rhai_machine.specs.language.Frames.{Chain, Lender, FromEntry, FromThis, FromFocus, Call, Purpose, ToChain, MemberAccess, Control, Core, core}
+use Rattle.rhai_machine.specs.language.Frames.{Chain, Lender, FromEntry, FromThis, FromFocus, Call, Purpose, ToChain, MemberAccess, Control}
+use Rattle.rhai_machine.specs.language.Frames.{Core, core}
 use Rattle.rhai_machine.specs.language.Frames.{Ask, Question, Fire, AskUpdate, QuestionUpdate, FireUpdate, ForTurn, ForItem}
 use Rattle.rhai_machine.specs.language.Frames.{ChainArguments, ChainRoot, ReadRoot, Walk, Locate, Back, Changed, Fail, Frame, CallArgument}
 use Rattle.rhai_machine.specs.language.Frames.{RestoreList, RestoreScope, ForBody, RootValue, ChainEnd, StepDown, Temporary, PartMethod}
@@ -50,10 +51,10 @@ pub record Due (H : Type 0) : Type 0 where
   pub focus : Option (Dynamic H)
   pub this : Option (Dynamic H)
 
--- what a call that marks has to know
-abbrev pub Marks : Bool → Type 0 → Type 0
-Marks false P = ⊤
-Marks true P = P
+-- what a call has to know that says whether it changed its first argument
+abbrev pub TellsChange : Bool → Type 0 → Type 0
+TellsChange false P = ⊤
+TellsChange true P = P
 
 module _ {H : Type 0} where
   -- what is wanted is there
@@ -84,8 +85,8 @@ module _ {H : Type 0} where
   due_part (Some w) at = Some (part_of w at)
 
   -- `this` of a function
-  abbrev pub due_this : Object → Due H → Option (Dynamic H)
-  due_this NoObject d = None
+  abbrev pub due_this : ThisFrom → Due H → Option (Dynamic H)
+  due_this NoThis d = None
   due_this OwnThis d = d.this
   due_this TheFocus d = d.focus
 
@@ -116,7 +117,7 @@ module _ {H : Type 0} where
   abbrev pub IsShielded : Call H → Type 0
   IsShielded call = (call.guarded ≡ true) × FirstIsConstant call.args
 
-  -- a handle's cell is lent in its place
+  -- of a handle its cell is lent instead
   abbrev pub UnlessHandle : Union H → Type 0 → Type 0
   UnlessHandle (value.Cell id) P = ⊤
   UnlessHandle _ P = P
@@ -155,7 +156,7 @@ module _ {H : Type 0} (a : Asked H) where
   GivesBack (UpTo n) k = Longer k n
   GivesBack (Without n slots) k = Longer k n
 
-  -- a marked value may come up to the stack: it does not make a part of a constant go back
+  -- a value may come up to the stack as `Changed`: it does not make a part of a constant go back
   abbrev pub Open : List (Frame H) → Type 0
   Open (PartMethod above at pos ∷ k) = IsFree (due k).focus × Open k
   Open (StepDown above step ∷ k) = Open k
@@ -217,7 +218,7 @@ module _ {H : Type 0} (a : Asked H) where
   Lent (Some FromFocus) guarded args k = Loan (due k).focus guarded args
 
   abbrev pub Calls : Call H → List (Frame H) → Type 0
-  Calls call k = Lent call.lender call.guarded call.args k × Marks call.marks (Open k ⊎ IsShielded call)
+  Calls call k = Lent call.lender call.guarded call.args k × TellsChange call.marks (Open k ⊎ IsShielded call)
 
   abbrev pub Walks : Chain H → List (Frame H) → Type 0
   Walks chain k = Where (due k).focus chain.in_place × (Open k × AreFlat chain.args)
@@ -246,8 +247,8 @@ module _ {H : Type 0} (a : Asked H) where
   part_constant None at c = tt
   part_constant (Some w) at c = constant_part w at c
 
-  this_constant : (object : Object) (d : Due H) → IsConstantDue d.focus → IsConstantDue d.this → IsConstantDue (due_this object d)
-  this_constant NoObject d f t = tt
+  this_constant : (object : ThisFrom) (d : Due H) → IsConstantDue d.focus → IsConstantDue d.this → IsConstantDue (due_this object d)
+  this_constant NoThis d f t = tt
   this_constant OwnThis d f t = t
   this_constant TheFocus d f t = f
 
@@ -283,7 +284,7 @@ module _ {H : Type 0} (a : Told H) where
   abbrev pub At : Control H → List (Frame H) → Local H → Type 0
   At (Ask call) k l = Calls a.of call k
   At (Question call) k l = Calls a.of call k
-  At (Fire call) k l = LentNow call.lender call k l × Marks call.marks (Open a.of k)
+  At (Fire call) k l = LentNow call.lender call k l × TellsChange call.marks (Open a.of k)
   At (AskUpdate u) k l = Writable a.of u.place k
   At (QuestionUpdate u) k l = Writable a.of u.place k
   At (FireUpdate u) k l = Writable a.of u.place k

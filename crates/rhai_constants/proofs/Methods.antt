@@ -20,7 +20,8 @@ use Rattle.rhai_machine.specs.language.Calls.{call_of, call_races, dispatch_core
 use Rattle.rhai_machine.specs.language.Arguments.{operation_named, pointer_wanted, linked_to, natives_alone}
 use Rattle.rhai_machine.specs.language.Methods.{Method, MethodWord, CallWord, CurryWord, SharedWord, PlainWord, word_of, argument_at}
 use Rattle.rhai_machine.specs.language.Methods.{as_method, on_focus, copied_before, own_entry, numbered_on}
-use Rattle.rhai_machine.specs.language.Methods.{unlinked_on, pointer_on, unlinked_alone, pointer_alone, call_argument, call_core, curry_core, entry_core}
+use Rattle.rhai_machine.specs.language.Methods.{unlinked_on, pointer_on, unlinked_alone, pointer_alone, call_argument, call_core}
+use Rattle.rhai_machine.specs.language.Methods.{curry_core, entry_core}
 use Rattle.rhai_machine.specs.language.Methods.{word_core, method_core}
 use Rattle.rhai_machine.proofs.MethodLaws.{focus_ends, frames_inside, inside}
 use Rattle.rhai_constants.proofs.Keeping.{Told, IsDue, IsShielded, Loan, Where, calm, due, Open, Keeps}
@@ -36,7 +37,8 @@ module _ {H : Type 0} where
   abbrev pub IsLeaf : Dynamic H → Type 0
   IsLeaf v = (is_constant v.mode ≡ true) × (IsNoHandle v.value × IsNoPointer (layer_of v))
 
-  through_itself : (cells : Cells H) (u : Union H) (v w : Dynamic H) (at : Position) → IsNoHandle u → through_union cells u v at ≡ Ok w → v ≡ w
+  through_itself : (cells : Cells H) (u : Union H) (v w : Dynamic H) (at : Position) → IsNoHandle u →
+      through_union cells u v at ≡ Ok w → v ≡ w
   through_itself cells (value.Cell id) v w at no_handle is = absurd no_handle
   through_itself cells _ v w at no_handle is = cc
 
@@ -72,7 +74,7 @@ module _ {H : Type 0} (a : Told H) where
   }) f is_fresh args pos
 
 module _ {H : Type 0} (a : Told H) (s : Setting H) (focus : Dynamic H) (k : List (Frame H)) (l : Local H)
-    (lent : (args : List (Dynamic H)) → Loan (due a.of k).focus true (focus ∷ args)) (marked : Open a.of k ⊎ IsLeaf focus) where
+    (lent : (args : List (Dynamic H)) → Loan (due a.of k).focus true (focus ∷ args)) (open_or_leaf : Open a.of k ⊎ IsLeaf focus) where
   shielded : (operation : Operation) (args : List (Dynamic H)) → Open a.of k ⊎ IsLeaf focus →
       Open a.of k ⊎ IsShielded (on_focus operation args focus)
   shielded operation args (inl free) = inl free
@@ -82,7 +84,7 @@ module _ {H : Type 0} (a : Told H) (s : Setting H) (focus : Dynamic H) (k : List
   named_on : (alone : Bool) (operation : Operation) (args : List (Dynamic H)) →
       Keeps a (calm k l) (dispatch_core s (as_method alone) (on_focus operation args focus) k l)
   named_on alone operation args =
-      dispatch_keeps a s (as_method alone) (on_focus operation args focus) k l (lent args, shielded operation args marked)
+      dispatch_keeps a s (as_method alone) (on_focus operation args focus) k l (lent args, shielded operation args open_or_leaf)
 
   numbered_on_keeps : (number : ℕ) (operation : Operation) (args : List (Dynamic H)) →
       Keeps a (calm k l) (numbered_on number operation args focus k l)
@@ -141,15 +143,15 @@ module _ {H : Type 0} (a : Told H) (s : Setting H) (focus : Dynamic H) (k : List
       (copied_before pointer args)
   entry_keeps None method args = named_on false (operation_named method.name method.at) args
 
-  seen_marked : (seen : Dynamic H) (at : Position) → seen_through l.around.cells focus at ≡ Ok seen → Open a.of k ⊎ IsLeaf focus →
+  seen_changed : (seen : Dynamic H) (at : Position) → seen_through l.around.cells focus at ≡ Ok seen → Open a.of k ⊎ IsLeaf focus →
       Open a.of k ⊎ IsNoPointer (layer_of seen)
-  seen_marked seen at is (inl free) = inl free
-  seen_marked seen at is (inr leaf) = inr (subst (λ (v : Dynamic H). IsNoPointer (layer_of v))
+  seen_changed seen at is (inl free) = inl free
+  seen_changed seen at is (inr leaf) = inr (subst (λ (v : Dynamic H). IsNoPointer (layer_of v))
       (through_itself l.around.cells focus.value focus seen at leaf.1.0 is) leaf.1.1)
 
   word_keeps : (word : MethodWord) (method : Method) (args : List (Dynamic H)) → Keeps a (calm k l) (word_core s word method args focus k l)
   word_keeps CallWord method args = known_keeps a (seen_through l.around.cells focus method.at) _ k l
-      (λ h seen is. call_keeps (layer_of seen) method args seen (seen_marked seen method.at is marked))
+      (λ h seen is. call_keeps (layer_of seen) method args seen (seen_changed seen method.at is open_or_leaf))
   word_keeps CurryWord method args = on_keeps a (seen_through l.around.cells focus method.at) _ k l
       (λ seen. curry_keeps (layer_of seen) method.at args seen)
   word_keeps SharedWord method args = same a tt (λ h. h.1)

@@ -34,13 +34,17 @@ use Rattle.rhai_machine.specs.language.Assignment.{variable_of_assignment}
 use Rattle.rhai_machine.specs.language.Activations.{Entered}
 use Rattle.rhai_machine.specs.language.Frames.{on_value}
 use Rattle.rhai_machine.specs.language.Frames.{Operation, Control, Frame, Core, core, Eval, Exec, Ask, Assign, AskUpdate, Argument}
-use Rattle.rhai_machine.specs.language.Frames.{Question, Fire, QuestionUpdate, FireUpdate, OpenExpr, OpenStmt, Enter, Run, Store, StoreThis, WhileTurn}
+use Rattle.rhai_machine.specs.language.Frames.{Question, Fire, QuestionUpdate, FireUpdate, OpenExpr, OpenStmt, Enter, Run, Store, StoreThis}
+use Rattle.rhai_machine.specs.language.Frames.{WhileTurn}
 use Rattle.rhai_machine.specs.language.Frames.{DoTurn, Back, Changed, Fail, StatementValue, DefineValue, IfCondition, RestOfList}
-use Rattle.rhai_machine.specs.language.Frames.{RestoreList, Top, UnaryOperand, LeftOperand, RightOperand, AndPart, OrPart, CoalescePart, AssignValue}
+use Rattle.rhai_machine.specs.language.Frames.{RestoreList, Top, UnaryOperand, LeftOperand, RightOperand, AndPart, OrPart, CoalescePart}
+use Rattle.rhai_machine.specs.language.Frames.{AssignValue}
 use Rattle.rhai_machine.specs.language.Frames.{WhileCondition, WhileBody, DoCondition, DoBody, BreakValue, ReturnValue}
 use Rattle.rhai_machine.specs.language.Frames.{ArrayItem, EntryValue, TextPart, PrintedPart, CallNamed, CallArgument, KeywordArgument}
-use Rattle.rhai_machine.specs.language.Frames.{EnterFunction, EnterOnFocus, AssignThis, AssignThisValue, CallEnd, Choose, ForTurn, ForItem, Share}
-use Rattle.rhai_machine.specs.language.Frames.{SwitchValue, SwitchCondition, ForItems, ForBody, ImportPath, RestoreScope, TryBody, ThrowValue}
+use Rattle.rhai_machine.specs.language.Frames.{EnterFunction, EnterOnFocus, AssignThis, AssignThisValue, CallEnd, Choose, ForTurn, ForItem}
+use Rattle.rhai_machine.specs.language.Frames.{Share}
+use Rattle.rhai_machine.specs.language.Frames.{SwitchValue, SwitchCondition, ForItems, ForBody, ImportPath, RestoreScope, TryBody}
+use Rattle.rhai_machine.specs.language.Frames.{ThrowValue}
 use Rattle.rhai_machine.specs.language.Bodies.{statements_of, variables_before, body_core, unless_deep, called_back, returned}
 use Rattle.rhai_machine.specs.language.Data.{with_item, with_value, with_part, items_core, entries_core, parts_core, part_core}
 use Rattle.rhai_machine.specs.language.Data.{joined_core, printed, unprinted_core}
@@ -62,7 +66,7 @@ use Rattle.rhai_machine.specs.language.Frames.{AssignChain, AssignedChain, OpenC
 use Rattle.rhai_machine.specs.language.Frames.{RootValue, ChainEnd, StepDown, Temporary, PartMethod, PartAssigned, Measured, MethodLink}
 use Rattle.rhai_machine.specs.language.Frames.{MemberLink, MemberGot, MemberOperated, GetterTried, SetterTried, IndexerTried, MemberSet}
 use Rattle.rhai_machine.specs.language.Members.{focus_of, focused_on, lacks_property, lacks_indexer}
-use Rattle.rhai_machine.specs.language.Unwinding.{up_core, down_core, marked_core, topped, operated, looked_at}
+use Rattle.rhai_machine.specs.language.Unwinding.{up_core, down_core, changed_up_core, script_ended, operands_there, as_measured}
 use Rattle.rhai_machine.specs.language.Language.{move_at}
 use Rattle.std.proofs.Common.{sym, subst, zero, suc}
 use Rattle.std.specs.Prelude.{⊤, is_none, nat_eq}
@@ -76,13 +80,15 @@ use Rattle.rhai_fits.specs.Sealed.{AreSealed}
 use Rattle.rhai_fits.proofs.Seeing.{copy_no_handle}
 use Rattle.rhai_constants.specs.Constants.{is_bottom, overwrites, replaces_at, AreFlat}
 use Rattle.rhai_constants.proofs.Keeping.{Told, PurposeFlat, calm, Inv, Keeps, through, after, knowing, Moves}
-use Rattle.rhai_constants.proofs.Settling.{same, given, ended_keeps, step_left, chain_left, call_left, function_entered, list_entered, scope_left}
+use Rattle.rhai_constants.proofs.Settling.{same, given, ended_keeps, step_left, chain_left, call_left, function_entered, list_entered}
+use Rattle.rhai_constants.proofs.Settling.{scope_left}
 use Rattle.rhai_constants.proofs.Settling.{newer, put_keeps}
 use Rattle.rhai_constants.proofs.Assignments.{assignment_keeps, store_keeps, store_this_keeps, barred_keeps, fire_update_keeps}
 use Rattle.rhai_constants.proofs.Calls.{on_keeps, known_keeps, call_keeps, operator_keeps, arguments_keep, named_keeps, keyword_keeps}
 use Rattle.rhai_constants.proofs.Firing.{question_keeps, fire_keeps}
 use Rattle.rhai_constants.proofs.Methods.{focus_keeps}
-use Rattle.rhai_constants.proofs.Forms.{choose_keeps, met_keeps, walked_keeps, for_keeps, for_turn_keeps, item_keeps, tried_keeps, export_keeps}
+use Rattle.rhai_constants.proofs.Forms.{choose_keeps, met_keeps, walked_keeps, for_keeps, for_turn_keeps, item_keeps, tried_keeps}
+use Rattle.rhai_constants.proofs.Forms.{export_keeps}
 use Rattle.rhai_constants.proofs.Forms.{imported_keeps, import_keeps, share_keeps}
 use Rattle.rhai_constants.proofs.Chains.{open_keeps, asked_keeps, root_keeps, read_root_keeps, temporary_root, walk_keeps, locate_keeps}
 use Rattle.rhai_constants.proofs.Chains.{assign_focus_keeps, operated_on_keeps, part_assigned_keeps, part_changed_keeps, temporary_keeps}
@@ -314,7 +320,7 @@ module _ {H : Type 0} (a : Told H) where
 
     -- the operands of an operator
     operated_keeps : (operation : Operation) (args : List (Dynamic H)) (k : List (Frame H)) (l : Local H) →
-        Keeps a (calm k l) (operated s operation args k l)
+        Keeps a (calm k l) (operands_there s operation args k l)
     operated_keeps operation args k l = operator_keeps a s (builtin_of operation.token args) (call_of operation args) k l (tt, tt)
 
     -- arrays and texts
@@ -424,7 +430,7 @@ module _ {H : Type 0} (a : Told H) where
     up_keeps (PartAssigned above at op_at) v k l fine sealed = after a (calm (PartAssigned above at op_at ∷ k) l) (λ h. (tt, h.1))
         (part_assigned_keeps a s (put_back above at (focus_of l)) above at op_at k l)
     up_keeps (Measured op_at) v k l fine sealed = knowing a (λ i. after a (calm k l) (λ h. (tt, (h.1.0.1, h.1.1)))
-        (on_keeps a (sized s.limits (looked_at l.around.cells (focus_of l)) op_at) _ k l (λ x. same a i.1.0.0 (λ h. h.1))))
+        (on_keeps a (sized s.limits (as_measured l.around.cells (focus_of l)) op_at) _ k l (λ x. same a i.1.0.0 (λ h. h.1))))
     up_keeps (MethodLink chain) v k l fine sealed = given a (λ h. (tt, (h.1.0.1.0, h.1.0.0)))
         (λ h. ((h.1.1.1.0, (tt, h.1.0.1.1)), (h.1.1.0, (tt, h.1.1.1.1))))
     up_keeps (MemberLink access chain) v k l fine sealed = given a (λ h. (tt, (h.1.0.1.1.0, h.1.0.0)))
@@ -443,24 +449,24 @@ module _ {H : Type 0} (a : Told H) where
     up_keeps (ForBody loop rest turn base) v k l fine sealed = given a (λ h. h.1.0.0) (λ h. (h.1.0.1, h.1.1))
     up_keeps _ v k l fine sealed = same a tt (λ h. h.1)
 
-    -- a value comes up that is marked
-    marked_keeps : (frame : Frame H) (v : Dynamic H) (k : List (Frame H)) (l : Local H) →
-        Keeps a (core (Changed v) (frame ∷ k) l) (marked_core s frame v k l)
-    marked_keeps (StepDown above step) v k l = knowing a (λ i. after a (calm (StepDown above step ∷ k) l) (λ h. (tt, h.1))
+    -- a value comes up as `Changed`
+    comes_changed_keeps : (frame : Frame H) (v : Dynamic H) (k : List (Frame H)) (l : Local H) →
+        Keeps a (core (Changed v) (frame ∷ k) l) (changed_up_core s frame v k l)
+    comes_changed_keeps (StepDown above step) v k l = knowing a (λ i. after a (calm (StepDown above step ∷ k) l) (λ h. (tt, h.1))
         (through a (step_left a above step k l) (same a i.0 (λ h. h.1))))
-    marked_keeps (Temporary above back) v k l = knowing a (λ i. after a (calm k (focused_on above l))
+    comes_changed_keeps (Temporary above back) v k l = knowing a (λ i. after a (calm k (focused_on above l))
         (λ h. (tt, (h.1.0.1.1, (h.1.1.0, (h.1.0.0, h.1.1.1.1)))))
         (temporary_keeps a s back (focus_of l) v k (focused_on above l) i.1.0.1.0 i.0))
-    marked_keeps (PartMethod above at pos) v k l = part_changed_keeps a s (put_back above at (focus_of l)) above at pos v k l
-    marked_keeps (GetterTried access name) v k l = given a (λ h. h.0) (λ h. h.1)
-    marked_keeps (SetterTried access name value ignores) v k l = given a (λ h. h.0) (λ h. (h.1.0.1.1, h.1.1))
-    marked_keeps (IndexerTried otherwise) v k l = given a (λ h. h.0) (λ h. h.1)
-    marked_keeps _ v k l = same a tt (λ h. h.1)
+    comes_changed_keeps (PartMethod above at pos) v k l = part_changed_keeps a s (put_back above at (focus_of l)) above at pos v k l
+    comes_changed_keeps (GetterTried access name) v k l = given a (λ h. h.0) (λ h. h.1)
+    comes_changed_keeps (SetterTried access name value ignores) v k l = given a (λ h. h.0) (λ h. (h.1.0.1.1, h.1.1))
+    comes_changed_keeps (IndexerTried otherwise) v k l = given a (λ h. h.0) (λ h. h.1)
+    comes_changed_keeps _ v k l = same a tt (λ h. h.1)
 
     -- an error comes down
     down_keeps : (frame : Frame H) (e : EvalAltResult H) (k : List (Frame H)) (l : Local H) →
         Keeps a (core (Fail e) (frame ∷ k) l) (down_core s frame e k l)
-    down_keeps (Top map_exit) e k l = after a (calm k l) (λ h. (tt, h.1)) (ended_keeps a (topped map_exit e) k l)
+    down_keeps (Top map_exit) e k l = after a (calm k l) (λ h. (tt, h.1)) (ended_keeps a (script_ended map_exit e) k l)
     down_keeps (WhileBody test body) e k l =
         after a (calm k l) (λ h. (tt, h.1)) (caught_keeps (WhileTurn test body) e k l (same a tt (λ h. h.1)))
     down_keeps (DoBody test body options) e k l =
@@ -499,7 +505,8 @@ module _ {H : Type 0} (a : Told H) where
         after a (calm k l) (λ h. (tt, h.1)) (indexer_missing_keeps a (lacks_indexer e) e otherwise k l)
     down_keeps _ e k l = same a tt (λ h. h.1)
 
-    define_keeps : (shadows full : Bool) (ident : Ident) (value : Expr) (index : Option NonZeroUsize) (options : ASTFlags) (restoring : Bool)
+    define_keeps : (shadows full : Bool) (ident : Ident) (value : Expr) (index : Option NonZeroUsize) (options : ASTFlags)
+        (restoring : Bool)
         (pos : Position) (k : List (Frame H)) (l : Local H) →
         Keeps a (calm k l) (define_core s shadows full ident value index options restoring pos k l)
     define_keeps true full ident value index options restoring pos k l = same a tt (λ h. h.1)
@@ -601,7 +608,7 @@ module _ {H : Type 0} (a : Told H) where
     move_keeps named (Walk chain) k l fine sealed = moves_knowing _ _ (λ h. walk_keeps a s (link_of chain.rest) chain k l h.0)
     move_keeps named (Locate link chain) k l fine sealed = knowing a (λ h. locate_keeps a s link chain k l h.0)
     move_keeps named (Changed v) [] l fine sealed = same a tt (λ h. h.1)
-    move_keeps named (Changed v) (frame ∷ k) l fine sealed = marked_keeps frame v k l
+    move_keeps named (Changed v) (frame ∷ k) l fine sealed = comes_changed_keeps frame v k l
     move_keeps named (Back v) [] l fine sealed = tt
     move_keeps named (Back v) (frame ∷ k) l fine sealed = up_keeps frame v k l fine sealed
     move_keeps named (Fail e) [] l fine sealed = tt

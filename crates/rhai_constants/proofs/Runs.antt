@@ -1,4 +1,4 @@
--- Constants stay through whole runs, want of memory included.
+-- Constants stay through whole runs, also where memory runs out.
 use Rattle.std.proofs.Common.{refl, subst, inl, inr}
 use Rattle.std.specs.Prelude.{◌≡◌, ◌⊎◌, ⊤, ℕ, Bool, true, false, List, [], ◌∷◌, Option, Some, None}
 use Rattle.rhai_machine.specs.Types.{Dynamic, EvalAltResult, Position}
@@ -6,23 +6,24 @@ use Rattle.rhai_state.specs.declared.error.EvalAltResult.TheVariants as error
 use Rattle.rhai_state.specs.Native.{Request, Reply, Faults, Lawful, MayLeave}
 use Rattle.rhai_machine.specs.machine.Machine.{Move, Halt, Go, Charge, Native, AskPure}
 use Rattle.rhai_machine.specs.machine.Point.{Point, Reaches, here as stop, next as step, paid, moved, after}
-use Rattle.rhai_machine.specs.machine.Memory.{Leads, here, next, wanting, starved, starved_at, OutOfMemory, before_step, in_native, RunsOut}
+use Rattle.rhai_machine.specs.machine.Memory.{Leads, here, next, out_before_step, out_in_native, out_of_memory_in_native, OutOfMemory, before_step, in_native, RunsOut}
 use Rattle.rhai_machine.specs.language.Setting.{Rules, cut}
 use Rattle.rhai_machine.specs.language.State.{Local, State}
 use Rattle.rhai_machine.specs.language.Places.{Place, InEntry, InCell, InThis, InFocus}
 use Rattle.rhai_machine.specs.language.Frames.{Lender, FromEntry, FromThis, FromFocus, Call, Control, Core, core, Ask, Question, Fire}
-use Rattle.rhai_machine.specs.language.Frames.{AskUpdate, QuestionUpdate, FireUpdate, ForTurn, ForItem, Share, ChainArguments, ChainRoot, ReadRoot}
+use Rattle.rhai_machine.specs.language.Frames.{AskUpdate, QuestionUpdate, FireUpdate, ForTurn, ForItem, Share, ChainArguments, ChainRoot}
+use Rattle.rhai_machine.specs.language.Frames.{ReadRoot}
 use Rattle.rhai_machine.specs.language.Frames.{Walk, Locate, Back, Fail, Frame, DefineValue}
 use Rattle.rhai_machine.specs.language.Language.{machine, move, move_at}
-use Rattle.rhai_machine.specs.language.Memory.{IsWanting, UpToMemory}
+use Rattle.rhai_machine.specs.language.Memory.{IsOutOfMemory, UpToMemory}
 use Rattle.rhai_machine.specs.language.Runs.{at, with_core}
-use Rattle.rhai_laws.proofs.MemoryLaws.{wants_on}
-use Rattle.rhai_laws.proofs.WantLaws.{wants}
+use Rattle.rhai_laws.proofs.MemoryLaws.{stays_out}
+use Rattle.rhai_laws.proofs.ScriptMemory.{memory_unwinds}
 use Rattle.rhai_fits.specs.Sealed.{Sealed}
 use Rattle.rhai_fits.proofs.Runs.{runs_keep}
 use Rattle.rhai_constants.specs.Constants.{IsConstant, HasEntry, replaces, replaces_at, IsOther, LendsOther, Spares}
 use Rattle.rhai_constants.specs.Laws.{IsReplaced, own_end, ConstantsStay}
-use Rattle.rhai_constants.proofs.Keeping.{Told, Marks, Lent, Writable, LentNow, At, Inv, Keeps, Moves, IsShielded, calm, quiet}
+use Rattle.rhai_constants.proofs.Keeping.{Told, TellsChange, Lent, Writable, LentNow, At, Inv, Keeps, Moves, IsShielded, calm, quiet}
 use Rattle.rhai_constants.proofs.Settling.{failed, kept_by}
 use Rattle.rhai_constants.proofs.Rules.{move_keeps}
 
@@ -76,10 +77,10 @@ module _ {S H : Type 0} (rules : Rules S H) (lawful : Lawful rules.setting.host_
     kept = moved_stays (move rules.setting p.core) p (rules_at p fine s) s.kept;
   }
 
-  want_stays : (pos : Position) (p : Point S (Core H)) → Stays p →
+  run_out_stays : (pos : Position) (p : Point S (Core H)) → Stays p →
       Stays (record p { core = core (Fail (error.ErrorOutOfMemory pos)) p.core.stack p.core.local })
-  want_stays pos p s = record {
-    sealed = (runs_keep rules rules.setting.host_type lawful p _ s.sealed (wanting {at = pos} here)).sealed;
+  run_out_stays pos p s = record {
+    sealed = (runs_keep rules rules.setting.host_type lawful p _ s.sealed (out_before_step {at = pos} here)).sealed;
     kept = failed (told p.table) p.core (error.ErrorOutOfMemory pos) s.kept;
   }
 
@@ -92,15 +93,15 @@ module _ {S H : Type 0} (rules : Rules S H) (lawful : Lawful rules.setting.host_
       subst (λ (x : Move H (Core H)). Moves (told p.table) p.core x) is h in
       (answers i).answered (Faults e) first (rules.natives.pure state) may.leaves.pure_keeps
 
-  starved_stays : (p : Point S (Core H)) (q : Request H) (f : Reply H → Option (Dynamic H) → Core H) (pos : Position)
+  native_run_out_stays : (p : Point S (Core H)) (q : Request H) (f : Reply H → Option (Dynamic H) → Core H) (pos : Position)
       (is : move rules.setting p.core ≡ Native q f) (e : EvalAltResult H) (first : Option (Dynamic H)) (state : S)
       (may : MayLeave rules.setting.host_type rules.natives p.table q first state) → replaces index p.core ≡ false → Stays p →
       Stays (record p {
         core = core (Fail (error.ErrorOutOfMemory pos)) (f (Faults e) first).stack (f (Faults e) first).local;
         table = state;
       })
-  starved_stays p q f pos is e first state may fine s = record {
-    sealed = (runs_keep rules rules.setting.host_type lawful p _ s.sealed (starved {at = pos} is e first state may here)).sealed;
+  native_run_out_stays p q f pos is e first state may fine s = record {
+    sealed = (runs_keep rules rules.setting.host_type lawful p _ s.sealed (out_in_native {at = pos} is e first state may here)).sealed;
     kept = failed (told state) (f (Faults e) first) (error.ErrorOutOfMemory pos)
         (native_left (move rules.setting p.core) q f p is (rules_at p fine s) s.kept e first state may);
   }
@@ -133,36 +134,36 @@ module _ {S H : Type 0} (rules : Rules S H) (lawful : Lawful rules.setting.host_
   no_native (Back v) (DefineValue ident (Some offset) options restoring value_at ∷ k) l q f is move = cc
   no_native _ k l q f is move = cc
 
-  starved_by : (p : Point S (Core H)) (q : Request H) (f : Reply H → Option (Dynamic H) → Core H) (pos : Position) →
+  native_runs_out_by : (p : Point S (Core H)) (q : Request H) (f : Reply H → Option (Dynamic H) → Core H) (pos : Position) →
       Known (replaces index p.core) → (is : move rules.setting p.core ≡ Native q f) (e : EvalAltResult H) (first : Option (Dynamic H))
       (state : S) (may : MayLeave rules.setting.host_type rules.natives p.table q first state) → Stays p →
-      Stays (starved_at (machine rules) pos f e first state p)
-  starved_by p q f pos (holds_so is_replaced) is e first state may s =
+      Stays (out_of_memory_in_native (machine rules) pos f e first state p)
+  native_runs_out_by p q f pos (holds_so is_replaced) is e first state may s =
       absurd (no_native p.core.control p.core.stack p.core.local q f is_replaced is)
-  starved_by p q f pos (fails_so fine) is e first state may s = starved_stays p q f pos is e first state may fine s
+  native_runs_out_by p q f pos (fails_so fine) is e first state may s = native_run_out_stays p q f pos is e first state may fine s
 
   out_stays : {p since : Point S (Core H)} → OutOfMemory (machine rules) (cut rules) p since → Stays p → Stays since
-  out_stays {p} (before_step pos) s = want_stays pos p s
+  out_stays {p} (before_step pos) s = run_out_stays pos p s
   out_stays {p} (in_native {call = q} {f = f} is pos e first state may) s =
-      starved_by p q f pos (known (replaces index p.core)) is e first state may s
+      native_runs_out_by p q f pos (known (replaces index p.core)) is e first state may s
 
-  wanting_spares : (c : Core H) → IsWanting c → replaces index c ≡ false
-  wanting_spares c is = rw is.1 refl
+  run_out_spares : (c : Core H) → IsOutOfMemory c → replaces index c ≡ false
+  run_out_spares c is = rw is.1 refl
 
   -- its error only unwinds
-  unwound : {p q : Point S (Core H)} → Leads (machine rules) (cut rules) p q → IsWanting p.core → Stays p → Stays q
+  unwound : {p q : Point S (Core H)} → Leads (machine rules) (cut rules) p q → IsOutOfMemory p.core → Stays p → Stays q
   unwound here w s = s
-  unwound (next {p = p} r) w s = unwound r (wants_on (machine rules) (cut rules) IsWanting (wants rules) (next here) w)
-      (step_stays p (wanting_spares p.core w) s)
-  unwound (wanting {p = p} {at = pos} r) w s = unwound r (pos, refl) (want_stays pos p s)
-  unwound (starved {p = p} {call = q} {f = f} {at = pos} is e first state may r) w s =
-      unwound r (pos, refl) (starved_stays p q f pos is e first state may (wanting_spares p.core w) s)
+  unwound (next {p = p} r) w s = unwound r (stays_out (machine rules) (cut rules) IsOutOfMemory (memory_unwinds rules) (next here) w)
+      (step_stays p (run_out_spares p.core w) s)
+  unwound (out_before_step {p = p} {at = pos} r) w s = unwound r (pos, refl) (run_out_stays pos p s)
+  unwound (out_in_native {p = p} {call = q} {f = f} {at = pos} is e first state may r) w s =
+      unwound r (pos, refl) (native_run_out_stays p q f pos is e first state may (run_out_spares p.core w) s)
 
   -- ---- a run
 
-  out_by : {p q : Point S (Core H)} (out : RunsOut (machine rules) (cut rules) IsWanting p q) → Ends p out.before →
+  out_by : {p q : Point S (Core H)} (out : RunsOut (machine rules) (cut rules) IsOutOfMemory p q) → Ends p out.before →
       Stays q ⊎ IsReplaced rules index p out.before
-  out_by out (inl s) = inl (unwound out.unwinds out.wants (out_stays out.runs_out s))
+  out_by out (inl s) = inl (unwound out.unwinds out.is_out (out_stays out.runs_out s))
   out_by out (inr e) = inr e
 
   run_stays : {p q : Point S (Core H)} (run : UpToMemory rules p q) → Stays p → Stays q ⊎ IsReplaced rules index p (own_end rules run)
@@ -185,13 +186,13 @@ module _ {S H : Type 0} (rules : Rules S H) (lawful : Lawful rules.setting.host_
   fired_start (Some FromThis) call l state h = tt
   fired_start (Some FromFocus) call l state h = tt
 
-  marks_start : (marks : Bool) (call : Call H) → Marks marks (⊤ ⊎ IsShielded call)
-  marks_start true call = inl tt
-  marks_start false call = tt
+  tells_start : (marks : Bool) (call : Call H) → TellsChange marks (⊤ ⊎ IsShielded call)
+  tells_start true call = inl tt
+  tells_start false call = tt
 
-  marked_start : (marks : Bool) → Marks marks ⊤
-  marked_start true = tt
-  marked_start false = tt
+  told_start : (marks : Bool) → TellsChange marks ⊤
+  told_start true = tt
+  told_start false = tt
 
   place_start : (place : Place) (state : S) → IsOther index place → Writable (told state).of place []
   place_start (InEntry n) state h = λ b. h
@@ -200,9 +201,9 @@ module _ {S H : Type 0} (rules : Rules S H) (lawful : Lawful rules.setting.host_
   place_start InFocus state h = tt
 
   control_start : (c : Control H) (l : Local H) (state : S) → Spares index c → At (told state) c [] l
-  control_start (Ask call) l state h = (lent_start call.lender call.guarded call.args state h, marks_start call.marks call)
-  control_start (Question call) l state h = (lent_start call.lender call.guarded call.args state h, marks_start call.marks call)
-  control_start (Fire call) l state h = (fired_start call.lender call l state h, marked_start call.marks)
+  control_start (Ask call) l state h = (lent_start call.lender call.guarded call.args state h, tells_start call.marks call)
+  control_start (Question call) l state h = (lent_start call.lender call.guarded call.args state h, tells_start call.marks call)
+  control_start (Fire call) l state h = (fired_start call.lender call l state h, told_start call.marks)
   control_start (AskUpdate u) l state h = place_start u.place state h
   control_start (QuestionUpdate u) l state h = place_start u.place state h
   control_start (FireUpdate u) l state h = place_start u.place state h

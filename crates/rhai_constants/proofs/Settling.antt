@@ -2,7 +2,8 @@
 use Rattle.std.proofs.Common.{refl, ap, ◌∙◌, arith, zero, suc}
 use Rattle.std.proofs.lemmas.Bool.Decides.{nat_tests}
 use Rattle.std.specs.Option.{option_map, unwrap_or}
-use Rattle.std.specs.Prelude.{◌≡◌, ◌<◌, ◌+◌, ℕ, Bool, true, false, ◌&&◌, List, [], ◌∷◌, ◌++◌, nat_eq, length, take, drop, Option, Some, None}
+use Rattle.std.specs.Prelude.{◌≡◌, ◌<◌, ◌+◌, ℕ, Bool, true, false, ◌&&◌, List, [], ◌∷◌, ◌++◌, nat_eq, length, take, drop, Option, Some}
+use Rattle.std.specs.Prelude.{None}
 use Rattle.std.specs.Prelude.{Result, Ok, Err, slice_get, slice_set, if◌then◌else◌}
 use Rattle.rhai_tree.specs.declared.expr.Stmt.{Stmt}
 use Rattle.rhai_values.specs.declared.base.value.Dynamic.{Dynamic}
@@ -16,10 +17,12 @@ use Rattle.rhai_places.specs.Paths.{Step, ToPlace, ToCell}
 use Rattle.rhai_machine.specs.language.State.{Local, deeper}
 use Rattle.rhai_machine.specs.language.Values.{unit_value}
 use Rattle.rhai_machine.specs.language.Places.{Place, InEntry, InCell, InThis, InFocus, put, rebound}
-use Rattle.rhai_machine.specs.language.Activations.{Object, NoObject, OwnThis, TheFocus, Entered, Variables, Caller, UpTo, Without, CallExit}
-use Rattle.rhai_machine.specs.language.Bodies.{back_by, focus_back, this_by, variables_after, variables_back, variables_before, exit_of}
+use Rattle.rhai_machine.specs.language.Activations.{ThisFrom, NoThis, OwnThis, TheFocus, Entered, Variables, Caller, UpTo, Without}
+use Rattle.rhai_machine.specs.language.Activations.{CallExit}
+use Rattle.rhai_machine.specs.language.Bodies.{this_back, focus_back, this_by, variables_after, variables_back, variables_before, exit_of}
 use Rattle.rhai_machine.specs.language.Bodies.{entered_local, called_back}
-use Rattle.rhai_machine.specs.language.Frames.{Lender, FromEntry, FromThis, FromFocus, Control, Frame, Core, core, ended, EnterFunction, Enter}
+use Rattle.rhai_machine.specs.language.Frames.{Lender, FromEntry, FromThis, FromFocus, Control, Frame, Core, core, ended, EnterFunction}
+use Rattle.rhai_machine.specs.language.Frames.{Enter}
 use Rattle.rhai_machine.specs.language.Frames.{Fail, PartAssigned, ChainEnd, StepDown, CallEnd, RestoreList, RestoreScope}
 use Rattle.rhai_machine.specs.language.Statements.{saved_by}
 use Rattle.rhai_machine.specs.language.Unwinding.{restored}
@@ -134,7 +137,7 @@ module _ {H : Type 0} (a : Told H) where
   lower (Fail e) k h = h
   lower _ k h = weaker k h
 
-  -- an error in the place of a control
+  -- an error instead of a control
   pub failed : (c : Core H) (e : EvalAltResult H) → Inv a c → Inv a (core (Fail e) c.stack c.local)
   failed c e h = (tt, (lower c.control c.stack h.1.0, h.1.1))
 
@@ -209,21 +212,22 @@ module _ {H : Type 0} (a : Told H) where
   -- ---- calls
 
   scope_back : (variables : Variables H) (k : List (Frame H)) (scope : List (ScopeEntry H)) → GivesBack a.of variables k →
-      (is_callers variables && is_bottom k ≡ true → StandsIn a.of scope) → is_bottom k ≡ true → StandsIn a.of (variables_back variables scope)
+      (is_callers variables && is_bottom k ≡ true → StandsIn a.of scope) → is_bottom k ≡ true →
+      StandsIn a.of (variables_back variables scope)
   scope_back (Caller before) k scope g s b = g b
   scope_back (UpTo n) k scope g s b = value_taken scope n a.of.index (g b) ∙ s b
   scope_back (Without n slots) k scope g s b =
       value_more (take n scope) (drop (n + slots) scope) a.of.index a.of.value (value_taken scope n a.of.index (g b) ∙ s b)
 
-  focus_given : (object : Object) (d : Due H) (before this : Option (Dynamic H)) → IsDue d.focus before → IsDue (due_this object d) this →
+  focus_given : (object : ThisFrom) (d : Due H) (before this : Option (Dynamic H)) → IsDue d.focus before → IsDue (due_this object d) this →
       IsDue d.focus (focus_back object before this)
-  focus_given NoObject d before this b t = b
+  focus_given NoThis d before this b t = b
   focus_given OwnThis d before this b t = b
   focus_given TheFocus d before this b t = t
 
-  this_given : (object : Object) (d : Due H) (before this : Option (Dynamic H)) → IsDue d.this before → IsDue (due_this object d) this →
-      IsDue d.this (back_by object before this)
-  this_given NoObject d before this b t = b
+  this_given : (object : ThisFrom) (d : Due H) (before this : Option (Dynamic H)) → IsDue d.this before → IsDue (due_this object d) this →
+      IsDue d.this (this_back object before this)
+  this_given NoThis d before this b t = b
   this_given OwnThis d before this b t = t
   this_given TheFocus d before this b t = b
 
@@ -252,9 +256,9 @@ module _ {H : Type 0} (a : Told H) where
   entered_scope false true scope more n k s b = value_more scope more a.of.index a.of.value (s b)
   entered_scope false false scope more n k s b = value_more scope more a.of.index a.of.value (s b)
 
-  this_entered : (object : Object) (d : Due H) (l : Local H) → IsDue d.focus l.focus → IsDue d.this l.this →
+  this_entered : (object : ThisFrom) (d : Due H) (l : Local H) → IsDue d.focus l.focus → IsDue d.this l.this →
       IsDue (due_this object d) (this_by object l)
-  this_entered NoObject d l f t = tt
+  this_entered NoThis d l f t = tt
   this_entered OwnThis d l f t = t
   this_entered TheFocus d l f t = f
 
@@ -294,6 +298,6 @@ module _ {H : Type 0} (a : Told H) where
       Settled a.of k (record l { scope = l.scope ++ entries })
   newer entries k l s = (λ b. value_more l.scope entries a.of.index a.of.value (s.0 b), s.1)
 
-  pub newer_held : (entries : List (ScopeEntry H)) (k : List (Frame H)) (l : Local H) → Below k l →
+  pub newer_below : (entries : List (ScopeEntry H)) (k : List (Frame H)) (l : Local H) → Below k l →
       Below (RestoreScope (length l.scope) ∷ k) (record l { scope = l.scope ++ entries })
-  newer_held entries k l h = ((longer k l h.1, h.0), newer entries k l h.1)
+  newer_below entries k l h = ((longer k l h.1, h.0), newer entries k l h.1)

@@ -14,11 +14,12 @@ use Rattle.rhai_machine.specs.language.Frames.{Lender, FromEntry, Control, Core,
 use Rattle.rhai_machine.specs.language.Frames.{FireUpdate, ForTurn, ForItem, Share, ChainArguments, ChainRoot, ReadRoot, Walk, Locate}
 use Rattle.rhai_machine.specs.language.Frames.{Back, DefineValue, CallEnd}
 
--- a place that is no entry or another one, and a lender that lends none or another one
+-- a place that is no entry of the scope, or another entry than this
 abbrev pub IsOther : (index : ℕ) → Place → Type 0
 IsOther index (InEntry at) = index ≡ at → ⊥
 IsOther index _ = ⊤
 
+-- a lender that lends no entry of the scope, or another one than this
 abbrev pub LendsOther : (index : ℕ) → Option Lender → Type 0
 LendsOther index (Some (FromEntry at)) = index ≡ at → ⊥
 LendsOther index _ = ⊤
@@ -65,6 +66,7 @@ module _ {H : Type 0} where
       is_bottom k && overwrites index (index_of ident.name l.scope) (flat l.around.cells v value_at)
   replaces_at index _ k l = false
 
+  -- the next step of a core shares the entry at a place, or a `let` with an index writes it
   abbrev pub replaces : (index : ℕ) → Core H → Bool
   replaces index c = replaces_at index c.control c.stack c.local
 

@@ -1,4 +1,4 @@
--- What every run leaves of a constant among the variables, want of memory included.
+-- What every run leaves of a constant among the variables, also where memory runs out.
 use Rattle.std.proofs.Common.{inl, inr}
 use Rattle.std.specs.Prelude.{◌≡◌, ◌⊎◌, ℕ, true, List, [], Some}
 use Rattle.rhai_values.specs.declared.base.value.AccessMode.TheVariants.{ReadOnly}
@@ -25,6 +25,7 @@ pub record ReadOnlyThroughout {H : Type 0} (v : Dynamic H) : Type 0 where
   pub mode : v.mode ≡ ReadOnly
   pub inside : (at : Spot) (u : Dynamic H) → value_at v at ≡ Some u → IsConstant u
 
+-- a constant is read-only throughout
 abbrev pub ConstantIsReadOnly : Type 0 → Type 0
 ConstantIsReadOnly H = (v : Dynamic H) → IsConstant v → ReadOnlyThroughout v
 

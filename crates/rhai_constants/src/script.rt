@@ -9,19 +9,19 @@ use rhai_state::table::NativeTable;
 use rhai_values::base::value::Host;
 use std::marker::PhantomData;
 
-/// What a `const` declares is read-only throughout.
+/// Shows that what a `const` declares is read-only throughout.
 pub fn const_is_constant<H: Host>(of: PhantomData<H>)
     ensures { ConstIsConstant H }
 {}
 
-/// What is read-only throughout is so itself, and each value in it is read-only throughout.
+/// Shows that what is read-only throughout is so itself, and each value in it is read-only throughout.
 pub fn constant_is_read_only<H: Host>(of: PhantomData<H>)
     ensures { ConstantIsReadOnly H }
 {}
 
-/// A variable that is read-only throughout when a run starts has the same value when it ends, unless one
-/// of the steps that the machine took by itself on that run shared the entry, or wrote it by a `let` with
-/// an index.
+/// Shows that a variable that is read-only throughout when a run starts has the same value when it ends.
+/// Excepted is a run of which a step that the machine took by itself shared the entry, or wrote it by a `let`
+/// with an index.
 pub fn script_constants_stay<H: Host, T: NativeTable<H>>(of: PhantomData<(H, T)>)
     ensures { (limits : Limits) (offer : Offer H) →
         ConstantsStay (rules_of limits H.name_of offer T.natives) }

@@ -6,16 +6,16 @@ use Rattle.rhai_state.specs.Native.{Lawful}
 use Rattle.rhai_machine.specs.language.Setting.{Rules}
 use Rattle.rhai_machine.specs.language.State.{State}
 use Rattle.rhai_machine.specs.language.Calls.{dispatch_core}
-use Rattle.rhai_machine.specs.language.Frames.{Operation, Call, Dispatch, marked}
+use Rattle.rhai_machine.specs.language.Frames.{Operation, Call, Dispatch, ended_or_changed}
 use Rattle.rhai_fits.specs.Contents.{Contents, Both, of_maybe, of_values}
 use Rattle.rhai_fits.specs.Sealed.{AreSealed, Sealed}
 use Rattle.rhai_fits.proofs.Calls.{dispatch_good}
 use Rattle.rhai_constants.proofs.Calls.{dispatch_keeps}
 use Rattle.rhai_constants.proofs.Runs.{told}
-use Rattle.rhai_eval.specs.Ends.{EndsMarked}
+use Rattle.rhai_eval.specs.Ends.{EndsChanged}
 use Rattle.rhai_eval.specs.Places.{by_value, on_place}
 use Rattle.rhai_fits_eval.proofs.Ends.{given_fits, offer_fits, nothing_below, sealed_core}
-use Rattle.rhai_constants_eval.specs.Staying.{StaysMarked}
+use Rattle.rhai_constants_eval.specs.Staying.{StaysChanged}
 use Rattle.rhai_constants_eval.proofs.Staying.{stays_by}
 
 module _ {S H : Type 0} (rules : Rules S H) (lawful : Lawful rules.setting.host_type rules.natives) (old new : State S H)
@@ -32,20 +32,20 @@ module _ {S H : Type 0} (rules : Rules S H) (lawful : Lawful rules.setting.host_
   module _ (operation : Operation) (v : Dynamic H) (rest : List (Dynamic H)) (r : Result (Dynamic H × Bool) (EvalAltResult H)) where
     -- on a value in a place
     pub lent_stays : (how : Dispatch) →
-        EndsMarked rules (dispatch_core rules.setting how (on_place operation true (Some v) rest)) old r new →
-        StaysMarked rules (dispatch_core rules.setting how (on_place operation true (Some v) rest)) old r new
+        EndsChanged rules (dispatch_core rules.setting how (on_place operation true (Some v) rest)) old r new →
+        StaysChanged rules (dispatch_core rules.setting how (on_place operation true (Some v) rest)) old r new
     lent_stays how ends =
         let call : Call H = on_place operation true (Some v) rest in
-        stays_by rules lawful old new (dispatch_core rules.setting how call) (marked r) (dispatch_sealed how call)
+        stays_by rules lawful old new (dispatch_core rules.setting how call) (ended_or_changed r) (dispatch_sealed how call)
         (λ index w constant. dispatch_keeps (told rules lawful index w constant old.table) rules.setting how call [] old.local
         (tt, inl tt)) (ends.up_to [])
 
     -- on values alone
     pub by_value_stays : (how : Dispatch) →
-        EndsMarked rules (dispatch_core rules.setting how (by_value operation (Some v) rest)) old r new →
-        StaysMarked rules (dispatch_core rules.setting how (by_value operation (Some v) rest)) old r new
+        EndsChanged rules (dispatch_core rules.setting how (by_value operation (Some v) rest)) old r new →
+        StaysChanged rules (dispatch_core rules.setting how (by_value operation (Some v) rest)) old r new
     by_value_stays how ends =
         let call : Call H = by_value operation (Some v) rest in
-        stays_by rules lawful old new (dispatch_core rules.setting how call) (marked r) (dispatch_sealed how call)
+        stays_by rules lawful old new (dispatch_core rules.setting how call) (ended_or_changed r) (dispatch_sealed how call)
         (λ index w constant. dispatch_keeps (told rules lawful index w constant old.table) rules.setting how call [] old.local
         (tt, inl tt)) (ends.up_to [])

@@ -1,11 +1,11 @@
--- What a public call leaves of the constants among its caller's variables, want of memory included.
+-- What a public call leaves of the constants among its caller's variables, also where memory runs out.
 use Rattle.std.specs.Prelude.{◌⊎◌, ℕ, Bool, false, List, [], ◌∷◌, Result}
 use Rattle.rhai_tree.specs.declared.expr.Stmt.{Stmt}
 use Rattle.rhai_values.specs.declared.base.value.Dynamic.{Dynamic}
 use Rattle.rhai_state.specs.declared.error.EvalAltResult.{EvalAltResult}
 use Rattle.rhai_machine.specs.language.Setting.{Rules}
 use Rattle.rhai_machine.specs.language.State.{Local, State}
-use Rattle.rhai_machine.specs.language.Frames.{Control, Frame, Core, core, ended, marked, Enter, Top}
+use Rattle.rhai_machine.specs.language.Frames.{Control, Frame, Core, core, ended, ended_or_changed, Enter, Top}
 use Rattle.rhai_machine.specs.language.Memory.{UpToMemory}
 use Rattle.rhai_machine.specs.language.Runs.{at, with_core}
 use Rattle.rhai_constants.specs.Constants.{IsConstant, HasEntry}
@@ -32,7 +32,7 @@ module _ {S H : Type 0} (rules : Rules S H) where
   abbrev pub StaysAs : Control H → State S H → Result (Dynamic H) (EvalAltResult H) → State S H → Type 0
   StaysAs c old result new = StaysFrom (λ k l. core c k l) old result new
 
-  -- from where a call begins to its error, or its value with the mark whether the first argument may have changed
-  abbrev pub StaysMarked : (begins : List (Frame H) → Local H → Core H) → State S H → Result (Dynamic H × Bool) (EvalAltResult H) →
+  -- from where a call begins to its error, or its value with whether the first argument may have changed
+  abbrev pub StaysChanged : (begins : List (Frame H) → Local H → Core H) → State S H → Result (Dynamic H × Bool) (EvalAltResult H) →
       State S H → Type 0
-  StaysMarked begins old result new = Stays begins old (marked result) new
+  StaysChanged begins old result new = Stays begins old (ended_or_changed result) new

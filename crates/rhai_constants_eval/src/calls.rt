@@ -8,7 +8,7 @@ ghost use Rattle.rhai_fits.specs.Sealed.{AreSealed};
 ghost use Rattle.rhai_steps.specs.States.{state_of};
 ghost use Rattle.rhai_eval.specs.Places.{by_name, by_value, on_place, with_place};
 ghost use Rattle.rhai_eval.specs.States.{under};
-ghost use Rattle.rhai_constants_eval.specs.Staying.{StaysMarked};
+ghost use Rattle.rhai_constants_eval.specs.Staying.{StaysChanged};
 
 use rhai_eval::engine::Engine;
 use rhai_state::caches::Caches;
@@ -21,8 +21,8 @@ use rhai_tree::token::Token;
 use rhai_values::base::value::{Dynamic, Host};
 use std::alloc::Global;
 
-/// Of `Engine::exec_fn_call` on a first argument that is lent: one in a place of the caller, or the object of
-/// a method.
+/// Shows that constants stay through `Engine::exec_fn_call`, unless its run replaces them. Its first argument
+/// is lent: one in a place of the caller, or that of a method.
 pub fn exec_fn_call<H: Host, T: NativeTable<H>>(
     engine: &Engine<H>,
     alloc: Global,
@@ -40,7 +40,7 @@ pub fn exec_fn_call<H: Host, T: NativeTable<H>>(
 ) -> Result<(Dynamic<H>, bool), EvalAltResult<H>>
     requires lent { (is_ref_mut || is_method_call) ≡ true }
     requires sealed { AreSealed (cells_of global.old.cells) }
-    ensures stays { (this : _) → let rules = under H.name_of engine.now T.natives in StaysMarked rules
+    ensures stays { (this : _) → let rules = under H.name_of engine.now T.natives in StaysChanged rules
         (dispatch_core rules.setting (by_name is_method_call true) (on_place
         (record { name = name.now; token = option_copied op_token.entry; at = position }) true
         (Some first.old) rest.old))
@@ -63,7 +63,8 @@ pub fn exec_fn_call<H: Host, T: NativeTable<H>>(
     )
 }
 
-/// Of `Engine::exec_fn_call` on a first argument that is handed in by value.
+/// Shows that constants stay through `Engine::exec_fn_call`, unless its run replaces them. Its first argument
+/// is handed in by value.
 pub fn exec_fn_call_by_value<H: Host, T: NativeTable<H>>(
     engine: &Engine<H>,
     alloc: Global,
@@ -78,7 +79,7 @@ pub fn exec_fn_call_by_value<H: Host, T: NativeTable<H>>(
     position: Position,
 ) -> Result<(Dynamic<H>, bool), EvalAltResult<H>>
     requires sealed { AreSealed (cells_of global.old.cells) }
-    ensures stays { (held : _) → let rules = under H.name_of engine.now T.natives in StaysMarked rules
+    ensures stays { (held : _) → let rules = under H.name_of engine.now T.natives in StaysChanged rules
         (dispatch_core rules.setting (by_name false true) (by_value
         (record { name = name.now; token = option_copied op_token.entry; at = position })
         (Some first.old) rest.old))

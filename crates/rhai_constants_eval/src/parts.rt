@@ -11,11 +11,11 @@ ghost use Rattle.rhai_values.specs.Cells.{cells_of};
 ghost use Rattle.rhai_machine.specs.language.Frames.{Argument, Enter, Eval, Exec, OpenExpr};
 ghost use Rattle.rhai_machine.specs.language.Links.{first_in};
 ghost use Rattle.rhai_fits.specs.Sealed.{AreSealed};
-ghost use Rattle.rhai_pointers.specs.Leading.{all_args};
+ghost use Rattle.rhai_call_forms.specs.Leading.{all_args};
 ghost use Rattle.rhai_steps.specs.Agreement.{AgreesAt, passes};
 ghost use Rattle.rhai_steps.specs.States.{holding, state_of};
-ghost use Rattle.rhai_cycle.specs.Calls.{called, in_parts};
-ghost use Rattle.rhai_eval.specs.Calls.{value_with};
+ghost use Rattle.rhai_eval_core.specs.Calls.{called, in_parts};
+ghost use Rattle.rhai_eval.specs.ArgumentValues.{value_with};
 ghost use Rattle.rhai_eval.specs.Chains.{assigned_in, whole_chain, AssignsNoHandle, chain_resolves};
 ghost use Rattle.rhai_eval.specs.States.{under};
 ghost use Rattle.rhai_constants_eval.specs.Staying.{StaysAs, StaysFrom};
@@ -32,7 +32,7 @@ use rhai_tree::token::Token;
 use rhai_values::base::value::{Dynamic, Host};
 use std::alloc::Global;
 
-/// Of `Engine::eval_expr`.
+/// Shows that constants stay through `Engine::eval_expr`, unless its run replaces them.
 pub fn eval_expr<H: Host, T: NativeTable<H>>(
     engine: &Engine<H>,
     alloc: Global,
@@ -52,7 +52,7 @@ pub fn eval_expr<H: Host, T: NativeTable<H>>(
     engine.eval_expr(alloc, global, caches, table, scope, Some(this), expr)
 }
 
-/// Of `Engine::eval_stmt`.
+/// Shows that constants stay through `Engine::eval_stmt`, unless its run replaces them.
 pub fn eval_stmt<H: Host, T: NativeTable<H>>(
     engine: &Engine<H>,
     alloc: Global,
@@ -82,7 +82,7 @@ pub fn eval_stmt<H: Host, T: NativeTable<H>>(
     )
 }
 
-/// Of `Engine::eval_stmt_block`.
+/// Shows that constants stay through `Engine::eval_stmt_block`, unless its run replaces them.
 pub fn eval_stmt_block<H: Host, T: NativeTable<H>>(
     engine: &Engine<H>,
     alloc: Global,
@@ -114,7 +114,7 @@ pub fn eval_stmt_block<H: Host, T: NativeTable<H>>(
     )
 }
 
-/// Of `Engine::eval_fn_call_expr`.
+/// Shows that constants stay through `Engine::eval_fn_call_expr`, unless its run replaces them.
 pub fn eval_fn_call_expr<H: Host, T: NativeTable<H>>(
     engine: &Engine<H>,
     alloc: Global,
@@ -136,7 +136,7 @@ pub fn eval_fn_call_expr<H: Host, T: NativeTable<H>>(
     engine.eval_fn_call_expr(alloc, global, caches, table, scope, Some(this), expr, pos)
 }
 
-/// Of `Engine::get_arg_value`.
+/// Shows that constants stay through `Engine::get_arg_value`, unless its run replaces them.
 pub fn get_arg_value<H: Host, T: NativeTable<H>>(
     engine: &Engine<H>,
     alloc: Global,
@@ -157,7 +157,7 @@ pub fn get_arg_value<H: Host, T: NativeTable<H>>(
     engine.get_arg_value(alloc, global, caches, table, scope, Some(this), arg_expr)
 }
 
-/// Of `Engine::make_function_call`.
+/// Shows that constants stay through `Engine::make_function_call`, unless its run replaces them.
 pub fn make_function_call<H: Host, T: NativeTable<H>>(
     engine: &Engine<H>,
     alloc: Global,
@@ -198,7 +198,7 @@ pub fn make_function_call<H: Host, T: NativeTable<H>>(
     )
 }
 
-/// Of `Engine::make_qualified_function_call`.
+/// Shows that constants stay through `Engine::make_qualified_function_call`, unless its run replaces them.
 pub fn make_qualified_function_call<H: Host, T: NativeTable<H>>(
     engine: &Engine<H>,
     alloc: Global,
@@ -234,7 +234,8 @@ pub fn make_qualified_function_call<H: Host, T: NativeTable<H>>(
     )
 }
 
-/// Of `Engine::eval_dot_index_chain`, with a value to assign or without.
+/// Shows that constants stay through `Engine::eval_dot_index_chain`, unless its run replaces them. It has a
+/// value to assign, or none.
 pub fn eval_dot_index_chain<H: Host, T: NativeTable<H>>(
     engine: &Engine<H>,
     alloc: Global,

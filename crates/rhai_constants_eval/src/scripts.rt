@@ -7,7 +7,7 @@ ghost use Rattle.rhai_machine.specs.language.Activations.{OwnThis};
 ghost use Rattle.rhai_machine.specs.language.Frames.{EnterFunction};
 ghost use Rattle.rhai_fits.specs.Sealed.{AreSealed};
 ghost use Rattle.rhai_steps.specs.States.{holding, state_of};
-ghost use Rattle.rhai_cycle.specs.Bodies.{entered};
+ghost use Rattle.rhai_eval_core.specs.Bodies.{entered};
 ghost use Rattle.rhai_eval.specs.States.{under};
 ghost use Rattle.rhai_constants_eval.specs.Staying.{script, StaysAs, StaysFrom};
 
@@ -22,7 +22,7 @@ use rhai_tree::position::Position;
 use rhai_values::base::value::{Dynamic, EncapsulatedEnviron, Host};
 use std::alloc::Global;
 
-/// Of `Engine::eval_global_statements`.
+/// Shows that constants stay through `Engine::eval_global_statements`, unless its run replaces them.
 pub fn eval_global_statements<H: Host, T: NativeTable<H>>(
     engine: &Engine<H>,
     alloc: Global,
@@ -50,7 +50,7 @@ pub fn eval_global_statements<H: Host, T: NativeTable<H>>(
     )
 }
 
-/// Of `Engine::call_script_fn` on a `this`.
+/// Shows that constants stay through `Engine::call_script_fn` on a `this`, unless its run replaces them.
 pub fn call_script_fn<H: Host, T: NativeTable<H>>(
     engine: &Engine<H>,
     alloc: Global,

@@ -8,6 +8,7 @@ use Rattle.rhai_state.specs.declared.error.EvalAltResult.{EvalAltResult}
 use Rattle.rhai_state.specs.declared.error.EvalAltResult.TheVariants as error
 
 module _ {H : Type 0} where
+  -- `()`, which may be changed
   abbrev pub unit : Dynamic H
   unit = plain value.Unit
 
@@ -16,33 +17,33 @@ module _ {H : Type 0} where
   error_in (Some e) = e
   error_in None = error.ErrorOutOfMemory none
 
-  -- where it went well what it made, and else its error
+  -- how a part ended: where it went well what it made, and else its error
   abbrev pub came : {V : Type 0} → (well : Bool) → V → Option (EvalAltResult H) → Result V (EvalAltResult H)
   came true v e = Ok v
   came false v e = Err (error_in e)
 
-  -- of a test: what it says, or its error
+  -- how a test ended: what it says, or its error
   abbrev pub came_test : (holds : Option Bool) → Option (EvalAltResult H) → Result Bool (EvalAltResult H)
   came_test (Some holds) e = Ok holds
   came_test None e = Err (error_in e)
 
-  -- of a turn of a loop: another one follows, or the loop came to this
+  -- how a turn of a loop ended: another one follows, or the loop came to this
   abbrev pub came_turn : (well : Option Bool) → Dynamic H → Option (EvalAltResult H) → Result (Option (Dynamic H)) (EvalAltResult H)
   came_turn None v e = Ok None
   came_turn (Some true) v e = Ok (Some v)
   came_turn (Some false) v e = Err (error_in e)
 
-  -- of what may have changed what it worked on: its value with the mark, or its error
-  abbrev pub came_marked : (mark : Option Bool) → Dynamic H → Option (EvalAltResult H) → Result (Dynamic H × Bool) (EvalAltResult H)
-  came_marked (Some changed) v e = Ok (v, changed)
-  came_marked None v e = Err (error_in e)
+  -- how a part ended that may have changed the focus: its value with whether it has, or its error
+  abbrev pub came_changed : (mark : Option Bool) → Dynamic H → Option (EvalAltResult H) → Result (Dynamic H × Bool) (EvalAltResult H)
+  came_changed (Some changed) v e = Ok (v, changed)
+  came_changed None v e = Err (error_in e)
 
-  -- of what hands something out: that, or its error
+  -- how a part ended that hands something out: that, or its error
   abbrev pub came_some : {V : Type 0} → Option V → Option (EvalAltResult H) → Result V (EvalAltResult H)
   came_some (Some x) e = Ok x
   came_some None e = Err (error_in e)
 
--- the mark of what changes nothing that a mark would tell of
+-- the answer of a part that does not count as changing the focus, by whether it went well
 abbrev pub unchanged : (well : Bool) → Option Bool
 unchanged true = Some false
 unchanged false = None

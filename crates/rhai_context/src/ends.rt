@@ -1,12 +1,12 @@
 //! What a part of a run came to, which stands in the run. A function of the evaluator answers whether it went
-//! well: its value stands in `run.value` then, and else its error in `run.error`. A part of a chain's walk answers
-//! in Some whether it may have changed what it worked on, and None where it failed.
+//! well: its value stands in `run.value` then, and else its error in `run.error`. A part of a chain's walk
+//! answers in Some whether it may have changed the focus, and None where it failed.
 
 ghost use Rattle.std.specs.Prelude.{◌≡◌, ◌<◌, IsTrue, OnOk, None, false, length, slice_get, true};
 ghost use Rattle.rhai_state.specs.Scope.{entries_of, revalued};
 ghost use Rattle.rhai_state.specs.Errors.{is_catchable};
 ghost use Rattle.rhai_machine.specs.language.Values.{bool_value as truth_of};
-ghost use Rattle.rhai_context.specs.Ends.{came, came_marked, came_turn, error_in, unchanged as unchanged_by, unit};
+ghost use Rattle.rhai_context.specs.Ends.{came, came_changed, came_turn, error_in, unchanged as unchanged_by, unit};
 
 use rhai_state::error::EvalAltResult;
 use rhai_state::scope::Scope;
@@ -14,14 +14,14 @@ use rhai_tree::position::Position;
 use rhai_values::base::value::{AccessMode, Dynamic, Host, Union};
 use std::mem::replace;
 
-/// A value goes into its place.
+/// Puts a value into its place.
 pub fn put<H: Host>(out: &mut Dynamic<H>, value: Dynamic<H>)
     ensures { out.new ≡ value }
 {
     drop(replace(out, value));
 }
 
-/// Whether a value is `()` that may be changed.
+/// Tells whether a value is `()` that may be changed.
 #[inline(always)]
 fn is_unit<H>(value: &Dynamic<H>) -> bool
     ensures { IsTrue result → value.now ≡ unit }
@@ -32,7 +32,7 @@ fn is_unit<H>(value: &Dynamic<H>) -> bool
     }
 }
 
-/// `()` goes into the place of a value, where most often it is already.
+/// Puts `()` into the place of a value, where most often it is already.
 pub fn put_unit<H: Host>(out: &mut Dynamic<H>)
     ensures { out.new ≡ unit }
 {
@@ -42,7 +42,7 @@ pub fn put_unit<H: Host>(out: &mut Dynamic<H>)
     put(out, Dynamic::new(Union::Unit));
 }
 
-/// A part came to `()`, which goes into the place of a value.
+/// Puts `()` into the place of a value, which a part came to, and answers that the part went well.
 #[inline(never)]
 pub fn leave_unit<H: Host>(out: &mut Dynamic<H>) -> bool
     ensures done { result ≡ true }
@@ -52,7 +52,7 @@ pub fn leave_unit<H: Host>(out: &mut Dynamic<H>) -> bool
     true
 }
 
-/// A value goes into the place of another one, where most often both are integers.
+/// Puts a value into the place of another one, where most often both are integers.
 #[inline(always)]
 pub fn put_number<H: Host>(out: &mut Dynamic<H>, value: Dynamic<H>)
     ensures { out.new ≡ value }
@@ -67,7 +67,7 @@ pub fn put_number<H: Host>(out: &mut Dynamic<H>, value: Dynamic<H>)
     put_other(out, value);
 }
 
-/// A value is written to the entry at a place, where most often both are integers.
+/// Writes a value to the entry at an index, where most often both are integers.
 #[inline(always)]
 pub fn write_number<H: Host>(scope: &mut Scope<H>, index: usize, value: Dynamic<H>)
     requires { index < length (entries_of scope.old) }
@@ -77,7 +77,7 @@ pub fn write_number<H: Host>(scope: &mut Scope<H>, index: usize, value: Dynamic<
     put_number(scope.value_at_mut(index), value);
 }
 
-/// A value goes into the place of another one.
+/// Puts a value into the place of another one.
 #[inline(never)]
 fn put_other<H: Host>(out: &mut Dynamic<H>, value: Dynamic<H>)
     ensures { out.new ≡ value }
@@ -85,7 +85,7 @@ fn put_other<H: Host>(out: &mut Dynamic<H>, value: Dynamic<H>)
     put(out, value);
 }
 
-/// A truth value goes into the place of a value.
+/// Puts a truth value into the place of a value.
 #[inline(never)]
 pub fn put_truth<H: Host>(out: &mut Dynamic<H>, holds: bool)
     ensures { out.new ≡ truth_of holds }
@@ -101,7 +101,7 @@ pub fn take_value<H: Host>(out: &mut Dynamic<H>) -> Dynamic<H>
     replace(out, Dynamic::new(Union::Unit))
 }
 
-/// A run stops by an error.
+/// Stops a run by an error.
 pub fn stop<H: Host>(place: &mut Option<EvalAltResult<H>>, error: EvalAltResult<H>) -> bool
     ensures stopped { result ≡ false }
     ensures told { error_in place.new ≡ error }
@@ -120,7 +120,7 @@ pub fn stopped<H: Host>(place: &mut Option<EvalAltResult<H>>) -> EvalAltResult<H
     }
 }
 
-/// How a part ended, for a caller that answers a `Result`.
+/// Turns how a part ended into a `Result`, for a caller that answers one.
 pub fn finish<H: Host>(
     done: bool,
     out: &mut Dynamic<H>,
@@ -136,7 +136,7 @@ pub fn finish<H: Host>(
     }
 }
 
-/// How a turn of a loop ended goes where it belongs: None where another one follows.
+/// Puts how a turn of a loop ended where it belongs: None where another one follows.
 pub fn settle_turn<H: Host>(
     place: &mut Option<EvalAltResult<H>>,
     out: &mut Dynamic<H>,
@@ -154,7 +154,7 @@ pub fn settle_turn<H: Host>(
     }
 }
 
-/// How a part that answers a `Result` ended goes where it belongs.
+/// Puts the `Result` that a part ended with where it belongs.
 pub fn settle<H: Host>(
     place: &mut Option<EvalAltResult<H>>,
     out: &mut Dynamic<H>,
@@ -171,7 +171,7 @@ pub fn settle<H: Host>(
     }
 }
 
-/// A part that answers with a mark stops by an error.
+/// Stops a run by an error, for a part that answers whether it changed the focus.
 pub fn fail<H: Host>(place: &mut Option<EvalAltResult<H>>, error: EvalAltResult<H>) -> Option<bool>
     ensures failed { result ≡ None }
     ensures told { error_in place.new ≡ error }
@@ -180,13 +180,13 @@ pub fn fail<H: Host>(place: &mut Option<EvalAltResult<H>>, error: EvalAltResult<
     None
 }
 
-/// How a part ended that answers a `Result` with a mark goes where it belongs.
-pub fn settle_marked<H: Host>(
+/// Puts the `Result` of a part where it belongs, and answers whether the part changed the focus.
+pub fn settle_changed<H: Host>(
     place: &mut Option<EvalAltResult<H>>,
     out: &mut Dynamic<H>,
     answer: Result<(Dynamic<H>, bool), EvalAltResult<H>>,
 ) -> Option<bool>
-    ensures { came_marked result out.new place.new ≡ answer }
+    ensures { came_changed result out.new place.new ≡ answer }
 {
     match answer {
         Ok((value, changed)) => {
@@ -197,13 +197,13 @@ pub fn settle_marked<H: Host>(
     }
 }
 
-/// How a part ended that answers with a mark, for a caller that answers a `Result`.
-pub fn finish_marked<H: Host>(
+/// Turns how a part ended into a `Result`, with whether the part changed the focus.
+pub fn finish_changed<H: Host>(
     mark: Option<bool>,
     out: &mut Dynamic<H>,
     place: &mut Option<EvalAltResult<H>>,
 ) -> Result<(Dynamic<H>, bool), EvalAltResult<H>>
-    ensures { result ≡ came_marked mark out.old place.old }
+    ensures { result ≡ came_changed mark out.old place.old }
 {
     match mark {
         Some(changed) => Ok((take_value(out), changed)),
@@ -211,14 +211,14 @@ pub fn finish_marked<H: Host>(
     }
 }
 
-/// The mark of a part that changes nothing that a mark would tell of, from whether it went well.
+/// Answers for a part that does not count as changing the focus, from whether it went well.
 pub fn unchanged(done: bool) -> Option<bool>
     ensures { result ≡ unchanged_by done }
 {
     if done { Some(false) } else { None }
 }
 
-/// Whether a script may catch the error that a run stopped with.
+/// Tells whether a script may catch the error that a run stopped with.
 pub fn may_catch<H: Host>(place: &Option<EvalAltResult<H>>) -> bool
     ensures { result ≡ is_catchable (error_in place.now) }
 {

@@ -34,8 +34,8 @@ pub struct Context<H> {
     pub spare: Spare<H>,
 }
 
-/// A state with nothing in it but whether variables are searched for. No memory is asked for it.
-fn nothing<H: Host>(alloc: Global, always_search_scope: bool) -> GlobalRuntimeState<H>
+/// Makes a state with nothing in it but whether variables are searched for. No memory is asked for it.
+fn empty_state<H: Host>(alloc: Global, always_search_scope: bool) -> GlobalRuntimeState<H>
     ensures { result.always_search_scope ≡ always_search_scope }
 {
     GlobalRuntimeState {
@@ -53,8 +53,8 @@ fn nothing<H: Host>(alloc: Global, always_search_scope: bool) -> GlobalRuntimeSt
     }
 }
 
-/// Takes a caller's values into the state of a run, without `this`. Empty ones stay in their places
-/// until `give_back`, and whether variables are searched for stays there.
+/// Takes a caller's values into the state of a run, without `this`. Empty ones stand in their places until
+/// `give_back`, and whether variables are searched for stays there.
 pub fn take<H: Host>(
     alloc: Global,
     global: &mut GlobalRuntimeState<H>,
@@ -64,7 +64,7 @@ pub fn take<H: Host>(
         ≡ record { global = global.old; scope = scope.old; this = None; value = unit; error = None; spare = tt } }
     ensures search { global.new.always_search_scope ≡ global.old.always_search_scope }
 {
-    let empty = nothing(alloc, global.always_search_scope);
+    let empty = empty_state(alloc, global.always_search_scope);
     Context {
         global: replace(global, empty),
         scope: replace(scope, Scope::new(alloc)),
@@ -118,7 +118,7 @@ pub fn take_up<H: Host>(run: &mut Context<H>, aside: Aside<H>) -> Option<Dynamic
     replace(&mut run.this, this)
 }
 
-/// A list without variables: one that a call left, with its room, or else a new one.
+/// Lends a list without variables: one that a call left, with its room, or else a new one.
 #[inline(always)]
 pub fn lend_variables<H: Host>(alloc: Global, run: &mut Context<H>) -> Items<ScopeEntry<H>>
     ensures list { result ≡ [] }
@@ -127,7 +127,7 @@ pub fn lend_variables<H: Host>(alloc: Global, run: &mut Context<H>) -> Items<Sco
     run.spare.lend_variables(alloc)
 }
 
-/// Keeps a list of variables for another call, without what it holds.
+/// Keeps a list for another call, without the variables in it.
 #[inline(always)]
 pub fn keep_variables<H: Host>(run: &mut Context<H>, variables: Items<ScopeEntry<H>>)
     ensures { run.new ≡ run.old }
@@ -177,7 +177,8 @@ pub fn enter_variables<H: Host>(run: &mut Context<H>, variables: Items<ScopeEntr
     }
 }
 
-/// Gives a run its caller's variables and `this` back. The room of its own variables is kept for another call.
+/// Gives a run its caller's variables and `this` back. The room of its own variables is kept for another
+/// call.
 #[inline(always)]
 pub fn leave_variables<H: Host>(run: &mut Context<H>, caller: Caller<H>)
     ensures { run.new ≡ record run.old { scope = scope_of caller.variables; this = caller.this } }

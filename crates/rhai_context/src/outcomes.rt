@@ -47,7 +47,7 @@ pub fn charge<H: Host>(
     stop_at(place, pos)
 }
 
-/// A statement is charged at its position. Where the count has reached the limit, it stays and the run stops.
+/// Charges a statement at its position. Where the count has reached the limit, it stays and the run stops.
 #[inline(always)]
 pub fn charge_stmt<H: Host>(
     limits: &Limits,
@@ -70,7 +70,7 @@ pub fn charge_stmt<H: Host>(
     stop_at(place, stmt.position())
 }
 
-/// An expression is charged at its position. Where the count has reached the limit, it stays and the run stops.
+/// Charges an expression at its position. Where the count has reached the limit, it stays and the run stops.
 #[inline(always)]
 pub fn charge_expr<H: Host>(
     limits: &Limits,
@@ -93,7 +93,7 @@ pub fn charge_expr<H: Host>(
     stop_at(place, expr.position())
 }
 
-/// A run stops at a place where the count has reached the limit.
+/// Stops a run at a position where the count has reached the limit.
 #[cold]
 #[inline(never)]
 fn stop_at<H: Host>(place: &mut Option<EvalAltResult<H>>, pos: Position) -> bool
@@ -103,7 +103,7 @@ fn stop_at<H: Host>(place: &mut Option<EvalAltResult<H>>, pos: Position) -> bool
     stop(place, EvalAltResult::ErrorTooManyOperations(pos))
 }
 
-/// The value of a run loses its handle: of a handle it becomes a copy of the cell's value.
+/// Takes the handle off the value of a run: of a handle it becomes a copy of the cell's value.
 ///
 /// # Errors
 /// Those of `flatten`.
@@ -124,7 +124,7 @@ pub fn flatten_value<H: Host>(
     }
 }
 
-/// The same of what an expression gave.
+/// Takes the handle off what an expression gave, at the position of that expression.
 #[inline(always)]
 pub fn flatten_at<H: Host>(
     alloc: Global,
@@ -143,7 +143,7 @@ pub fn flatten_at<H: Host>(
     }
 }
 
-/// The value of a run that is a handle becomes a copy of the cell's value.
+/// Replaces the value of a run that is a handle by a copy of the cell's value.
 #[inline(never)]
 fn flatten_handle<H: Host>(
     alloc: Global,
@@ -158,7 +158,8 @@ fn flatten_handle<H: Host>(
     settle(place, out, flatten(alloc, cells, value, pos))
 }
 
-/// The truth value that a condition left in the run, through a handle. None where it is none: then the run stops.
+/// Reads the truth value that a condition left in the run, through a handle. None where it is none: then the
+/// run stops.
 ///
 /// # Errors
 /// Those of `truth_value`.
@@ -180,7 +181,7 @@ pub fn truth_left<H: Host>(
     }
 }
 
-/// The truth value that a condition left which is perhaps no truth value by itself.
+/// Reads the truth value that a condition left which is perhaps no truth value by itself.
 #[inline(never)]
 fn other_truth<H: Host>(
     alloc: Global,
@@ -202,8 +203,8 @@ fn other_truth<H: Host>(
     }
 }
 
-/// Whether a part left `()` in the run, through a handle. None where that is a cell which is held: then the run
-/// stops.
+/// Tells whether a part left `()` in the run, through a handle. None where that is a cell which is held: then
+/// the run stops.
 ///
 /// # Errors
 /// Those of `is_unit`.
@@ -240,7 +241,7 @@ pub enum BodyWay {
     Stopped,
 }
 
-/// How the body of a loop ended that left a value or an error in the run.
+/// Tells how the body of a loop ended that left a value or an error in the run.
 #[inline(always)]
 pub fn body_way<H: Host>(
     done: bool,
@@ -252,13 +253,13 @@ pub fn body_way<H: Host>(
     if done {
         BodyWay::Done
     } else {
-        left_way(out, place)
+        way_by_error(out, place)
     }
 }
 
-/// How a body ended that left an error.
+/// Tells how a body ended that left an error.
 #[inline(never)]
-fn left_way<H: Host>(out: &mut Dynamic<H>, place: &mut Option<EvalAltResult<H>>) -> BodyWay
+fn way_by_error<H: Host>(out: &mut Dynamic<H>, place: &mut Option<EvalAltResult<H>>) -> BodyWay
     ensures { ended_by result out.new place.new ≡ turn_in (came false out.old place.old) }
 {
     match body_end(Err(stopped(place))) {
@@ -275,7 +276,7 @@ fn left_way<H: Host>(out: &mut Dynamic<H>, place: &mut Option<EvalAltResult<H>>)
     }
 }
 
-/// What a loop makes of its body: None where another turn follows.
+/// Tells what a loop makes of its body: None where another turn follows.
 #[inline(always)]
 pub fn turn_end<H: Host>(
     done: bool,
@@ -287,7 +288,7 @@ pub fn turn_end<H: Host>(
     if done { None } else { turn_left(out, place) }
 }
 
-/// What a loop makes of a body that left an error.
+/// Tells what a loop makes of a body that left an error.
 #[inline(never)]
 fn turn_left<H: Host>(out: &mut Dynamic<H>, place: &mut Option<EvalAltResult<H>>) -> Option<bool>
     ensures { came_turn result out.new place.new ≡ after_body (turn_in (came false out.old place.old)) }

@@ -10,8 +10,9 @@ use std::marker::Model;
 /// How many lists are kept at most: as many as there are call levels by default.
 const MOST_KEPT: usize = 64;
 
-/// The variables of functions, with the room that they have, so that most calls take no memory for them: a call that
-/// others are nested in keeps its own meanwhile. They hold nothing between calls, so contracts see nothing of them.
+/// The variables of functions, with the room that they have, so that most calls take no memory for them: a
+/// call that others are nested in keeps its own meanwhile. They are empty between calls, so contracts see
+/// nothing of them.
 #[derive(Drop)]
 pub struct Spare<H> {
     variables: Vec<Items<ScopeEntry<H>>>,
@@ -23,7 +24,7 @@ impl<H> Model for Spare<H> {
     ghost view = { λ spare. tt };
 }
 
-/// A list without its variables.
+/// Empties a list of its variables.
 #[inline(always)]
 fn emptied<H: Drop>(variables: Items<ScopeEntry<H>>) -> Items<ScopeEntry<H>>
     ensures { result ≡ [] }
@@ -34,14 +35,14 @@ fn emptied<H: Drop>(variables: Items<ScopeEntry<H>>) -> Items<ScopeEntry<H>>
 }
 
 impl<H: Drop> Spare<H> {
-    /// No list yet. It takes no memory.
+    /// Makes a store that has no list yet. It takes no memory.
     pub fn new(alloc: Global) -> Spare<H> {
         Spare {
             variables: Vec::new(alloc),
         }
     }
 
-    /// A list without variables: the one that was kept last, or a new one without room.
+    /// Lends a list without variables: the one that was kept last, or a new one without room.
     #[inline(always)]
     pub fn lend_variables(&mut self, alloc: Global) -> Items<ScopeEntry<H>>
         ensures list { result ≡ [] }
@@ -53,8 +54,8 @@ impl<H: Drop> Spare<H> {
         }
     }
 
-    /// Keeps a list with the room that it has, without its variables. It is let go of where enough are kept or
-    /// there is no memory to keep it.
+    /// Keeps a list with the room that it has, without its variables. It is let go of where enough are kept
+    /// or there is no memory to keep it.
     #[inline(always)]
     pub fn keep_variables(&mut self, variables: Items<ScopeEntry<H>>)
         ensures { self.new ≡ self.old }

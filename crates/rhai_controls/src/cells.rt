@@ -13,7 +13,8 @@ pub trait Takes<H> {
         ensures held { cells_of store.new ≡ with_held (cells_of store.old) id.number };
 }
 
-/// The law of `CellStore::take`.
+/// Shows that two calls of `CellStore::take` on equal stores take equal values and leave equal
+/// cells.
 pub fn take<H, S: Takes<H>>(
     one: &mut CellStore<H>,
     other: &mut CellStore<H>,

@@ -23,7 +23,7 @@ pub trait Charges<H> {
         ensures same { IfErr result (λ _. global.new ≡ global.old) };
 }
 
-/// The law of `Engine::track_operation`.
+/// Shows that two calls of `Engine::track_operation` from equal states end equally.
 pub fn track_operation<H, C: Charges<H>>(
     limits: &Limits,
     global: &mut GlobalRuntimeState<H>,

@@ -12,7 +12,8 @@ pub trait Pushes<T> {
         ensures err { OnErr result (list.new ≡ list.old) };
 }
 
-/// The law of `Items::push`.
+/// Shows that two calls of `Items::push` on equal lists with equal items leave equal lists, unless
+/// memory runs out.
 pub fn push<T, P: Pushes<T>>(
     one: &mut Items<T>,
     other: &mut Items<T>,

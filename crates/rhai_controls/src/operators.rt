@@ -2,7 +2,7 @@
 
 ghost use Rattle.std.specs.Prelude.{◌≡◌};
 ghost use Rattle.rhai_operators.specs.Answers.{IsAnswer, unary_of};
-ghost use Rattle.rhai_twins_places.specs.Ends.{may_want};
+ghost use Rattle.rhai_twins_places.specs.Ends.{option_ran_out};
 
 use rhai_state::error::EvalAltResult;
 use rhai_tree::token::Token;
@@ -19,7 +19,7 @@ pub trait Operates<H: Host> {
         ensures { IsAnswer result (unary_of op x.now) };
 }
 
-/// The law of `builtin_unary`.
+/// Shows that two calls of `builtin_unary` on one value answer equally, unless memory runs out.
 pub fn unary<H: Host, O: Operates<H>>(
     alloc: Global,
     op: Token,
@@ -28,7 +28,7 @@ pub fn unary<H: Host, O: Operates<H>>(
     Option<Result<Dynamic<H>, EvalAltResult<H>>>,
     Option<Result<Dynamic<H>, EvalAltResult<H>>>,
 )
-    ensures { may_want result.0 ≡ may_want result.1 → result.0 ≡ result.1 }
+    ensures { option_ran_out result.0 ≡ option_ran_out result.1 → result.0 ≡ result.1 }
 {
     (O::unary(alloc, op, x), O::unary(alloc, op, x))
 }

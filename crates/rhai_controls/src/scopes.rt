@@ -15,7 +15,7 @@ pub trait Replaces<H> {
             (slice_get (entries_of scope.old) index) value };
 }
 
-/// The law of `Scope::replace_value`.
+/// Shows that two calls of `Scope::replace_value` on equal scopes with equal values end equally.
 pub fn replace_value<H, S: Replaces<H>>(
     one: &mut Scope<H>,
     other: &mut Scope<H>,

@@ -19,18 +19,18 @@ use Rattle.rhai_state.specs.Errors.{is_out_of_memory, is_system, at_position, po
 use Rattle.rhai_state.specs.Native.{Reply, Missing, Gives, Faults, Named, Obeys, request}
 use Rattle.rhai_machine.specs.machine.Machine.{Go}
 use Rattle.rhai_machine.specs.machine.Point.{after}
-use Rattle.rhai_machine.specs.machine.Memory.{here, next, wanting, ◌⨾◌}
+use Rattle.rhai_machine.specs.machine.Memory.{here, next, out_before_step, ◌⨾◌}
 use Rattle.rhai_machine.specs.language.Setting.{Rules, Setting, limit_under}
 use Rattle.rhai_machine.specs.language.State.{State, Local, HasMemory, Answers}
 use Rattle.rhai_machine.specs.language.Values.{Cells, flat, is_handle}
-use Rattle.rhai_machine.specs.language.Calls.{first_type, not_found, placed_if_none, property_named, names_indexer, replied}
+use Rattle.rhai_machine.specs.language.Calls.{first_type, not_found, with_position, property_named, names_indexer, replied}
 use Rattle.rhai_machine.specs.language.Calls.{sized_by}
-use Rattle.rhai_machine.specs.language.Calls.{args_left, types_of, unknown}
+use Rattle.rhai_machine.specs.language.Calls.{args_left, types_of, missing_error}
 use Rattle.rhai_machine.specs.language.Data.{joined_core, part_core, parts_core, printed, printer, printing, unprinted_core, with_part}
 use Rattle.rhai_machine.specs.language.Frames.{Frame, Control, core, ended, on_value, Ask, Back, Fail, Fire, PrintedPart, TextPart}
 use Rattle.rhai_machine.specs.language.Runs.{at, with_core, Goes, Runs, Steps}
 use Rattle.rhai_steps.specs.States.{state_of}
-use Rattle.rhai_steps.proofs.Pieces.{step_by, or_wants}
+use Rattle.rhai_steps.proofs.Pieces.{step_by, or_runs_out}
 use Rattle.rhai_data.specs.Texts.{after_part, text_in, unprinted, print_of, print_core, Prints, PrintsAndJoins}
 
 memory_system : {H : Type 0} (e : EvalAltResult H) → is_out_of_memory e ≡ true → is_system e ≡ true
@@ -72,29 +72,29 @@ module _ {S H : Type 0} (rules : Rules S H) (text type : List ℕ) (pos : Positi
   outcome_leads (Ok v) s = gives v s
   outcome_leads (Err e) s = fault_leads (is_system e) e s refl
 
-  -- what came of it, where memory may have run out in its place
+  -- what came of it, or memory that ran out
   pub print_told : (c : Control H) (s : State S H) (wanted result : Result (Option (List ℕ)) (EvalAltResult H)) →
       Goes rules (at c waits s) (with_core (print_core rules.setting wanted text type pos rest k s.local) s) → Answers result wanted →
       Goes rules (at c waits s) (with_core (print_core rules.setting result text type pos rest k s.local) s)
   print_told c s wanted (Ok x) goes answers =
       subst (λ r. Goes rules (at c waits s) (with_core (print_core rules.setting r text type pos rest k s.local) s)) (sym (answers tt)) goes
   print_told c s wanted (Err (error.ErrorOutOfMemory place)) goes answers =
-      wanting {at = place} (passes (error.ErrorOutOfMemory place) refl s)
+      out_before_step {at = place} (passes (error.ErrorOutOfMemory place) refl s)
   print_told c s wanted (Err e) goes answers =
       subst (λ r. Goes rules (at c waits s) (with_core (print_core rules.setting r text type pos rest k s.local) s))
       (sym (answers refl)) goes
 
--- an answer that is none for want of memory
-pub failed_wants : {A H : Type 0} (x : A) (e : EvalAltResult H) → Answers (Err e) (Ok x) → is_out_of_memory e ≡ true
-failed_wants x (error.ErrorOutOfMemory pos) a = refl
-failed_wants x e a = let no = a refl in cc
+-- an answer that is none as memory ran out
+pub failed_out_of_memory : {A H : Type 0} (x : A) (e : EvalAltResult H) → Answers (Err e) (Ok x) → is_out_of_memory e ≡ true
+failed_out_of_memory x (error.ErrorOutOfMemory pos) a = refl
+failed_out_of_memory x e a = let no = a refl in cc
 
 module _ {S H : Type 0} (rules : Rules S H) (v : Dynamic H) (pos : Position) where
   -- there is no memory for the copy
-  pub print_wants : (s : State S H) (e : EvalAltResult H) → is_out_of_memory e ≡ true → Prints rules v pos s (Err e) s
+  pub print_runs_out : (s : State S H) (e : EvalAltResult H) → is_out_of_memory e ≡ true → Prints rules v pos s (Err e) s
   unfolding Prints
-  print_wants s e is text type rest k =
-      or_wants rules (Ask (printing v pos)) (waits rules text type pos rest k) s e (λ no. absurd (false≢true (sym no ∙ is)))
+  print_runs_out s e is text type rest k =
+      or_runs_out rules (Ask (printing v pos)) (waits rules text type pos rest k) s e (λ no. absurd (false≢true (sym no ∙ is)))
       ⨾ passes rules text type pos rest k e (memory_system e is) s
 
   -- the native is called
@@ -108,12 +108,12 @@ module _ {S H : Type 0} (rules : Rules S H) (v : Dynamic H) (pos : Position) whe
       (outcome_leads rules text type pos rest k outcome new) answers
 
 module _ {S H : Type 0} (rules : Rules S H) where
-  part_wants : (r : Result (List ℕ) (EvalAltResult H)) (rest : List Expr) (k : List (Frame H)) (s : State S H) (pos : Position) →
+  text_part_runs_out : (r : Result (List ℕ) (EvalAltResult H)) (rest : List Expr) (k : List (Frame H)) (s : State S H) (pos : Position) →
       Goes rules (with_core (on_value r (λ more. parts_core more rest k s.local) k s.local) s) (at (Fail (error.ErrorOutOfMemory pos)) k s)
   unfolding after
-  part_wants (Ok more) [] k s pos = wanting {at = pos} here
-  part_wants (Ok more) (part ∷ parts) k s pos = wanting {at = pos} (next here)
-  part_wants (Err e) rest k s pos = wanting {at = pos} here
+  text_part_runs_out (Ok more) [] k s pos = out_before_step {at = pos} here
+  text_part_runs_out (Ok more) (part ∷ parts) k s pos = out_before_step {at = pos} (next here)
+  text_part_runs_out (Err e) rest k s pos = out_before_step {at = pos} here
 
   -- where a part that was joined, or was refused, leads
   pub joined_leads : {A : Type 0} (text part : List ℕ) (pos : Position) (rest : List Expr) (k : List (Frame H)) (s : State S H)
@@ -124,16 +124,16 @@ module _ {S H : Type 0} (rules : Rules S H) where
       (with_core (after_part result joined rest k s.local) s)
   joined_leads text part pos rest k s (Ok x) joined ok err = rw ok here
   joined_leads text part pos rest k s (Err (error.ErrorOutOfMemory place)) joined ok err =
-      part_wants (with_part rules.setting.limits text part pos) rest k s place
+      text_part_runs_out (with_part rules.setting.limits text part pos) rest k s place
   joined_leads text part pos rest k s (Err e) joined ok err = rw (err refl) here
 
 module _ {S H : Type 0} (rules : Rules S H) where
   -- memory runs out before a value is printed
-  pub joins_wants : (A : Type 0) (text : List ℕ) (v : Dynamic H) (pos place : Position) (s : State S H) (joined : List ℕ) →
+  pub joins_run_out : (A : Type 0) (text : List ℕ) (v : Dynamic H) (pos place : Position) (s : State S H) (joined : List ℕ) →
       PrintsAndJoins rules {A = A} text v pos s (Err (error.ErrorOutOfMemory place)) joined s
   unfolding PrintsAndJoins
-  joins_wants A text v pos place s joined rest k =
-      wanting {at = place} (passes rules text (type_name_of rules.setting.host_type s.local.around.cells v) pos rest k
+  joins_run_out A text v pos place s joined rest k =
+      out_before_step {at = place} (passes rules text (type_name_of rules.setting.host_type s.local.around.cells v) pos rest k
       (error.ErrorOutOfMemory place) refl s)
 
 -- a text is joined as it is
@@ -163,7 +163,7 @@ module _ {S H : Type 0} (rules : Rules S H) (text : List ℕ) (v : Dynamic H) (p
   pub flat_refused : (e : EvalAltResult H) → (is_out_of_memory e ≡ false → Err e ≡ flat s.local.around.cells v pos) →
       Goes rules (at (Back v) (TextPart text pos rest ∷ k) s) (at (Fail e) k s)
   unfolding after
-  flat_refused (error.ErrorOutOfMemory place) is = wanting {at = place} (next here)
+  flat_refused (error.ErrorOutOfMemory place) is = out_before_step {at = place} (next here)
   flat_refused e is =
       step_by rules _ _ _ (ap (λ r. Go (on_value r (λ y. joined_core rules.setting y.value y text pos rest k s.local) k s.local))
       (sym (is refl))) here

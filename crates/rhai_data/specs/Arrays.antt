@@ -4,6 +4,6 @@ use Rattle.rhai_values.specs.DataSize.{data_sizes}
 use Rattle.rhai_machine.specs.language.Data.{array_of}
 use Rattle.rhai_data.specs.declared.array.ArrayItems.{ArrayItems}
 
--- what is counted is what the array of these items holds
+-- what is counted is how much data the array of these items has
 abbrev pub IsMeasured : {H : Type 0} → ArrayItems H → Type 0
 IsMeasured making = making.sizes ≡ data_sizes (array_of making.items)

@@ -26,7 +26,7 @@ use rhai_values::base::value::{Dynamic, Host, Union};
 use rhai_values::cells::CellStore;
 use std::alloc::Global;
 
-/// The items of an array that is being made, and how much data the array holds.
+/// The items of an array that is being made, and how much data the array has.
 pub struct ArrayItems<H> {
     pub items: Items<Dynamic<H>>,
     pub sizes: DataSizes,
@@ -39,7 +39,7 @@ impl<H: Drop> Drop for ArrayItems<H> {
     }
 }
 
-/// How much data an array holds with one item more.
+/// Counts how much data an array has with one item more.
 fn with_item<H: Host>(sizes: DataSizes, item: &Dynamic<H>) -> DataSizes
     ensures { (items : List (Dynamic H)) → sizes ≡ data_sizes (array_of items) →
         result ≡ data_sizes (array_of (items ++ item.now ∷ [])) }
@@ -50,7 +50,7 @@ fn with_item<H: Host>(sizes: DataSizes, item: &Dynamic<H>) -> DataSizes
 }
 
 impl<H: Host> ArrayItems<H> {
-    /// No items yet. It takes no memory.
+    /// Begins an array without items. It takes no memory.
     pub fn new(alloc: Global) -> ArrayItems<H>
         ensures items { result.items ≡ [] }
         ensures measured { IsMeasured result }
@@ -61,8 +61,8 @@ impl<H: Host> ArrayItems<H> {
         }
     }
 
-    /// The value of a run, flattened, is one item more. Whether it went well; an error stands in the run's place. Its
-    /// data is added to what was counted before, so that no item is counted twice.
+    /// Adds the value of a run, flattened, as one item more. Tells whether it went well; an error is left in
+    /// `place`. Its data is added to what was counted before, so that no item is counted twice.
     ///
     /// # Errors
     /// Both at the item: `ErrorDataRace` for a handle whose cell is held, `ErrorDataTooLarge` where the
@@ -106,8 +106,8 @@ impl<H: Host> ArrayItems<H> {
         }
     }
 
-    /// The array becomes the value of a run. Whether there was memory for it; else the error stands in the run's
-    /// place.
+    /// Makes the array the value of a run. Tells whether there was memory for it; else the error is left in
+    /// `place`.
     pub fn finish(
         self,
         alloc: Global,

@@ -26,7 +26,7 @@ use rhai_values::base::value::{Dynamic, Host, Union};
 use rhai_values::cells::CellStore;
 use std::alloc::{AllocError, Global};
 
-/// The values of a map's entries, in the order of the entries, and how much data the map holds.
+/// The values of a map's entries, in the order of the entries, and how much data the map has.
 pub struct EntryValues<H> {
     pub values: Items<Dynamic<H>>,
     pub sizes: DataSizes,
@@ -42,7 +42,7 @@ impl<H: Drop> Drop for EntryValues<H> {
     }
 }
 
-/// How much data a map holds with one entry more.
+/// Counts how much data a map has with one entry more.
 fn with_value<H: Host>(sizes: DataSizes, value: &Dynamic<H>) -> DataSizes
     ensures { (values : List (Dynamic H)) → sizes ≡ entry_sizes values →
         result ≡ entry_sizes (values ++ value.now ∷ []) }
@@ -52,7 +52,7 @@ fn with_value<H: Host>(sizes: DataSizes, value: &Dynamic<H>) -> DataSizes
         .joined(DataSizes::of_maps(1))
 }
 
-/// The map of some entries' keys with their values.
+/// Makes the table of some entries' keys with their values.
 fn filled<H: Host>(
     alloc: Global,
     entries: &[MapEntry],
@@ -72,7 +72,7 @@ fn filled<H: Host>(
 }
 
 impl<H: Host> EntryValues<H> {
-    /// No values yet. It takes no memory.
+    /// Begins a map without values. It takes no memory.
     pub fn new(alloc: Global) -> EntryValues<H>
         ensures values { result.values ≡ [] }
         ensures counted { IsCounted result }
@@ -83,8 +83,8 @@ impl<H: Host> EntryValues<H> {
         }
     }
 
-    /// The value of a run, flattened, is that of the next entry. Whether it went well; an error stands in the run's
-    /// place. Its data is added to what was counted before, so that no value is counted twice.
+    /// Adds the value of a run, flattened, as that of the next entry. Tells whether it went well; an error is
+    /// left in `place`. Its data is added to what was counted before, so that no value is counted twice.
     ///
     /// # Errors
     /// Both at the value: `ErrorDataRace` for a handle whose cell is held, `ErrorDataTooLarge` where the
@@ -128,8 +128,8 @@ impl<H: Host> EntryValues<H> {
         }
     }
 
-    /// The map of the entries' keys with the values becomes the value of a run. Whether there was memory for it; else
-    /// the error stands in the run's place.
+    /// Makes the map of the entries' keys with the values the value of a run. Tells whether there was memory
+    /// for it; else the error is left in `place`.
     pub fn finish(
         self,
         alloc: Global,
@@ -141,7 +141,7 @@ impl<H: Host> EntryValues<H> {
         ensures { Answers (came result out.new place.new) (Ok (map_of (map key_of entries.now) self.values)) }
     {
         let EntryValues { values, sizes: _ } = self;
-        match made(alloc, entries, values) {
+        match make_map(alloc, entries, values) {
             Ok(value) => {
                 put(out, value);
                 true
@@ -151,8 +151,8 @@ impl<H: Host> EntryValues<H> {
     }
 }
 
-/// The value of the map of some entries.
-fn made<H: Host>(
+/// Makes the map of some entries as a value.
+fn make_map<H: Host>(
     alloc: Global,
     entries: &[MapEntry],
     values: Items<Dynamic<H>>,

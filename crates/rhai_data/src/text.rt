@@ -63,7 +63,7 @@ fn join_text<H>(
     }
 }
 
-/// The text that a native answered, None where it answered another value.
+/// Shares the text that a native answered, None where it answered another value.
 fn text_in<H: Host>(
     value: Dynamic<H>,
     pos: Position,
@@ -82,7 +82,7 @@ fn text_in<H: Host>(
     }
 }
 
-/// What a call of the native `to_string` comes to: the text that it printed, None where it printed none.
+/// Takes the text out of what a call of the native `to_string` came to. None where it printed none.
 fn printed<H: Host>(
     outcome: Result<Dynamic<H>, EvalAltResult<H>>,
     pos: Position,
@@ -101,8 +101,7 @@ fn printed<H: Host>(
     }
 }
 
-/// What the native `to_string` prints of a value, of which it gets a copy. None where it prints no
-/// text.
+/// Prints a value by the native `to_string`, which gets a copy of it. None where it prints no text.
 ///
 /// # Errors
 /// Those of the system alone: `ErrorTooManyOperations` at the value where the count has reached the
@@ -165,7 +164,8 @@ fn join_typed<H: Host, T: NativeTable<H>>(
     }
 }
 
-/// The same of a handle, the name of whose type is taken before the native may change its cell.
+/// Joins a handle as `join_typed` does a value. The name of its type is taken before the native may change
+/// its cell.
 fn join_handle<H: Host, T: NativeTable<H>>(
     limits: &Limits,
     alloc: Global,
@@ -191,7 +191,7 @@ fn join_handle<H: Host, T: NativeTable<H>>(
     }
 }
 
-/// The same of any value.
+/// Joins any value that is no text, as `join_typed` does.
 fn join_printed<H: Host, T: NativeTable<H>>(
     limits: &Limits,
     alloc: Global,
@@ -215,7 +215,7 @@ fn join_printed<H: Host, T: NativeTable<H>>(
     join_typed(limits, alloc, global, table, text, value, name, pos)
 }
 
-/// The text that a value is.
+/// Returns the text that a value is.
 fn text_at<H>(value: &Dynamic<H>) -> Option<&str>
     ensures { option_copied result ≡ text_of_value value.now.value }
 {
@@ -248,8 +248,9 @@ fn join_flat<H: Host, T: NativeTable<H>>(
     }
 }
 
-/// Joins the value that a part gave a run: a text as it is, any other as the native `to_string` prints it, or as its
-/// type's name where that answers no text. Whether it went well; an error stands in the run's place.
+/// Joins the value that a part gave a run. A text is joined as it is, any other value as the native
+/// `to_string` prints it, or as its type's name where that answers no text. Tells whether it went well; an
+/// error is left in `place`.
 ///
 /// # Errors
 /// All at the part: `ErrorDataRace` for a handle whose cell is held, the errors of the system that the
@@ -281,8 +282,8 @@ pub fn join<H: Host, T: NativeTable<H>>(
     }
 }
 
-/// A joined text becomes the value of a run. Whether there was memory for it; else the error stands in the run's
-/// place.
+/// Makes a joined text the value of a run. Tells whether there was memory for it; else the error is left in
+/// `place`.
 pub fn finish<H: Host>(
     alloc: Global,
     out: &mut Dynamic<H>,

@@ -13,15 +13,15 @@ use Rattle.rhai_places.specs.declared.target.Part.TheVariants as part
 use Rattle.rhai_places.specs.PutBack.{put_back, IsNotPut}
 use Rattle.rhai_places.specs.Targets.{propagated, IsNotPropagated}
 use Rattle.rhai_machine.specs.machine.Machine.{Go}
-use Rattle.rhai_machine.specs.machine.Memory.{here, wanting, ◌⨾◌}
+use Rattle.rhai_machine.specs.machine.Memory.{here, out_before_step, ◌⨾◌}
 use Rattle.rhai_machine.specs.language.Setting.{Rules}
 use Rattle.rhai_machine.specs.language.State.{HasMemory, Local, State}
 use Rattle.rhai_machine.specs.language.Values.{unit_value}
-use Rattle.rhai_machine.specs.language.Frames.{NewValue, Frame, Core, core, ended, marked, Changed, Fail, MemberSet, PartMethod}
+use Rattle.rhai_machine.specs.language.Frames.{NewValue, Frame, Core, core, ended, ended_or_changed, Changed, Fail, MemberSet, PartMethod}
 use Rattle.rhai_machine.specs.language.Chains.{assign_focus}
 use Rattle.rhai_machine.specs.language.Members.{focused_on}
 use Rattle.rhai_machine.specs.language.Runs.{at, Goes}
-use Rattle.rhai_machine.specs.language.Unwinding.{not_put, part_changed}
+use Rattle.rhai_machine.specs.language.Unwinding.{put_back_error, part_changed}
 use Rattle.rhai_laws.specs.Kept.{Kept}
 use Rattle.rhai_laws.proofs.Keeping.{Asked, Keeps, after, calm}
 use Rattle.rhai_laws.proofs.KeptChains.{assign_focus_keeps}
@@ -29,13 +29,13 @@ use Rattle.rhai_laws.proofs.KeptLaws.{around_same, kept_from}
 use Rattle.rhai_steps.proofs.Pieces.{step_by}
 use Rattle.rhai_assign.specs.Follows as assign
 use Rattle.rhai_assign.specs.Follows.{Follows}
-use Rattle.rhai_steps.specs.Marked.{RunsFrom}
+use Rattle.rhai_steps.specs.OnFocus.{RunsFrom}
 use Rattle.rhai_methods.specs.Targets.{ComesBack}
 use Rattle.rhai_chains.specs.Chains as from
 use Rattle.rhai_chains.specs.Chains.{FollowsFrom}
 use Rattle.rhai_eval.specs.Assigned.{assigned, target_assigned, value_assigned, without_value}
 use Rattle.rhai_eval.specs.Ends.{EndsAlone, EndsAssigned}
-use Rattle.rhai_eval.proofs.Marked.{ends_marked}
+use Rattle.rhai_eval.proofs.ChangedCalls.{ends_changed}
 
 module _ {H : Type 0} where
   -- what comes of a part that is put back
@@ -45,22 +45,22 @@ module _ {H : Type 0} where
   put_comes host what place left pos (Ok done) put stays refused = (refl, put)
   put_comes host what place left pos (Err e) put stays refused = (stays, refused)
 
-  -- memory was not wanting
+  -- memory did not run out
   had_memory : (r : Result (Unit {0}) (EvalAltResult H)) → HasMemory r → (pos : Position) →
       assigned r ≡ Err (error.ErrorOutOfMemory pos) → ⊥
   had_memory (Ok done) has pos is = cc
   had_memory (Err e) has pos is =
       let same : e ≡ error.ErrorOutOfMemory pos = cc in let no : true ≡ false = rw same at has in cc
 
-  pub marked_memory : (r : Result (Unit {0}) (EvalAltResult H)) → HasMemory r → HasMemory (assigned r)
-  marked_memory (Ok done) has = tt
-  marked_memory (Err e) has = has
+  pub assigned_memory : (r : Result (Unit {0}) (EvalAltResult H)) → HasMemory r → HasMemory (assigned r)
+  assigned_memory (Ok done) has = tt
+  assigned_memory (Err e) has = has
 
-  -- the same want of memory, once the value is left
-  same_want : (r : Result (Dynamic H) (EvalAltResult H)) (q : Result (Unit {0}) (EvalAltResult H)) (pos : Position) → q ≡ without_value r →
+  -- the same out-of-memory error, once the value is left out
+  same_run_out : (r : Result (Dynamic H) (EvalAltResult H)) (q : Result (Unit {0}) (EvalAltResult H)) (pos : Position) → q ≡ without_value r →
       r ≡ Err (error.ErrorOutOfMemory pos) → assigned q ≡ Err (error.ErrorOutOfMemory pos)
-  same_want r q pos is wants = ap (λ (x : Result (Unit {0}) (EvalAltResult H)). assigned x) is
-      ∙ ap (λ (x : Result (Dynamic H) (EvalAltResult H)). assigned (without_value x)) wants
+  same_run_out r q pos is is_out = ap (λ (x : Result (Unit {0}) (EvalAltResult H)). assigned x) is
+      ∙ ap (λ (x : Result (Dynamic H) (EvalAltResult H)). assigned (without_value x)) is_out
 
 module _ {S H : Type 0} (rules : Rules S H) where
   -- a state where this is worked on
@@ -69,19 +69,19 @@ module _ {S H : Type 0} (rules : Rules S H) where
 
   -- ---- a value
 
-  -- what it answers is left, and `()` comes back, marked
-  comes_marked : (r : Result (Dynamic H) (EvalAltResult H)) (k : List (Frame H)) (s : State S H) →
-      Goes rules (at (ended r) (MemberSet unit_value ∷ k) s) (at (marked (assigned (without_value r))) k s)
-  comes_marked (Ok v) k s = step_by rules _ _ (Go (core (Changed unit_value) k s.local)) refl here
-  comes_marked (Err e) k s = step_by rules _ _ (Go (core (Fail e) k s.local)) refl here
+  -- what it answers is left out, and `()` comes back as `Changed`
+  comes_changed : (r : Result (Dynamic H) (EvalAltResult H)) (k : List (Frame H)) (s : State S H) →
+      Goes rules (at (ended r) (MemberSet unit_value ∷ k) s) (at (ended_or_changed (assigned (without_value r))) k s)
+  comes_changed (Ok v) k s = step_by rules _ _ (Go (core (Changed unit_value) k s.local)) refl here
+  comes_changed (Err e) k s = step_by rules _ _ (Go (core (Fail e) k s.local)) refl here
 
   pub value_follows : (root : Expr) (n : NewValue H) (s t : State S H) (r : Result (Dynamic H) (EvalAltResult H))
       (q : Result (Unit {0}) (EvalAltResult H)) → q ≡ without_value r → Follows rules (assign_focus rules.setting root n) s r t →
       FollowsFrom rules (value_assigned rules.setting root n) s (assigned q) t
   unfolding RunsFrom
   value_follows root n s t r q is (assign.Does go) =
-      from.Does (λ k. rw is (go (MemberSet unit_value ∷ k) ⨾ comes_marked r k t))
-  value_follows root n s t r q is (assign.Wants pos wants same) = from.Wants pos (same_want r q pos is wants) same
+      from.Does (λ k. rw is (go (MemberSet unit_value ∷ k) ⨾ comes_changed r k t))
+  value_follows root n s t r q is (assign.FindsNoMemory pos is_out same) = from.FindsNoMemory pos (same_run_out r q pos is is_out) same
 
   -- ---- a part
 
@@ -101,20 +101,20 @@ module _ {S H : Type 0} (rules : Rules S H) where
     comes_down e = step_by rules _ _ (Go (core (Fail e) k (focused_on (Some above) s.local))) refl here
 
     not_back : put_back above spot x ≡ None →
-        Goes rules (at (Changed unit_value) over (working x s)) (at (Fail (not_put rules.setting spot x pos)) k (working above s))
-    not_back is = step_by rules _ _ (Go (core (Fail (not_put rules.setting spot x pos)) k (focused_on (Some above) s.local)))
+        Goes rules (at (Changed unit_value) over (working x s)) (at (Fail (put_back_error rules.setting spot x pos)) k (working above s))
+    not_back is = step_by rules _ _ (Go (core (Fail (put_back_error rules.setting spot x pos)) k (focused_on (Some above) s.local)))
         (ap (λ (whole : Option (Dynamic H)). Go (part_changed rules.setting whole above spot pos unit_value k (working x s).local)) is) here
 
     -- and so it is where the part is not taken back
     is_refused : (e : EvalAltResult H) → IsNotPut rules.setting.host_type above spot x pos e →
         Goes rules (at (Changed unit_value) over (working x s)) (at (Fail e) k (working above s))
-    is_refused (error.ErrorOutOfMemory p) is = wanting {at = p} (comes_down (error.ErrorOutOfMemory p))
+    is_refused (error.ErrorOutOfMemory p) is = out_before_step {at = p} (comes_down (error.ErrorOutOfMemory p))
     is_refused e is = rw (is refl).1 (not_back (is refl).0)
 
     -- what comes of it
     answer_comes : (outcome result : Result (Unit {0}) (EvalAltResult H)) (left : Dynamic H) →
         ComesBack rules.setting.host_type (part.Of spot x) above pos (assigned outcome) (assigned result) left →
-        Goes rules (at (marked (assigned outcome)) over (working x s)) (at (marked (assigned result)) k (working left s))
+        Goes rules (at (ended_or_changed (assigned outcome)) over (working x s)) (at (ended_or_changed (assigned result)) k (working left s))
     answer_comes (Ok done) (Ok back) left is = goes_back left is.1
     answer_comes (Ok done) (Err e) left is =
         subst (λ (y : Dynamic H). Goes rules (at (Changed unit_value) over (working x s)) (at (Fail e) k (working y s))) (sym is.0)
@@ -123,13 +123,13 @@ module _ {S H : Type 0} (rules : Rules S H) where
     answer_comes (Err e) (Err y) left is = let same : y ≡ e = cc (is.0) in rw (same, is.1) (comes_down e)
 
   module _ (root : Expr) (n : NewValue H) (spot : Spot) (above v w left : Dynamic H) (s t : State S H) where
-    -- memory was wanting for it, and nothing is done
-    part_wants : (outcome result : Result (Unit {0}) (EvalAltResult H)) (pos : Position) →
+    -- memory ran out before it, and nothing is done
+    assigned_runs_out : (outcome result : Result (Unit {0}) (EvalAltResult H)) (pos : Position) →
         assigned outcome ≡ Err (error.ErrorOutOfMemory pos) → working w t ≡ working v s →
         ComesBack rules.setting.host_type (part.Of spot w) above n.op.position (assigned outcome) (assigned result) left →
         FollowsFrom rules (target_assigned rules.setting root n (part.Of spot v) above) (working above s) (assigned result) (working left t)
-    part_wants (Ok done) result pos is same comes = cc
-    part_wants (Err e) result pos is same comes = from.Wants pos (comes.0 ∙ is)
+    assigned_runs_out (Ok done) result pos is same comes = cc
+    assigned_runs_out (Err e) result pos is same comes = from.FindsNoMemory pos (comes.0 ∙ is)
         (ap (λ (x : Dynamic H). working x t) comes.1 ∙ ap (λ (x : State S H). working above x) same)
 
     pub part_follows : (outcome result : Result (Unit {0}) (EvalAltResult H)) →
@@ -139,7 +139,7 @@ module _ {S H : Type 0} (rules : Rules S H) where
     unfolding RunsFrom
     part_follows outcome result (from.Does runs) comes = from.Does (λ k.
         runs (PartMethod above spot n.op.position ∷ k) ⨾ answer_comes above w spot n.op.position k t outcome result left comes)
-    part_follows outcome result (from.Wants pos is same) comes = part_wants outcome result pos is same comes
+    part_follows outcome result (from.FindsNoMemory pos is same) comes = assigned_runs_out outcome result pos is same comes
 
   -- ---- how it ends
 
@@ -147,19 +147,20 @@ module _ {S H : Type 0} (rules : Rules S H) where
       FollowsFrom rules begins old (assigned r) new → EndsAssigned rules begins old r new
   unfolding RunsFrom
   assigned_ends begins old new r (from.Does runs) =
-      let ends = ends_marked rules old new (assigned r) begins runs in
-      record { runs = λ memory. ends.runs (marked_memory r memory); up_to = inr ends.up_to }
-  assigned_ends begins old new r (from.Wants pos is same) =
+      let ends = ends_changed rules old new (assigned r) begins runs in
+      record { runs = λ memory. ends.runs (assigned_memory r memory); up_to = inr ends.up_to }
+  assigned_ends begins old new r (from.FindsNoMemory pos is same) =
       record { runs = λ memory k. absurd (had_memory r memory pos is); up_to = inl same }
 
   -- with nothing behind it, where it had memory
-  pub assigned_alone : (begins : List (Frame H) → Local H → Core H) (old new : State S H) (r : Result (Dynamic H × Bool) (EvalAltResult H)) →
+  pub assigned_alone : (begins : List (Frame H) → Local H → Core H) (old new : State S H) (r : Result (Dynamic H × Bool)
+      (EvalAltResult H)) →
       FollowsFrom rules begins old r new → HasMemory r → EndsAlone rules begins old new
   unfolding RunsFrom
-  assigned_alone begins old new r (from.Does runs) memory = (r, (ends_marked rules old new r begins runs).runs memory [])
-  assigned_alone begins old new (Ok v) (from.Wants pos is same) memory = cc
-  assigned_alone begins old new (Err e) (from.Wants pos is same) memory =
-      let wants : e ≡ error.ErrorOutOfMemory pos = cc in let no : true ≡ false = rw wants at memory in cc
+  assigned_alone begins old new r (from.Does runs) memory = (r, (ends_changed rules old new r begins runs).runs memory [])
+  assigned_alone begins old new (Ok v) (from.FindsNoMemory pos is same) memory = cc
+  assigned_alone begins old new (Err e) (from.FindsNoMemory pos is same) memory =
+      let is_out : e ≡ error.ErrorOutOfMemory pos = cc in let no : true ≡ false = rw is_out at memory in cc
 
   -- ---- what it keeps
 
@@ -190,7 +191,7 @@ module _ {S H : Type 0} (rules : Rules S H) where
       FollowsFrom rules (target_assigned rules.setting root n what place) old (assigned r) new → Kept rules old new
   unfolding RunsFrom
   assigned_kept root n what place old new r (from.Does runs) =
-      kept_from rules (target_assigned rules.setting root n what place [] old.local) (marked (assigned r)) old new
+      kept_from rules (target_assigned rules.setting root n what place [] old.local) (ended_or_changed (assigned r)) old new
       (λ a. begin_keeps a root n what place [] old.local) (runs [])
-  assigned_kept root n what place old new r (from.Wants pos is same) =
+  assigned_kept root n what place old new r (from.FindsNoMemory pos is same) =
       subst (λ (s : State S H). Kept rules old s) (sym same) (same_kept old)

@@ -12,15 +12,15 @@ use Rattle.rhai_machine.specs.language.Setting.{Rules, cut}
 use Rattle.rhai_machine.specs.language.State.{State}
 use Rattle.rhai_machine.specs.language.Frames.{ChainRoot, NewValue, OpenChain, chain_on}
 use Rattle.rhai_machine.specs.language.Language.{machine}
-use Rattle.rhai_machine.specs.language.Memory.{IsWanting}
+use Rattle.rhai_machine.specs.language.Memory.{IsOutOfMemory}
 use Rattle.rhai_machine.specs.language.Links.{first_in}
 use Rattle.rhai_machine.specs.language.Runs.{at, Runs, Steps}
 use Rattle.rhai_laws.proofs.AssignedLaws.{goes_on}
 use Rattle.rhai_laws.proofs.MemoryLaws.{straight}
 use Rattle.rhai_laws.proofs.RootLaws.{assigns_from_root}
-use Rattle.rhai_laws.proofs.WantLaws.{wants, with_memory}
-use Rattle.rhai_cycle.specs.Chains.{AsksFirst, MayWalk, StartsFrom, behind_resolves}
-use Rattle.rhai_cycle.proofs.ChainLemmas.{may_walk, root_resolves, target_parts}
+use Rattle.rhai_laws.proofs.ScriptMemory.{memory_unwinds, with_memory}
+use Rattle.rhai_eval_core.specs.Chains.{AsksFirst, MayWalk, StartsFrom, behind_resolves}
+use Rattle.rhai_eval_core.proofs.ChainLemmas.{may_walk, root_resolves, target_parts}
 use Rattle.rhai_eval.specs.Chains.{AssignsAlong, chain_of, chain_resolves, chain_with, whole_chain}
 
 -- what the run of a chain relies on
@@ -65,7 +65,8 @@ module _ {S H : Type 0} (rules : Rules S H) where
       first_in (out-Expr e) ≡ Some root → code ≡ given → OnOk r (AsksFirst rules (chain_on root (out-Expr e) code) old) →
       OnOk r (AsksFirst rules (chain_of e given) old)
   asks_over_root e root code given old r starts same asks =
-      subst (λ (x : Expr). OnOk r (AsksFirst rules (chain_on x (out-Expr e) given) old)) (sym (ap (λ (o : Option Expr). unwrap_or o e) starts))
+      subst (λ (x : Expr). OnOk r (AsksFirst rules (chain_on x (out-Expr e) given) old)) (sym
+      (ap (λ (o : Option Expr). unwrap_or o e) starts))
       (subst (λ (n : Option (NewValue H)). OnOk r (AsksFirst rules (chain_on root (out-Expr e) n) old)) same asks)
 
   -- what is assigned to a chain without an operator stands where the chain led, by the law of such runs
@@ -76,7 +77,7 @@ module _ {S H : Type 0} (rules : Rules S H) where
   chain_assigns e (Some n) old new (Ok v) runs asks =
       let comes : Reaches (machine rules) (cut rules) (at (whole_chain e (Some n)) [] old)
       (at (ChainRoot (chain_with e n asks.0)) [] asks.1) =
-      straight (machine rules) (cut rules) IsWanting (wants rules) asks.2 (λ is. (let no = is.1 in cc)) in
+      straight (machine rules) (cut rules) IsOutOfMemory (memory_unwinds rules) asks.2 (λ is. (let no = is.1 in cc)) in
       let goes = goes_on (machine rules) (cut rules) comes (with_memory rules (Ok v) new tt (runs [])) refl in
       (asks.0, asks.1, (comes, λ path given. assigns_from_root rules (cut rules) (chain_with e n asks.0) n path v asks.1 new goes given))
   chain_assigns e None old new (Ok v) runs asks = tt

@@ -9,20 +9,21 @@ use Rattle.rhai_state.specs.declared.error.EvalAltResult.{EvalAltResult}
 use Rattle.rhai_state.specs.declared.error.EvalAltResult.TheVariants as error
 use Rattle.rhai_state.specs.Errors.{is_out_of_memory}
 use Rattle.rhai_functions.specs.declared.function.Function.{Function}
-use Rattle.rhai_machine.specs.machine.Memory.{here, wanting, ◌⨾◌}
+use Rattle.rhai_machine.specs.machine.Memory.{here, out_before_step, ◌⨾◌}
 use Rattle.rhai_machine.specs.language.Setting.{Rules}
 use Rattle.rhai_machine.specs.language.State.{Local, State}
-use Rattle.rhai_machine.specs.language.Activations.{NoObject}
-use Rattle.rhai_machine.specs.language.Frames.{Operation, Lender, FromFocus, Dispatch, Call, Control, EnterFunction, EnterOnFocus, Frame, Core, Fail}
-use Rattle.rhai_machine.specs.language.Frames.{ended, marked}
+use Rattle.rhai_machine.specs.language.Activations.{NoThis}
+use Rattle.rhai_machine.specs.language.Frames.{Operation, Lender, FromFocus, Dispatch, Call, Control, EnterFunction, EnterOnFocus, Frame}
+use Rattle.rhai_machine.specs.language.Frames.{Core, Fail}
+use Rattle.rhai_machine.specs.language.Frames.{ended, ended_or_changed}
 use Rattle.rhai_machine.specs.language.Calls.{args_given, dispatch_core, enter_core, entry_of}
 use Rattle.rhai_machine.specs.language.Runs.{at, with_core, Goes, Runs, Steps}
 use Rattle.rhai_calls.specs.declared.dispatch.Dispatched.{Dispatched}
 use Rattle.rhai_calls.specs.declared.dispatch.Dispatched.TheVariants as dispatched
 use Rattle.rhai_calls.specs.Dispatch.{Dispatches}
 use Rattle.rhai_calls.specs.Lending.{passed_call}
-use Rattle.rhai_calls.specs.Marks.{with_mark, MarkedRuns}
-use Rattle.rhai_steps.specs.Marked.{RunsFrom}
+use Rattle.rhai_calls.specs.ToldChanges.{with_changed, MarkedRuns}
+use Rattle.rhai_steps.specs.OnFocus.{RunsFrom}
 use Rattle.rhai_methods.specs.Methods.{IsEntered}
 use Rattle.rhai_methods.specs.declared.calls.MethodCall.{MethodCall}
 use Rattle.rhai_methods.specs.declared.calls.MethodCall.TheVariants as method
@@ -53,38 +54,38 @@ pub none_left : {A : Type 0} (list items : List A) → list ≡ [] → take (len
 none_left list items is = rw is refl
 
 -- what changed nothing ends as it would by itself
-unmarked_ends : {H : Type 0} (r : Result (Dynamic H) (EvalAltResult H)) → marked (with_mark false r) ≡ ended r
-unmarked_ends (Ok v) = refl
-unmarked_ends (Err e) = refl
+unchanged_result_ends : {H : Type 0} (r : Result (Dynamic H) (EvalAltResult H)) → ended_or_changed (with_changed false r) ≡ ended r
+unchanged_result_ends (Ok v) = refl
+unchanged_result_ends (Err e) = refl
 
 module _ {S H : Type 0} (rules : Rules S H) where
-  -- what runs to a value or an error comes back without a mark
-  pub runs_unmarked : (c : Control H) (old new : State S H) (r : Result (Dynamic H) (EvalAltResult H))
-      (q : Result (Dynamic H × Bool) (EvalAltResult H)) → q ≡ with_mark false r → Runs rules c old r new → MarkedRuns rules c old q new
-  runs_unmarked c old new r q is runs = rw (is, unmarked_ends r) runs
+  -- what runs to a value or an error comes back as one that changed no first argument
+  pub runs_unchanged : (c : Control H) (old new : State S H) (r : Result (Dynamic H) (EvalAltResult H))
+      (q : Result (Dynamic H × Bool) (EvalAltResult H)) → q ≡ with_changed false r → Runs rules c old r new → MarkedRuns rules c old q new
+  runs_unchanged c old new r q is runs = rw (is, unchanged_result_ends r) runs
 
   -- ---- a function that was found
 
   -- memory runs out where something begins
-  wants_at : (c : Control H) (k : List (Frame H)) (s : State S H) (e : EvalAltResult H) → is_out_of_memory e ≡ true →
+  control_runs_out : (c : Control H) (k : List (Frame H)) (s : State S H) (e : EvalAltResult H) → is_out_of_memory e ≡ true →
       Goes rules (at c k s) (at (Fail e) k s)
-  wants_at c k s (error.ErrorOutOfMemory p) is = wanting {at = p} here
-  wants_at c k s e is = cc
+  control_runs_out c k s (error.ErrorOutOfMemory p) is = out_before_step {at = p} here
+  control_runs_out c k s e is = cc
 
   module _ (is_fresh : Bool) (pos : Position) (f : Function H) (args : List (Dynamic H)) (k : List (Frame H)) (s : State S H) where
     -- it is entered on the value that the call works on, or memory runs out before
     enters_on : (x : MethodCall H) → IsEntered x (method.OnTarget f args) →
         Goes rules (at (EnterOnFocus f is_fresh args pos) k s) (with_core (came_to is_fresh pos x k s.local) s)
-    enters_on (method.Ended (Err e)) is = wants_at (EnterOnFocus f is_fresh args pos) k s e is
+    enters_on (method.Ended (Err e)) is = control_runs_out (EnterOnFocus f is_fresh args pos) k s e is
     enters_on x is = subst (λ (y : MethodCall H).
         Goes rules (at (EnterOnFocus f is_fresh args pos) k s) (with_core (came_to is_fresh pos y k s.local) s)) (sym is) here
 
     -- or by itself
     enters_alone : (x : MethodCall H) → IsEntered x (method.Alone f args) →
-        Goes rules (at (EnterFunction (entry_of f NoObject is_fresh args pos s.local)) k s) (with_core (came_to is_fresh pos x k s.local) s)
-    enters_alone (method.Ended (Err e)) is = wants_at (EnterFunction (entry_of f NoObject is_fresh args pos s.local)) k s e is
+        Goes rules (at (EnterFunction (entry_of f NoThis is_fresh args pos s.local)) k s) (with_core (came_to is_fresh pos x k s.local) s)
+    enters_alone (method.Ended (Err e)) is = control_runs_out (EnterFunction (entry_of f NoThis is_fresh args pos s.local)) k s e is
     enters_alone x is = subst (λ (y : MethodCall H).
-        Goes rules (at (EnterFunction (entry_of f NoObject is_fresh args pos s.local)) k s)
+        Goes rules (at (EnterFunction (entry_of f NoThis is_fresh args pos s.local)) k s)
         (with_core (came_to is_fresh pos y k s.local) s)) (sym is) here
 
   module _ (operation : Operation) (lender : Option Lender) (guarded on_scope : Bool) (first : Dynamic H) (rest : List (Dynamic H)) where
@@ -145,7 +146,8 @@ module _ {S H : Type 0} (rules : Rules S H) where
         Dispatches rules (by_name of_method on_scope) (passed operation None guarded on_scope first rest) old d new →
         ComesTo (not on_scope) operation.at rules
         (dispatch_core rules.setting (by_name false on_scope) (by_value operation (Some first) rest)) old (method.Ended r) new
-    value_ended r is none runs = call_ended (by_name false on_scope) (passed operation None false on_scope first rest) old new (not on_scope)
+    value_ended r is none runs = call_ended (by_name false on_scope) (passed operation None false on_scope first rest) old
+        new (not on_scope)
         operation.at r (rw (is, is_guarded, none, (none_lends is_ref of_method none).1) at runs)
 
     pub value_found : (f : Function H) (call : MethodCall H) → d ≡ dispatched.Found f → (is_ref || of_method) ≡ false →
@@ -212,8 +214,8 @@ module _ {S H : Type 0} (rules : Rules S H) where
 
     -- and a function that is entered runs to its end
     pub entered_runs : (f : Function H) (args : List (Dynamic H)) (old new : State S H) (r : Result (Dynamic H) (EvalAltResult H))
-        (q : Result (Dynamic H × Bool) (EvalAltResult H)) → outcome ≡ Enters f args → q ≡ with_mark false r →
-        Runs rules (EnterFunction (entry_of f NoObject is_fresh args pos old.local)) old r new →
+        (q : Result (Dynamic H × Bool) (EvalAltResult H)) → outcome ≡ Enters f args → q ≡ with_changed false r →
+        Runs rules (EnterFunction (entry_of f NoThis is_fresh args pos old.local)) old r new →
         RunsFrom rules (came_out is_fresh pos outcome) old q new
     unfolding RunsFrom Steps
-    entered_runs f args old new r q enters is runs k = rw (enters, is, unmarked_ends r) (runs k)
+    entered_runs f args old new r q enters is runs k = rw (enters, is, unchanged_result_ends r) (runs k)

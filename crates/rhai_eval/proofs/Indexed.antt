@@ -4,19 +4,19 @@ use Rattle.rhai_tree.specs.declared.position.Position.{Position}
 use Rattle.rhai_values.specs.declared.base.value.Dynamic.{Dynamic}
 use Rattle.rhai_state.specs.declared.error.EvalAltResult.{EvalAltResult}
 use Rattle.rhai_state.specs.declared.error.EvalAltResult.TheVariants as error
-use Rattle.rhai_machine.specs.machine.Memory.{here, wanting}
+use Rattle.rhai_machine.specs.machine.Memory.{here, out_before_step}
 use Rattle.rhai_machine.specs.language.Setting.{Rules}
 use Rattle.rhai_machine.specs.language.State.{State}
-use Rattle.rhai_machine.specs.language.Frames.{Call, ended, marked, Ask, Fail}
+use Rattle.rhai_machine.specs.language.Frames.{Call, ended, ended_or_changed, Ask, Fail}
 use Rattle.rhai_machine.specs.language.Members.{focus_of, get_core, get_item, set_core, set_item}
 use Rattle.rhai_machine.specs.language.Runs.{Runs, Steps}
 use Rattle.rhai_laws.specs.Kept.{Kept}
 use Rattle.rhai_laws.proofs.KeptLaws.{kept}
-use Rattle.rhai_laws.proofs.WantLaws.{runs_up_to_memory, steps_with_memory}
-use Rattle.rhai_calls.specs.Marks.{MarkedRuns}
-use Rattle.rhai_eval.specs.Ends.{EndsFrom, EndsMarked}
+use Rattle.rhai_laws.proofs.ScriptMemory.{runs_up_to_memory, steps_with_memory}
+use Rattle.rhai_calls.specs.ToldChanges.{MarkedRuns}
+use Rattle.rhai_eval.specs.Ends.{EndsFrom, EndsChanged}
 use Rattle.rhai_eval.specs.Indexing.{item_by}
-use Rattle.rhai_eval.proofs.Marked.{ends_marked}
+use Rattle.rhai_eval.proofs.ChangedCalls.{ends_changed}
 
 -- a list of two items, each known
 pub both_are : {A : Type 0} (xs : List A) (a b x y : A) → xs ≡ a ∷ b ∷ [] → a ≡ x → b ≡ y → xs ≡ x ∷ y ∷ []
@@ -24,9 +24,9 @@ both_are xs a b x y is first second = rw (first, second) at is
 
 module _ {S H : Type 0} (rules : Rules S H) where
   -- memory runs out before an indexer is asked
-  pub wants_asking : (call : Call H) (s : State S H) (pos : Position) → Steps rules (Ask call) s (Fail (error.ErrorOutOfMemory pos)) s
+  pub asking_runs_out : (call : Call H) (s : State S H) (pos : Position) → Steps rules (Ask call) s (Fail (error.ErrorOutOfMemory pos)) s
   unfolding Steps
-  wants_asking call s pos k = wanting {at = pos} here
+  asking_runs_out call s pos k = out_before_step {at = pos} here
 
   module _ (index : Dynamic H) (pos : Position) (old new : State S H) where
     module _ (r : Result (Dynamic H) (EvalAltResult H)) (runs : Runs rules (Ask (get_item pos (focus_of old.local) index)) old r new) where
@@ -44,9 +44,9 @@ module _ {S H : Type 0} (rules : Rules S H) where
     module _ (guarded : Bool) (v : Dynamic H) (r : Result (Dynamic H × Bool) (EvalAltResult H))
         (runs : MarkedRuns rules (Ask (set_item pos guarded (focus_of old.local) index v)) old r new) where
       -- and one that is set
-      pub set_ends : EndsMarked rules (set_core false (item_by index pos guarded) v) old r new
+      pub set_ends : EndsChanged rules (set_core false (item_by index pos guarded) v) old r new
       unfolding Steps
-      set_ends = ends_marked rules old new r (set_core false (item_by index pos guarded) v) runs
+      set_ends = ends_changed rules old new r (set_core false (item_by index pos guarded) v) runs
 
       pub set_kept : Kept rules old new
-      set_kept = kept rules (Ask (set_item pos guarded (focus_of old.local) index v)) (marked r) old new tt runs
+      set_kept = kept rules (Ask (set_item pos guarded (focus_of old.local) index v)) (ended_or_changed r) old new tt runs

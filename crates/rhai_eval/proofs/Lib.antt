@@ -4,7 +4,7 @@ mod Chained
 mod Dispatching
 mod Emptied
 mod Indexed
-mod Marked
+mod ChangedCalls
 mod NamedCalls
 mod OnTargets
 mod Public

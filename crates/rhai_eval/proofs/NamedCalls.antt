@@ -12,7 +12,7 @@ use Rattle.rhai_machine.specs.language.Frames.{Operation}
 use Rattle.rhai_machine.specs.language.Calls.{dispatch_core}
 use Rattle.rhai_laws.specs.Kept.{Kept}
 use Rattle.rhai_steps.specs.States.{state_of}
-use Rattle.rhai_eval.specs.Ends.{EndsMarked}
+use Rattle.rhai_eval.specs.Ends.{EndsChanged}
 use Rattle.rhai_eval.specs.Places.{by_name, by_value, on_place, with_place}
 
 module _ {S H : Type 0} (rules : Rules S H) (operation : Operation) (rest : List (Dynamic H)) (t u : S) (g h : GlobalRuntimeState H)
@@ -21,13 +21,13 @@ module _ {S H : Type 0} (rules : Rules S H) (operation : Operation) (rest : List
   abbrev pub LentTold : (of_method : Bool) (this : Option (Dynamic H)) (scope left : Option (Scope H)) (first after : Option (Dynamic H)) →
       Type 0
   LentTold of_method this scope left first after =
-      EndsMarked rules (dispatch_core rules.setting (by_name of_method (is_some scope)) (on_place operation true first rest))
+      EndsChanged rules (dispatch_core rules.setting (by_name of_method (is_some scope)) (on_place operation true first rest))
       (state_of t g (unwrap_or scope variables) (with_place this first)) r (state_of u h (unwrap_or left variables) (with_place this after))
 
   -- with one by value
   abbrev pub ValueTold : (held : Held H) (scope left : Option (Scope H)) (first : Option (Dynamic H)) → Type 0
   ValueTold held scope left first =
-      EndsMarked rules (dispatch_core rules.setting (by_name false (is_some scope)) (by_value operation first rest))
+      EndsChanged rules (dispatch_core rules.setting (by_name false (is_some scope)) (by_value operation first rest))
       (state_of t g (unwrap_or scope variables) held) r (state_of u h (unwrap_or left variables) held)
 
   -- what it keeps

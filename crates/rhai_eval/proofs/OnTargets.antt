@@ -10,23 +10,23 @@ use Rattle.rhai_places.specs.Targets.{shown}
 use Rattle.rhai_machine.specs.language.Setting.{Setting, Rules}
 use Rattle.rhai_machine.specs.language.State.{HasMemory, Local, State}
 use Rattle.rhai_machine.specs.machine.Memory.{◌⨾◌}
-use Rattle.rhai_machine.specs.language.Frames.{Core, Frame, marked, PartMethod}
+use Rattle.rhai_machine.specs.language.Frames.{Core, Frame, ended_or_changed, PartMethod}
 use Rattle.rhai_machine.specs.language.Members.{focused_on}
 use Rattle.rhai_machine.specs.language.Methods.{Method, method_core}
 use Rattle.rhai_laws.specs.Kept.{Kept}
 use Rattle.rhai_laws.proofs.Keeping.{Asked, Keeps, calm, quiet, through}
 use Rattle.rhai_laws.proofs.KeptLaws.{kept_from}
 use Rattle.rhai_laws.proofs.KeptMethods.{method_keeps}
-use Rattle.rhai_steps.specs.Marked.{RunsFrom}
-use Rattle.rhai_methods.specs.Targets.{ComesBack, on_target, waiting}
+use Rattle.rhai_steps.specs.OnFocus.{RunsFrom}
+use Rattle.rhai_methods.specs.Targets.{ComesBack, on_target, frames_waiting}
 use Rattle.rhai_methods.proofs.TargetLemmas.{answer_comes}
-use Rattle.rhai_eval.specs.Ends.{EndsAlone, EndsMarked}
-use Rattle.rhai_eval.proofs.Marked.{ends_marked}
+use Rattle.rhai_eval.specs.Ends.{EndsAlone, EndsChanged}
+use Rattle.rhai_eval.proofs.ChangedCalls.{ends_changed}
 
 module _ {H : Type 0} (a : Asked) where
   -- what waits for a part changes nothing of what is kept
   waiting_keeps : (what : Part H) (place : Dynamic H) (at : Position) (k : List (Frame H)) (l : Local H) →
-      Keeps a (calm k l) (calm (waiting what place at k) l)
+      Keeps a (calm k l) (calm (frames_waiting what place at k) l)
   waiting_keeps part.Whole place at k l = quiet a tt refl (λ h. h)
   waiting_keeps (part.Temporary v) place at k l = quiet a tt refl (λ h. h)
   waiting_keeps (part.Of spot v) place at k l = quiet a tt refl (λ h. h)
@@ -35,20 +35,20 @@ module _ {H : Type 0} (a : Asked) where
   begin_keeps : (s : Setting H) (method : Method) (args : List (Dynamic H)) (what : Part H) (place : Dynamic H) (k : List (Frame H))
       (l : Local H) → Keeps a (calm k l) (on_target s method args what place k l)
   begin_keeps s method args what place k l = through a (waiting_keeps what place method.at k l)
-      (method_keeps a s method args (shown what place) (waiting what place method.at k) l)
+      (method_keeps a s method args (shown what place) (frames_waiting what place method.at k) l)
 
 module _ {S H : Type 0} (rules : Rules S H) (method : Method) (args : List (Dynamic H)) (what : Part H) (place : Dynamic H)
     (old new : State S H) (r : Result (Dynamic H × Bool) (EvalAltResult H))
     (runs : RunsFrom rules (on_target rules.setting method args what place) old r new) where
   -- over any stack it ends as it runs
-  pub target_ends : EndsMarked rules (on_target rules.setting method args what place) old r new
+  pub target_ends : EndsChanged rules (on_target rules.setting method args what place) old r new
   unfolding RunsFrom
-  target_ends = ends_marked rules old new r (on_target rules.setting method args what place) runs
+  target_ends = ends_changed rules old new r (on_target rules.setting method args what place) runs
 
   -- and keeps what every run keeps
   pub target_kept : Kept rules old new
   unfolding RunsFrom
-  target_kept = kept_from rules (on_target rules.setting method args what place [] old.local) (marked r) old new
+  target_kept = kept_from rules (on_target rules.setting method args what place [] old.local) (ended_or_changed r) old new
       (λ a. begin_keeps a rules.setting method args what place [] old.local) (runs [])
 
 module _ {S H : Type 0} (rules : Rules S H) (method : Method) (args : List (Dynamic H)) (spot : Spot) (above x y left : Dynamic H)
@@ -81,4 +81,4 @@ pub alone : {S H : Type 0} (rules : Rules S H) (begins : List (Frame H) → Loca
     (answer : Result (Dynamic H × Bool) (EvalAltResult H)) → RunsFrom rules begins old answer new → HasMemory answer →
     EndsAlone rules begins old new
 unfolding RunsFrom
-alone rules begins old new answer runs memory = (answer, (ends_marked rules old new answer begins runs).runs memory [])
+alone rules begins old new answer runs memory = (answer, (ends_changed rules old new answer begins runs).runs memory [])

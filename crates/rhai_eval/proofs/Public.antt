@@ -12,13 +12,13 @@ use Rattle.rhai_machine.specs.language.State.{Held, State}
 use Rattle.rhai_machine.specs.language.Frames.{Control}
 use Rattle.rhai_machine.specs.language.Runs.{Steps, Runs}
 use Rattle.rhai_machine.proofs.LanguageLaws.{script_limits_agree}
-use Rattle.rhai_laws.proofs.WantLaws.{runs_up_to_memory, steps_with_memory}
+use Rattle.rhai_laws.proofs.ScriptMemory.{runs_up_to_memory, steps_with_memory}
 use Rattle.rhai_steps.specs.States.{holding, state_of}
 use Rattle.rhai_context.specs.declared.Context.{Context}
 use Rattle.rhai_context.specs.Ends.{unit}
-use Rattle.rhai_cycle.specs.declared.evaluator.Evaluator.{Evaluator}
-use Rattle.rhai_cycle.specs.States.{offer_of as offered, state_in, under as under_what_is_read}
-use Rattle.rhai_cycle.proofs.Chain.{still_none}
+use Rattle.rhai_eval_core.specs.declared.evaluator.Evaluator.{Evaluator}
+use Rattle.rhai_eval_core.specs.States.{offer_of as offered, state_in, under as under_what_is_read}
+use Rattle.rhai_eval_core.proofs.Chain.{still_none}
 use Rattle.rhai_eval.specs.declared.engine.Engine.{Engine}
 use Rattle.rhai_eval.specs.Ends.{AgreesAbove, EndsAs}
 use Rattle.rhai_eval.specs.States.{limits_of, offer_of, under}
@@ -57,14 +57,22 @@ module _ {S H : Type 0} {read rules : Rules S H} (reads : read ≡ rules) (P : R
     handed_held this held still is holds = rw (gives, variables) (rw (reads, is) at holds)
 
     module _ (bound : is_some left.this ≡ is_some taken.this) where
-      handed : (this ends : Option (Dynamic H)) → taken ≡ record { global = global; scope = scope; this = this; value = unit; error = None; spare = tt } →
+      handed : (this ends : Option (Dynamic H)) → taken ≡ record {
+        global = global;
+        scope = scope;
+        this = this;
+        value = unit;
+        error = None;
+        spare = tt;
+      } →
           left.this ≡ ends → P read (state_in t taken) (state_in u left) →
           P rules (state_of t global scope (holding this)) (state_of u after names (holding ends))
       handed this ends is there holds = rw (gives, variables) (rw (reads, is, there) at holds)
 
       -- where he has no `this`
       pub handed_free : (this ends : Option (Dynamic H)) → this ≡ None → ends ≡ None →
-          taken ≡ record { global = global; scope = scope; this = None; value = unit; error = None; spare = tt } → P read (state_in t taken) (state_in u left) →
+          taken ≡ record { global = global; scope = scope; this = None; value = unit; error = None; spare = tt } →
+          P read (state_in t taken) (state_in u left) →
           P rules (state_of t global scope (holding this)) (state_of u after names (holding ends))
       handed_free this ends none still is holds =
           let there = still_none left.this (bound ∙ ap (λ (run : Context H). is_some run.this) is) in
@@ -72,7 +80,8 @@ module _ {S H : Type 0} {read rules : Rules S H} (reads : read ≡ rules) (P : R
 
       -- and where he has one in a place of his
       pub handed_on : (this ends : Option (Dynamic H)) (v w : Dynamic H) → this ≡ Some v → ends ≡ Some w →
-          taken ≡ record { global = global; scope = scope; this = Some v; value = unit; error = None; spare = tt } → IfSome left.this (λ x. w ≡ x) →
+          taken ≡ record { global = global; scope = scope; this = Some v; value = unit; error = None; spare = tt } →
+          IfSome left.this (λ x. w ≡ x) →
           P read (state_in t taken) (state_in u left) →
           P rules (state_of t global scope (holding this)) (state_of u after names (holding ends))
       handed_on this ends v w some stands is back holds =

@@ -8,25 +8,25 @@ use Rattle.rhai_state.specs.Errors.{is_out_of_memory}
 use Rattle.rhai_machine.specs.machine.Memory.{here, next, ◌⨾◌}
 use Rattle.rhai_machine.specs.machine.Point.{after}
 use Rattle.rhai_machine.specs.language.Setting.{Rules}
-use Rattle.rhai_laws.proofs.WantLaws.{with_memory}
+use Rattle.rhai_laws.proofs.ScriptMemory.{with_memory}
 use Rattle.rhai_machine.specs.language.State.{State}
 use Rattle.rhai_machine.specs.language.Frames.{Enter, Top}
-use Rattle.rhai_machine.specs.language.Unwinding.{topped}
+use Rattle.rhai_machine.specs.language.Unwinding.{script_ended}
 use Rattle.rhai_machine.specs.language.Runs.{Goes, Steps, Runs}
 use Rattle.rhai_machine.specs.language.Script.{EndsAsMachine, AgreesWithHigherLimits, start_of_script, end_of_script}
 use Rattle.rhai_machine.proofs.LanguageLaws.{limits_agree_from}
 
--- where a script's end stands for want of memory, its statements wanted it
+-- where a script ends out of memory, its statements did
 module _ {H : Type 0} (P : Type 0) where
   topped_memory : (map_exit : Bool) (e : EvalAltResult H) → (is_out_of_memory e ≡ true → P) →
-      IfErr (topped map_exit e) (λ x. is_out_of_memory x ≡ true → P)
+      IfErr (script_ended map_exit e) (λ x. is_out_of_memory x ≡ true → P)
   topped_memory map_exit (error.Return v at) kept = tt
   topped_memory true (error.Exit v at) kept = tt
   topped_memory false (error.Exit v at) kept = kept
   topped_memory map_exit _ kept = kept
 
   pub script_memory : (map_exit : Bool) (outcome r : Result (Dynamic H) (EvalAltResult H)) →
-      IfErr outcome (λ e. is_out_of_memory e ≡ true → P) → IfOk outcome (λ v. r ≡ Ok v) → IfErr outcome (λ e. r ≡ topped map_exit e) →
+      IfErr outcome (λ e. is_out_of_memory e ≡ true → P) → IfOk outcome (λ v. r ≡ Ok v) → IfErr outcome (λ e. r ≡ script_ended map_exit e) →
       IfErr r (λ x. is_out_of_memory x ≡ true → P)
   script_memory map_exit (Ok v) r kept value fault = rw value tt
   script_memory map_exit (Err e) r kept value fault = rw fault (topped_memory map_exit e kept)
@@ -35,7 +35,7 @@ module _ {S H : Type 0} (rules : Rules S H)
     (statements : List Stmt) (map_exit : Bool) (old new : State S H) where
   -- the statements, and then the frame of the script's end
   pub script_goes : (outcome r : Result (Dynamic H) (EvalAltResult H)) → Runs rules (Enter statements false) old outcome new →
-      IfOk outcome (λ v. r ≡ Ok v) → IfErr outcome (λ e. r ≡ topped map_exit e) →
+      IfOk outcome (λ v. r ≡ Ok v) → IfErr outcome (λ e. r ≡ script_ended map_exit e) →
       Goes rules (start_of_script statements map_exit old) (end_of_script r new)
   unfolding after Steps
   script_goes (Ok v) r runs value fault = rw value (runs (Top map_exit ∷ []) ⨾ next here)

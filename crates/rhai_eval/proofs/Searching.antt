@@ -11,14 +11,15 @@ use Rattle.rhai_values.specs.declared.base.value.Dynamic.{Dynamic}
 use Rattle.rhai_state.specs.declared.scope.ScopeEntry.{ScopeEntry}
 use Rattle.rhai_state.specs.declared.error.EvalAltResult.{EvalAltResult}
 use Rattle.rhai_state.specs.Errors.{is_out_of_memory}
-use Rattle.rhai_state.specs.Scope.{found_by, in_use}
+use Rattle.rhai_state.specs.Scope.{variable_value, in_use}
 use Rattle.rhai_places.specs.declared.target.Part.TheVariants as part
 use Rattle.rhai_machine.specs.language.Setting.{Globals}
 use Rattle.rhai_machine.specs.language.State.{Surroundings}
 use Rattle.rhai_machine.specs.language.Values.{unit_value}
 use Rattle.rhai_machine.specs.language.Variables.{Variable, variable_named}
 use Rattle.rhai_machine.specs.language.Names.{variable_of}
-use Rattle.rhai_eval.specs.Search.{beside, found_behind, in_place, is_variable, named, searched, value_there, variable_searched, without_path}
+use Rattle.rhai_eval.specs.Search.{beside, found_behind, in_place, is_variable, named, searched, value_there, variable_searched}
+use Rattle.rhai_eval.specs.Search.{without_path}
 use Rattle.rhai_eval.specs.Search.{IsBeside}
 
 module _ {H : Type 0} (searches : Bool) (globals : Globals H) (around : Surroundings H) (entries : List (ScopeEntry H)) where
@@ -35,8 +36,8 @@ module _ {H : Type 0} (searches : Bool) (globals : Globals H) (around : Surround
   pub found_there : (form : ExprLayer) (r : Result (Dynamic H) (EvalAltResult H)) → is_some (value_there searches form entries) ≡ true →
       variable_searched searches form around.cells entries ≡ Some r → searched searches form globals around entries ≡ Some (in_place r)
   found_there (layer.Variable offset name namespace pos) r there is =
-      ap Some (named_there (variable_named name namespace pos) (found_by (in_use searches offset) name entries) there
-      ∙ some_in_place _ (variable_of around.cells name pos (found_by (in_use searches offset) name entries)) r refl is)
+      ap Some (named_there (variable_named name namespace pos) (variable_value (in_use searches offset) name entries) there
+      ∙ some_in_place _ (variable_of around.cells name pos (variable_value (in_use searches offset) name entries)) r refl is)
   found_there _ r there is = cc
 
   -- or refused there
@@ -57,14 +58,16 @@ module _ {H : Type 0} (searches : Bool) (globals : Globals H) (around : Surround
   pub found_beside : (form : ExprLayer) (v : Dynamic H) → is_some (value_there searches form entries) ≡ false →
       IsBeside globals around form (Ok v) → searched searches form globals around entries ≡ Some (Ok (unit_value, part.Temporary v))
   found_beside (layer.Variable offset name namespace pos) v none is =
-      ap Some (named_beside (variable_named name namespace pos) (found_by (in_use searches offset) name entries) none ∙ ap beside (sym (is tt)))
+      ap Some (named_beside (variable_named name namespace pos) (variable_value (in_use searches offset) name entries) none ∙ ap
+      beside (sym (is tt)))
   found_beside _ v none is = absurd is
 
   -- or none
   none_beside : (form : ExprLayer) (e : EvalAltResult H) → is_some (value_there searches form entries) ≡ false →
       IsBeside globals around form (Err e) → is_out_of_memory e ≡ false → searched searches form globals around entries ≡ Some (Err e)
   none_beside (layer.Variable offset name namespace pos) e none is told =
-      ap Some (named_beside (variable_named name namespace pos) (found_by (in_use searches offset) name entries) none ∙ ap beside (sym (is told)))
+      ap Some (named_beside (variable_named name namespace pos) (variable_value (in_use searches offset) name entries) none ∙ ap beside
+      (sym (is told)))
   none_beside _ e none is told = absurd is
 
   pub missed_beside : {A : Type 0} (form : ExprLayer) (r : Result A (EvalAltResult H)) (e : EvalAltResult H) →
@@ -86,7 +89,7 @@ module _ {H : Type 0} (searches : Bool) (globals : Globals H) (around : Surround
   pub found_in_scope : (form : ExprLayer) → is_variable form ≡ true →
       found_behind searches form globals around entries ≡ searched searches form globals around entries
   found_in_scope (layer.Variable offset name namespace pos) is =
-      ap Some (in_scope namespace.path (variable_named name namespace pos) (found_by (in_use searches offset) name entries) is)
+      ap Some (in_scope namespace.path (variable_named name namespace pos) (variable_value (in_use searches offset) name entries) is)
   found_in_scope _ is = cc
 
   in_module : (path : List (List ℕ)) (variable : Variable) (there : Option (Dynamic H)) → is_unqualified path ≡ false →
@@ -98,14 +101,14 @@ module _ {H : Type 0} (searches : Bool) (globals : Globals H) (around : Surround
   pub found_in_module : (form : ExprLayer) (v : Dynamic H) → is_variable form ≡ false → IsBeside globals around form (Ok v) →
       found_behind searches form globals around entries ≡ Some (Ok (unit_value, part.Temporary v))
   found_in_module (layer.Variable offset name namespace pos) v behind is =
-      ap Some (in_module namespace.path (variable_named name namespace pos) (found_by (in_use searches offset) name entries) behind
+      ap Some (in_module namespace.path (variable_named name namespace pos) (variable_value (in_use searches offset) name entries) behind
       ∙ ap beside (sym (is tt)))
   found_in_module _ v behind is = absurd is
 
   none_in_module : (form : ExprLayer) (e : EvalAltResult H) → is_variable form ≡ false → IsBeside globals around form (Err e) →
       is_out_of_memory e ≡ false → found_behind searches form globals around entries ≡ Some (Err e)
   none_in_module (layer.Variable offset name namespace pos) e behind is told =
-      ap Some (in_module namespace.path (variable_named name namespace pos) (found_by (in_use searches offset) name entries) behind
+      ap Some (in_module namespace.path (variable_named name namespace pos) (variable_value (in_use searches offset) name entries) behind
       ∙ ap beside (sym (is told)))
   none_in_module _ e behind is told = absurd is
 

@@ -1,5 +1,6 @@
 -- The variables of a caller behind a function that ran on them.
-use Rattle.std.proofs.Common.{◌≡◌, ◌+◌, ◌++◌, ℕ, Bool, true, false, ◌&&◌, not, IsTrue, List, Option, Result, refl, sym, ap, ◌∙◌, subst, drop, length, take}
+use Rattle.std.proofs.Common.{◌≡◌, ◌+◌, ◌++◌, ℕ, Bool, true, false, ◌&&◌, not, IsTrue, List, Option, Result, refl, sym, ap, ◌∙◌, subst}
+use Rattle.std.proofs.Common.{drop, length, take}
 use Rattle.rhai_tree.specs.declared.function.ScriptFuncDef.{ScriptFuncDef}
 use Rattle.rhai_tree.specs.declared.position.Position.{Position}
 use Rattle.rhai_values.specs.declared.base.value.Dynamic.{Dynamic}
@@ -14,8 +15,8 @@ use Rattle.rhai_machine.specs.language.Bodies.{variables_after, variables_back}
 use Rattle.rhai_machine.specs.language.Frames.{EnterFunction}
 use Rattle.rhai_machine.specs.language.Runs.{Runs}
 use Rattle.rhai_context.specs.declared.Context.{Context}
-use Rattle.rhai_cycle.specs.Bodies.{behind_call, entered}
-use Rattle.rhai_cycle.specs.States.{state_in}
+use Rattle.rhai_eval_core.specs.Bodies.{behind_call, entered}
+use Rattle.rhai_eval_core.specs.States.{state_in}
 
 -- what is left of the variables is what the machine takes back
 pub left_variables : {H : Type 0} (restores : Bool) (scope : List (ScopeEntry H)) (n m : ℕ) (entries left : List (ScopeEntry H)) →
@@ -40,5 +41,6 @@ pub runs_left : {S H : Type 0} (rules : Rules S H) (def : ScriptFuncDef) (enviro
     Runs rules (EnterFunction (entered def environ OwnThis false restores args old.global.level at)) (state_in t old) r
     (state_in u (record middle { scope = left }))
 runs_left rules def environ restores args at t u old middle left r is runs =
-    subst (λ (entries : List (ScopeEntry _)). Runs rules (EnterFunction (entered def environ OwnThis false restores args old.global.level at))
+    subst (λ (entries : List (ScopeEntry _)). Runs rules (EnterFunction (entered def environ OwnThis false restores args
+    old.global.level at))
     (state_in t old) r (record (state_in u middle) { local = record (state_in u middle).local { scope = entries } })) (sym is) runs

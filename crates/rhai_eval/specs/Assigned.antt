@@ -18,18 +18,18 @@ module _ {H : Type 0} where
   without_value (Ok v) = Ok tt
   without_value (Err e) = Err e
 
-  -- and as the machine has it: `()` comes back, marked
+  -- and as the machine has it: `()` comes back as `Changed`
   abbrev pub assigned : Result (Unit {0}) (EvalAltResult H) → Result (Dynamic H × Bool) (EvalAltResult H)
   assigned (Ok done) = Ok (unit_value, true)
   assigned (Err e) = Err e
 
   module _ (s : Setting H) (root : Expr) (new : NewValue H) where
-    -- the focus is assigned to, and `()` comes back, marked; it is not measured then
+    -- the focus is assigned to, and `()` comes back as `Changed`; it is not measured then
     abbrev pub value_assigned : List (Frame H) → Local H → Core H
     value_assigned k l = assign_focus s root new (MemberSet unit_value ∷ k) l
 
-    -- So is what a target shows: the place or the temporary is the focus. A part is one for so long, and goes back into its place once the
-    -- mark comes up; after an error the place is as it was.
+    -- So is what a target shows: the place or the temporary is the focus. A part is one for so long, and goes back into its place once
+    -- `Changed` comes up; after an error the place is as it was.
     abbrev pub target_assigned : Part H → (place : Dynamic H) → List (Frame H) → Local H → Core H
     target_assigned (part.Of at v) place k l = value_assigned (PartMethod place at new.op.position ∷ k) (focused_on (Some v) l)
     target_assigned _ place k l = value_assigned k l

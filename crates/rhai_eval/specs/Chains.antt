@@ -38,10 +38,11 @@ abbrev pub root_of : Expr → Expr
 root_of e = unwrap_or (first_in (out-Expr e)) e
 
 module _ {H : Type 0} where
-  -- what a chain is assigned, if it is
+  -- what a chain is assigned: the value, and how
   abbrev pub assigned_by : Dynamic H × Bor OpAssignment → NewValue H
   assigned_by given = record { op = given.1.now; value = given.0 }
 
+  -- what a chain is assigned, if it is
   abbrev pub assigned_in : Option (Dynamic H × Bor OpAssignment) → Option (NewValue H)
   assigned_in given = option_map assigned_by given
 

@@ -6,6 +6,7 @@ use Rattle.rhai_places.specs.declared.spot.Access.{Access}
 use Rattle.rhai_machine.specs.language.Frames.{Item, MemberAccess}
 use Rattle.rhai_eval.specs.declared.engine.Engine.{Engine}
 
+-- how an engine has a value indexed: at these positions, and with its own switch for properties that a map has not
 abbrev pub access : {H : Type 0} → Engine H → (idx_pos op_pos : Position) → (add_if_not_found : Bool) → Access
 access engine idx_pos op_pos add = record {
   idx_pos = idx_pos;

@@ -1,5 +1,5 @@
 pub mod Assigned
-pub mod Calls
+pub mod ArgumentValues
 pub mod Chains
 pub mod Ends
 pub mod Entering

@@ -8,11 +8,12 @@ use Rattle.rhai_machine.specs.language.Variables.{no_path}
 use Rattle.rhai_machine.specs.language.Frames.{Operation, FromFocus, Call, Dispatch}
 use Rattle.rhai_calls.specs.Lending.{passed_call}
 
--- what an optional place of the caller has, and what it has as its loan ends
-abbrev pub was_of : {A : Type 0} → Option (MutBor A) → Option A
-was_of None = None
-was_of (Some place) = Some place.now
+-- what an optional place of the caller has as it is lent
+abbrev pub loan_start : {A : Type 0} → Option (MutBor A) → Option A
+loan_start None = None
+loan_start (Some place) = Some place.now
 
+-- what such a place has as its loan ends
 abbrev pub left_of : {A : Type 0} → Unit {0} ⊎ ((MutBor A × Unit {0}) ⊎ ⊥) → Option A
 left_of (inl _) = None
 left_of (inr (inl place)) = Some place.0.now
@@ -27,7 +28,7 @@ module _ {H : Type 0} where
   abbrev pub with_place : (this place : Option (Dynamic H)) → Held H
   with_place this place = record { this = this; focus = place }
 
-  -- a call that marks its answer, on a value in such a place or without arguments
+  -- a call that says whether it changed its first argument, on a value in such a place or without arguments
   abbrev pub on_place : Operation → (guarded : Bool) → (first : Option (Dynamic H)) → (rest : List (Dynamic H)) → Call H
   on_place operation guarded (Some v) rest = passed_call operation (Some FromFocus) guarded true (v ∷ rest)
   on_place operation guarded None rest = passed_call operation None false true []

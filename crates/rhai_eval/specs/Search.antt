@@ -12,7 +12,7 @@ use Rattle.rhai_values.specs.declared.base.value.Import.{Import, out-Import}
 use Rattle.rhai_values.specs.declared.base.value.Module.{Module}
 use Rattle.rhai_state.specs.declared.scope.ScopeEntry.{ScopeEntry}
 use Rattle.rhai_state.specs.declared.error.EvalAltResult.{EvalAltResult}
-use Rattle.rhai_state.specs.Scope.{found_by, in_use}
+use Rattle.rhai_state.specs.Scope.{variable_value, in_use}
 use Rattle.rhai_functions.specs.Namespaces.{root_in}
 use Rattle.rhai_places.specs.declared.target.Part.{Part}
 use Rattle.rhai_places.specs.declared.target.Part.TheVariants as part
@@ -37,7 +37,7 @@ module _ {H : Type 0} where
   -- that it is another's; nothing for other expressions
   abbrev pub variable_searched : Bool → ExprLayer → Cells H → List (ScopeEntry H) → Option (Result (Dynamic H) (EvalAltResult H))
   variable_searched searches (layer.Variable offset name namespace pos) cells entries =
-      Some (variable_of cells name pos (found_by (in_use searches offset) name entries))
+      Some (variable_of cells name pos (variable_value (in_use searches offset) name entries))
   variable_searched searches _ cells entries = None
 
   -- what is found of a variable: its place, all of which is shown
@@ -59,7 +59,7 @@ module _ {H : Type 0} where
   abbrev pub searched : Bool → ExprLayer → Globals H → Surroundings H → List (ScopeEntry H) →
       Option (Result (Dynamic H × Part H) (EvalAltResult H))
   searched searches (layer.Variable offset name namespace pos) globals around entries = Some
-      (named globals around (variable_named name namespace pos) (found_by (in_use searches offset) name entries))
+      (named globals around (variable_named name namespace pos) (variable_value (in_use searches offset) name entries))
   searched searches _ globals around entries = None
 
   -- what the scope has of a name stands there for a name without a path alone
@@ -72,9 +72,10 @@ module _ {H : Type 0} where
       Option (Result (Dynamic H × Part H) (EvalAltResult H))
   found_behind searches (layer.Variable offset name namespace pos) globals around entries = Some
       (named globals around (variable_named name namespace pos)
-      (without_path namespace.path (found_by (in_use searches offset) name entries)))
+      (without_path namespace.path (variable_value (in_use searches offset) name entries)))
   found_behind searches _ globals around entries = None
 
+  -- the module of an import
   abbrev pub module_of : Import H → Module H
   module_of i = (out-Import H i).«module»
 
@@ -91,7 +92,7 @@ module _ {H : Type 0} where
 
   -- the value of the variable, if a scope has it
   abbrev pub value_there : Bool → ExprLayer → List (ScopeEntry H) → Option (Dynamic H)
-  value_there searches (layer.Variable offset name namespace pos) entries = found_by (in_use searches offset) name entries
+  value_there searches (layer.Variable offset name namespace pos) entries = variable_value (in_use searches offset) name entries
   value_there searches _ entries = None
 
   -- what comes of reading what a name means that no variable of the scope has

@@ -31,6 +31,7 @@ module _ {H : Type 0} where
     max_string_size = engine.max_string_size;
   }
 
+  -- what a run reads of an engine but its limits: its switches and its modules
   abbrev pub offer_of : Engine H → Offer H
   offer_of engine = record {
     fast_operators = engine.fast_operators;

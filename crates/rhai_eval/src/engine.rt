@@ -5,10 +5,10 @@ ghost use Rattle.rhai_state.specs.declared.error.EvalAltResult.TheVariants as er
 ghost use Rattle.rhai_state.specs.Limits.{limit_of};
 ghost use Rattle.rhai_machine.specs.language.Setting.{globals_of};
 ghost use Rattle.rhai_steps.specs.Offers.{globals_in};
-ghost use Rattle.rhai_cycle.specs.States.{offer_of as offered};
+ghost use Rattle.rhai_eval_core.specs.States.{offer_of as offered};
 ghost use Rattle.rhai_eval.specs.States.{limits_of, offer_of, unlimited};
 
-use rhai_cycle::evaluator::Evaluator;
+use rhai_eval_core::evaluator::Evaluator;
 use rhai_functions::function::Offered;
 use rhai_state::error::EvalAltResult;
 use rhai_state::limits::{Limits, operation_limit};
@@ -49,8 +49,8 @@ pub struct Engine<H> {
 }
 
 impl<H: Host> Engine<H> {
-    /// An engine without limits on operations and data, with fast operators and shadowing, and
-    /// without modules.
+    /// Makes an engine without limits on operations and data, with fast operators and shadowing, and without
+    /// modules.
     pub fn new(alloc: Global) -> Engine<H>
         ensures limits { limits_of result ≡ unlimited }
         ensures max_operations { result.max_operations ≡ 0 }
@@ -80,7 +80,7 @@ impl<H: Host> Engine<H> {
         }
     }
 
-    /// What a run reads of the limits. It takes no memory.
+    /// Reads the engine's limits, as a run has them. It takes no memory.
     pub(crate) fn limits(&self) -> Limits
         ensures { result ≡ limits_of self.now }
     {
@@ -95,7 +95,7 @@ impl<H: Host> Engine<H> {
         }
     }
 
-    /// The engine's modules that names lead to.
+    /// Collects the engine's modules that names lead to.
     pub(crate) fn offered(&self) -> Offered<'_, H>
         ensures { globals_in result ≡ globals_of (offer_of self.now) }
     {
@@ -105,7 +105,7 @@ impl<H: Host> Engine<H> {
         }
     }
 
-    /// What a run reads of the engine, with the engine's own limits.
+    /// Builds the evaluator of a run: what a run reads of the engine, with the engine's own limits.
     pub(crate) fn evaluator<'e>(&'e self, alloc: Global, limits: &'e Limits) -> Evaluator<'e, H>
         requires { limits.now ≡ limits_of self.now }
         ensures limits { result.limits.now ≡ limits_of self.now }

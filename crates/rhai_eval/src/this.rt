@@ -11,9 +11,9 @@ use rhai_values::base::value::{Dynamic, Host};
 use std::alloc::Global;
 use std::mem::replace;
 
-/// Takes a caller's values into the state of a run, `this` among them. Empty ones and `()` stay in their places
-/// until `give_back_with`, and whether variables are searched for stays there.
-pub(crate) fn take_with<H: Host>(
+/// Takes a caller's values into the state of a run, `this` among them. Empty ones and `()` stay in their
+/// places until `give_back_with_this`, and whether variables are searched for stays there.
+pub(crate) fn take_with_this<H: Host>(
     alloc: Global,
     global: &mut GlobalRuntimeState<H>,
     scope: &mut Scope<H>,
@@ -37,7 +37,7 @@ pub(crate) fn take_with<H: Host>(
 
 /// Puts the values of a run back in their places, `this` among them. No run changes whether its caller's
 /// variables are searched for.
-pub(crate) fn give_back_with<H: Host>(
+pub(crate) fn give_back_with_this<H: Host>(
     run: Context<H>,
     global: &mut GlobalRuntimeState<H>,
     scope: &mut Scope<H>,

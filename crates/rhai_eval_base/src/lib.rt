@@ -1,5 +1,5 @@
-//! What the evaluator stands on, under one name: values, scopes, the tree and its checker, cells,
-//! the table of natives, and the state of a run. It only shows what the crates below it hold.
+//! What the evaluator stands on, under one name: values, scopes, the tree and its checker, cells, the table
+//! of natives, and the state of a run. It only shows what the crates below it have.
 #![tactic(auto)]
 
 pub mod base;

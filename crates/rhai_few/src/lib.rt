@@ -40,14 +40,14 @@ impl<T> Model for Few<T> {
 }
 
 impl<T> Few<T> {
-    /// The items.
+    /// Lends the items.
     pub fn as_slice(&self) -> &[T]
         ensures { result.now ≡ self.now }
     {
         self.items.as_slice()
     }
 
-    /// The items, to be changed in place.
+    /// Lends the items, to be changed in place.
     pub fn as_mut_slice(&mut self) -> &mut [T]
         ensures* writes_back { sem 𝓛 (Lends (the_row T.row) (Array T.row 0) self.entry result
             (λ w. take (length self.old) (w ++ drop (length w) self.old))) }
@@ -56,14 +56,14 @@ impl<T> Few<T> {
         self.items.as_mut_slice()
     }
 
-    /// How many items there are.
+    /// Counts the items.
     pub fn len(&self) -> usize
         ensures { result ≡ length self.now }
     {
         self.items.len()
     }
 
-    /// Whether there is no item.
+    /// Tells whether there is no item.
     pub fn is_empty(&self) -> bool
         ensures { IsTrue result ↔ (self.now ≡ []) }
     {
@@ -72,7 +72,7 @@ impl<T> Few<T> {
 }
 
 impl<T: MadeWith<Global> + Drop> Few<T> {
-    /// The empty list. It takes no memory.
+    /// Makes the empty list. It takes no memory.
     #[inline(always)]
     pub fn new(alloc: Global) -> Few<T>
         ensures { result ≡ [] }
@@ -82,7 +82,7 @@ impl<T: MadeWith<Global> + Drop> Few<T> {
         }
     }
 
-    /// The same list, without a copy of more than a few items.
+    /// Turns a `Vec` into a list, without a copy of more than a few items.
     pub fn from_vec(items: Vec<T>) -> Few<T>
         ensures { result ≡ items.items }
     {
@@ -91,7 +91,8 @@ impl<T: MadeWith<Global> + Drop> Few<T> {
         }
     }
 
-    /// The same list in memory of its own. Where there is none the list is let go.
+    /// Turns the list into a `Vec`, which has memory of its own. Where there is none the list is
+    /// let go.
     pub fn into_vec(self) -> Result<Vec<T>, AllocError>
         ensures { IfOk result (λ list. list.items ≡ self) }
     {

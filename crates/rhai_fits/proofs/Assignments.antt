@@ -9,16 +9,16 @@ use Rattle.rhai_values.specs.declared.base.value.Union.TheVariants as value
 use Rattle.rhai_values.specs.Cells.{IsNoHandle}
 use Rattle.rhai_values.specs.Modes.{with_mode}
 use Rattle.rhai_state.specs.Native.{Reply, Missing, Gives as Answers, Faults}
-use Rattle.rhai_state.specs.Reach.{Reached}
+use Rattle.rhai_state.specs.ValueContents.{Reached}
 use Rattle.rhai_operators.specs.Answers.{Answer, op_assign_of}
 use Rattle.rhai_machine.specs.language.Setting.{Setting}
 use Rattle.rhai_machine.specs.language.State.{Local}
 use Rattle.rhai_machine.specs.language.Names.{bound_this}
 use Rattle.rhai_machine.specs.language.Places.{Place, Target, is_barred, put, this_target}
 use Rattle.rhai_machine.specs.language.Frames.{Attempt, InPlace, AsValue, Assignment, Update, Frame, Core, core, where_there}
-use Rattle.rhai_machine.specs.language.Calls.{placed_if_none, sized, applied}
+use Rattle.rhai_machine.specs.language.Calls.{with_position, sized, applied}
 use Rattle.rhai_machine.specs.language.Assignment.{native_of, to_this, assignment_move, written_core, done, if_fast, says_missing}
-use Rattle.rhai_machine.specs.language.Assignment.{operation_of, left_in, update_core, assign_core, store_core, store_this, barred_core}
+use Rattle.rhai_machine.specs.language.Assignment.{operation_of, target_left, update_core, assign_core, store_core, store_this, barred_core}
 use Rattle.rhai_machine.specs.language.Assignment.{question_update, changed_core, fault_core, value_core, answered_core, lent_core}
 use Rattle.rhai_machine.specs.language.Assignment.{call_update, fire_update}
 use Rattle.rhai_fits.specs.Contents.{of_update}
@@ -140,14 +140,14 @@ module _ {H : Type 0} (own : H → List Reached) (P : Reached → Type 0) (least
         update_good (op_assign_of u.operator u.target u.operand) _ k l (assign_answers own P least u.operator u.target u.operand) h b
     answered_good InPlace (Answers v) u k l r h t b =
         changed_good (sized s.limits v u.at) u k l (sized_gives own P least s.limits v u.at r) t b
-    answered_good InPlace (Faults e) u k l r h t b = fault_good (says_missing (native_of InPlace u.operator) e) (placed_if_none u.at e) u
+    answered_good InPlace (Faults e) u k l r h t b = fault_good (says_missing (native_of InPlace u.operator) e) (with_position u.at e) u
         k l
         (placed_fits own P least u.at e r) h b
     answered_good AsValue reply u k l r h t b = value_good _ u k l
         (replied_gives own P least s.limits s.host_type reply (Some u.target) (u.operand ∷ []) (operation_of u) false l.around.cells r) b
 
     left_flat : (u : Update H) (left : Option (Dynamic H)) → Flat own P least u.target → FlatMaybe own P least left →
-        Flat own P least (left_in u left)
+        Flat own P least (target_left u left)
     left_flat u (Some v) t h = h
     left_flat u None t h = t
 
@@ -162,10 +162,10 @@ module _ {H : Type 0} (own : H → List Reached) (P : Reached → Type 0) (least
     fault_below true e u k l b = b
     fault_below false e u k l b = b
 
-    starved_below : (attempt : Attempt) (e : EvalAltResult H) (u : Update H) (k : List (Frame H)) (l : Local H) → Below k l →
+    run_out_below : (attempt : Attempt) (e : EvalAltResult H) (u : Update H) (k : List (Frame H)) (l : Local H) → Below k l →
         Below (answered_core s attempt (Faults e) u k l).stack (answered_core s attempt (Faults e) u k l).local
-    starved_below InPlace e u k l b = fault_below (says_missing (native_of InPlace u.operator) e) (placed_if_none u.at e) u k l b
-    starved_below AsValue e u k l b = b
+    run_out_below InPlace e u k l b = fault_below (says_missing (native_of InPlace u.operator) e) (with_position u.at e) u k l b
+    run_out_below AsValue e u k l b = b
 
     call_update_good : (u : Update H) (k : List (Frame H)) (l : Local H) → FitUpdate u → Flat own P least u.target → Below k l →
         Moves own P least (call_update s u k l)
@@ -175,9 +175,9 @@ module _ {H : Type 0} (own : H → List Reached) (P : Reached → Type 0) (least
         first = t;
         rest = (h.1, tt);
       };
-      answered = λ reply left r g. lent_good reply (left_in u left) u k l r h (left_flat u left t g) b;
-      starved = λ e left g. starved_below u.attempt e (record u { target = left_in u left }) k (put u.place (left_in u left) l)
-          (put_below own P least u.place (left_in u left) k l b (left_flat u left t g));
+      answered = λ reply left r g. lent_good reply (target_left u left) u k l r h (left_flat u left t g) b;
+      out_in_native = λ e left g. run_out_below u.attempt e (record u { target = target_left u left }) k (put u.place (target_left u left) l)
+          (put_below own P least u.place (target_left u left) k l b (left_flat u left t g));
     }
 
     fire_by_good : (w : Union H) (u : Update H) (k : List (Frame H)) (l : Local H) → u.target.value ≡ w → FitUpdate u → Below k l →

@@ -10,7 +10,7 @@ use Rattle.rhai_values.specs.declared.base.value.Union.TheVariants as value
 use Rattle.rhai_values.specs.DataSize.{data_sizes}
 use Rattle.rhai_state.specs.declared.error.EvalAltResult.TheVariants as error
 use Rattle.rhai_state.specs.Errors.{is_system}
-use Rattle.rhai_state.specs.Reach.{Reached}
+use Rattle.rhai_state.specs.ValueContents.{Reached}
 use Rattle.rhai_functions.specs.Entering.{parameters}
 use Rattle.rhai_functions.specs.Functions.{FunctionKey}
 use Rattle.rhai_functions.specs.Namespaces.{down, public_in, root_in}
@@ -18,10 +18,10 @@ use Rattle.rhai_machine.specs.language.Setting.{Setting}
 use Rattle.rhai_machine.specs.language.State.{Local}
 use Rattle.rhai_machine.specs.language.Values.{through, unit_value}
 use Rattle.rhai_machine.specs.language.Functions.{Function, key_by}
-use Rattle.rhai_machine.specs.language.Activations.{Object, NoObject, OwnThis, TheFocus, Entered, CallExit, Variables, Caller, UpTo}
+use Rattle.rhai_machine.specs.language.Activations.{ThisFrom, NoThis, OwnThis, TheFocus, Entered, CallExit, Variables, Caller, UpTo}
 use Rattle.rhai_machine.specs.language.Activations.{Without}
 use Rattle.rhai_machine.specs.language.Handles.{focus_of, entered_by, entered}
-use Rattle.rhai_machine.specs.language.Bodies.{back_by, focus_back, variables_before, this_by, with_environ, variables_after, statements_of}
+use Rattle.rhai_machine.specs.language.Bodies.{this_back, focus_back, variables_before, this_by, with_environ, variables_after, statements_of}
 use Rattle.rhai_machine.specs.language.Bodies.{body_core, unless_full, unless_deep, opened_function, variables_back, called_back}
 use Rattle.rhai_machine.specs.language.Bodies.{left_by_error, returned}
 use Rattle.rhai_machine.specs.language.Frames.{Lender, Dispatch, Call, Frame, Core, CallEnd}
@@ -86,8 +86,8 @@ module _ {H : Type 0} (own : H → List Reached) (P : Reached → Type 0) (least
   before_fits true scope h = tt
   before_fits false scope h = h
 
-  this_fits : (object : Object) (l : Local H) → FitLocal own P least l → AllFit own P least (of_maybe (this_by object l))
-  this_fits NoObject l h = tt
+  this_fits : (object : ThisFrom) (l : Local H) → FitLocal own P least l → AllFit own P least (of_maybe (this_by object l))
+  this_fits NoThis l h = tt
   this_fits OwnThis l h = h.this
   this_fits TheFocus l h = h.focus
 
@@ -125,9 +125,9 @@ module _ {H : Type 0} (own : H → List Reached) (P : Reached → Type 0) (least
   after_fits false false scope count h = tt
 
   -- what goes back at the end of a function is what was there
-  call_goes_back : (object : Object) (k : List (Frame H)) (l : Local H) → GoesBack k l.focus l.this →
-      GoesBack k (focus_back object l.focus (this_by object l)) (back_by object l.this (this_by object l))
-  call_goes_back NoObject k l h = h
+  call_goes_back : (object : ThisFrom) (k : List (Frame H)) (l : Local H) → GoesBack k l.focus l.this →
+      GoesBack k (focus_back object l.focus (this_by object l)) (this_back object l.this (this_by object l))
+  call_goes_back NoThis k l h = h
   call_goes_back OwnThis k l h = h
   call_goes_back TheFocus k l h = h
 
@@ -173,16 +173,16 @@ module _ {H : Type 0} (own : H → List Reached) (P : Reached → Type 0) (least
   variables_fit (Without n slots) entries h g = scope_joined own P least (take n entries) (drop (n + slots) entries)
       (scope_taken own P least n entries g) (scope_dropped own P least (n + slots) entries g)
 
-  back_fits : (object : Object) (before now : Option (Dynamic H)) → AllFit own P least (of_maybe before) →
+  back_fits : (object : ThisFrom) (before now : Option (Dynamic H)) → AllFit own P least (of_maybe before) →
       AllFit own P least (of_maybe now) →
-      AllFit own P least (of_maybe (back_by object before now))
-  back_fits NoObject before now h g = h
+      AllFit own P least (of_maybe (this_back object before now))
+  back_fits NoThis before now h g = h
   back_fits OwnThis before now h g = g
   back_fits TheFocus before now h g = h
 
-  focus_back_fits : (object : Object) (before this : Option (Dynamic H)) → AllFit own P least (of_maybe before) →
+  focus_back_fits : (object : ThisFrom) (before this : Option (Dynamic H)) → AllFit own P least (of_maybe before) →
       AllFit own P least (of_maybe this) → AllFit own P least (of_maybe (focus_back object before this))
-  focus_back_fits NoObject before this h g = h
+  focus_back_fits NoThis before this h g = h
   focus_back_fits OwnThis before this h g = h
   focus_back_fits TheFocus before this h g = g
 

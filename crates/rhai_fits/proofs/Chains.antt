@@ -8,7 +8,7 @@ use Rattle.rhai_tree.specs.Positions.{start_of}
 use Rattle.rhai_machine.specs.Types.{Dynamic, EvalAltResult, Expr, out-Expr, Position, Token}
 use Rattle.rhai_values.specs.Cells.{IsNoHandle}
 use Rattle.rhai_values.specs.Layers.{layer_of}
-use Rattle.rhai_state.specs.Reach.{Reached}
+use Rattle.rhai_state.specs.ValueContents.{Reached}
 use Rattle.rhai_places.specs.declared.spot.Spot.{Spot}
 use Rattle.rhai_places.specs.declared.spot.Spot.TheVariants as spot
 use Rattle.rhai_places.specs.Parts.{part_of, value_at}
@@ -80,7 +80,7 @@ module _ {H : Type 0} (own : H → List Reached) (P : Reached → Type 0) (least
     local = with_focus own P least l focus b.local f;
   }
 
-  -- a source that is no handle may be the focus again
+  -- a value above that is no handle may be the focus again
   source_back : (source : Dynamic H) (k : List (Frame H)) (l : Local H) → IsNoHandle source.value → Below k l →
       GoesBack k (Some source) l.this
   source_back source k l s b = goes_back k l.focus (Some source) l.this l.this (λ h. s) (λ h. h) b.back

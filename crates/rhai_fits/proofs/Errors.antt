@@ -1,4 +1,4 @@
--- Errors that hold only what has a property.
+-- Errors that contain only what has a property.
 use Rattle.std.proofs.Common.{◌≡◌, ℕ, List, refl, sym, ◌∙◌, subst, rules}
 use Rattle.std.specs.Prelude.{⊤, Option, Some, None}
 use Rattle.rhai_tree.specs.declared.position.Position.{Position}
@@ -28,9 +28,9 @@ use Rattle.rhai_machine.specs.language.Caught.{thrown, thrown_by}
 use Rattle.rhai_state.specs.declared.error.EvalAltResult.TheViews.{the_lemmas}
 use Rattle.rhai_state.specs.declared.error.FunctionCallError.{FunctionCallError, roll-FunctionCallError}
 use Rattle.rhai_state.specs.Errors.{at_position}
-use Rattle.rhai_state.specs.Reach.{Reached, held_by_error, in_error}
+use Rattle.rhai_state.specs.ValueContents.{Reached, error_contents, in_error}
 use Rattle.rhai_fits.proofs.Properties.{AllHave}
-use Rattle.rhai_fits.proofs.Values.{Fit, fit_held, held_fits}
+use Rattle.rhai_fits.proofs.Values.{Fit, fit_reached, reached_is_fit}
 
 -- each kind of error but that of a call, as it is rolled
 ruleset kinds = (
@@ -65,15 +65,15 @@ ruleset kinds = (
 
 module _ {H : Type 0} (own : H → List Reached) (P : Reached → Type 0) where
   unfoldable pub FitError : EvalAltResult H → Type 0
-  FitError e = AllHave P (held_by_error own e)
+  FitError e = AllHave P (error_contents own e)
 
-  pub error_held : (e : EvalAltResult H) → FitError e → AllHave P (held_by_error own e)
+  pub error_reached : (e : EvalAltResult H) → FitError e → AllHave P (error_contents own e)
   unfolding FitError
-  error_held e h = h
+  error_reached e h = h
 
-  pub held_error : (e : EvalAltResult H) → AllHave P (held_by_error own e) → FitError e
+  pub reached_error : (e : EvalAltResult H) → AllHave P (error_contents own e) → FitError e
   unfolding FitError
-  held_error e h = h
+  reached_error e h = h
 
   -- an error with a value
   abbrev HasValue : EvalAltResult H → Type 0
@@ -86,10 +86,10 @@ module _ {H : Type 0} (own : H → List Reached) (P : Reached → Type 0) where
 
   pub fit_error : (e : EvalAltResult H) → HasValue e → FitError e
   unfolding FitError
-  fit_error (error.ErrorRuntime v at) h = rw (fold_out-EvalAltResult, outs-ErrorRuntime) (fit_held own P v h)
-  fit_error (error.Exit v at) h = rw (fold_out-EvalAltResult, outs-Exit) (fit_held own P v h)
-  fit_error (error.Return v at) h = rw (fold_out-EvalAltResult, outs-Return) (fit_held own P v h)
-  fit_error (error.LoopBreak v is_break at) h = rw (fold_out-EvalAltResult, outs-LoopBreak) (fit_held own P v h)
+  fit_error (error.ErrorRuntime v at) h = rw (fold_out-EvalAltResult, outs-ErrorRuntime) (fit_reached own P v h)
+  fit_error (error.Exit v at) h = rw (fold_out-EvalAltResult, outs-Exit) (fit_reached own P v h)
+  fit_error (error.Return v at) h = rw (fold_out-EvalAltResult, outs-Return) (fit_reached own P v h)
+  fit_error (error.LoopBreak v is_break at) h = rw (fold_out-EvalAltResult, outs-LoopBreak) (fit_reached own P v h)
   fit_error (ErrorInFunctionCall' shape call at) h = absurd h
   fit_error _ h = simp (fold_out-EvalAltResult, the_lemmas) tt
 
@@ -102,32 +102,32 @@ module _ {H : Type 0} (own : H → List Reached) (P : Reached → Type 0) where
 
   pub error_fits : (e : EvalAltResult H) → FitError e → ValueFits e
   unfolding FitError
-  error_fits (error.ErrorRuntime v at) h = held_fits own P v (rw (fold_out-EvalAltResult, outs-ErrorRuntime) at h)
-  error_fits (error.Exit v at) h = held_fits own P v (rw (fold_out-EvalAltResult, outs-Exit) at h)
-  error_fits (error.Return v at) h = held_fits own P v (rw (fold_out-EvalAltResult, outs-Return) at h)
-  error_fits (error.LoopBreak v is_break at) h = held_fits own P v (rw (fold_out-EvalAltResult, outs-LoopBreak) at h)
+  error_fits (error.ErrorRuntime v at) h = reached_is_fit own P v (rw (fold_out-EvalAltResult, outs-ErrorRuntime) at h)
+  error_fits (error.Exit v at) h = reached_is_fit own P v (rw (fold_out-EvalAltResult, outs-Exit) at h)
+  error_fits (error.Return v at) h = reached_is_fit own P v (rw (fold_out-EvalAltResult, outs-Return) at h)
+  error_fits (error.LoopBreak v is_break at) h = reached_is_fit own P v (rw (fold_out-EvalAltResult, outs-LoopBreak) at h)
   error_fits _ h = tt
 
   moved : (pos at : Position) (call : FunctionCallError H) →
       at_position pos (error.ErrorInFunctionCall call at) ≡ error.ErrorInFunctionCall {X1 = H} call pos
   moved pos at call = search (rules, the_lemmas)
 
-  abbrev held_call : FunctionCallError H → List Reached
-  held_call = fold-FunctionCallError H (List Reached) (List Reached) (in_error own) (λ call. call.error)
+  abbrev reached_call : FunctionCallError H → List Reached
+  reached_call = fold-FunctionCallError H (List Reached) (List Reached) (in_error own) (λ call. call.error)
 
-  held_in_call : (call : FunctionCallError H) (at : Position) → held_by_error own (error.ErrorInFunctionCall call at) ≡ held_call call
-  held_in_call call at = rw (fold_out-EvalAltResult, outs-ErrorInFunctionCall) refl
+  reached_in_call : (call : FunctionCallError H) (at : Position) → error_contents own (error.ErrorInFunctionCall call at) ≡ reached_call call
+  reached_in_call call at = rw (fold_out-EvalAltResult, outs-ErrorInFunctionCall) refl
 
   same_layer : (pos : Position) (l : layer.EvalAltResult-F H (EvalAltResult H) (FunctionCallError H)) →
-      held_by_error own (at_position pos (roll-EvalAltResult H l)) ≡ held_by_error own (roll-EvalAltResult H l)
+      error_contents own (at_position pos (roll-EvalAltResult H l)) ≡ error_contents own (roll-EvalAltResult H l)
   same_layer pos (layer.ErrorInFunctionCall call at) =
-      rw (rolls-ErrorInFunctionCall, moved pos at call) (held_in_call call pos ∙ sym (held_in_call call at))
+      rw (rolls-ErrorInFunctionCall, moved pos at call) (reached_in_call call pos ∙ sym (reached_in_call call at))
   same_layer pos _ = simp (kinds, fold_out-EvalAltResult, the_lemmas)
 
   pub fit_at : (pos : Position) (e : EvalAltResult H) → FitError e → FitError (at_position pos e)
   unfolding FitError
   fit_at pos e h =
-      let same = subst (λ e. held_by_error own (at_position pos e) ≡ held_by_error own e) (roll-out-EvalAltResult H e)
+      let same = subst (λ e. error_contents own (at_position pos e) ≡ error_contents own e) (roll-out-EvalAltResult H e)
       (same_layer pos (out-EvalAltResult H e)) in
       subst (AllHave P) (sym same) h
 
@@ -135,7 +135,7 @@ module _ {H : Type 0} (own : H → List Reached) (P : Reached → Type 0) where
   pub fit_in_call : (name source : List ℕ) (e : EvalAltResult H) (at : Position) → FitError e →
       FitError (error.ErrorInFunctionCall {X1 = H} (roll-FunctionCallError H (record { name = name; source = source; error = e })) at)
   unfolding FitError
-  fit_in_call name source e at h = rw (held_in_call, fold-roll-FunctionCallError) h
+  fit_in_call name source e at h = rw (reached_in_call, fold-roll-FunctionCallError) h
 
   -- ---- the value that an error throws
 
@@ -147,10 +147,10 @@ module _ {H : Type 0} (own : H → List Reached) (P : Reached → Type 0) where
   thrown_call = fold-FunctionCallError H (Option (Dynamic H)) (Option (Dynamic H)) thrown_by (λ call. call.error)
 
   abbrev Throws : EvalAltResult H → Type 0
-  Throws e = AllHave P (held_by_error own e) → FitsMaybe (thrown e)
+  Throws e = AllHave P (error_contents own e) → FitsMaybe (thrown e)
 
   abbrev CallThrows : FunctionCallError H → Type 0
-  CallThrows call = AllHave P (held_call call) → FitsMaybe (thrown_call call)
+  CallThrows call = AllHave P (reached_call call) → FitsMaybe (thrown_call call)
 
   abbrev E : Type 0
   E = (e : EvalAltResult H) × Throws e
@@ -161,18 +161,18 @@ module _ {H : Type 0} (own : H → List Reached) (P : Reached → Type 0) where
   abbrev bare : layer.EvalAltResult-F H E C → layer.EvalAltResult-F H (EvalAltResult H) (FunctionCallError H)
   bare = map-EvalAltResult H E C (EvalAltResult H) (FunctionCallError H) (λ e. e.0) (λ e. e.0)
 
-  abbrev held_level : layer.EvalAltResult-F H (EvalAltResult H) (FunctionCallError H) → layer.EvalAltResult-F H (List Reached) (List
+  abbrev reached_level : layer.EvalAltResult-F H (EvalAltResult H) (FunctionCallError H) → layer.EvalAltResult-F H (List Reached) (List
       Reached)
-  held_level = map-EvalAltResult H (EvalAltResult H) (FunctionCallError H) (List Reached) (List Reached) (held_by_error own) held_call
+  reached_level = map-EvalAltResult H (EvalAltResult H) (FunctionCallError H) (List Reached) (List Reached) (error_contents own) reached_call
 
   abbrev thrown_level : layer.EvalAltResult-F H (EvalAltResult H) (FunctionCallError H) → layer.EvalAltResult-F H (Option (Dynamic H))
       (Option (Dynamic H))
   thrown_level = map-EvalAltResult H (EvalAltResult H) (FunctionCallError H) (Option (Dynamic H)) (Option (Dynamic H)) thrown thrown_call
 
-  level_throws : (y : layer.EvalAltResult-F H E C) → AllHave P (in_error own (held_level (bare y))) →
+  level_throws : (y : layer.EvalAltResult-F H E C) → AllHave P (in_error own (reached_level (bare y))) →
       FitsMaybe (thrown_by (thrown_level (bare y)))
   level_throws (layer.ErrorInFunctionCall e at) h = e.1 h
-  level_throws (layer.ErrorRuntime v at) h = held_fits own P v h
+  level_throws (layer.ErrorRuntime v at) h = reached_is_fit own P v h
   level_throws _ h = tt
 
   throws_step : (y : layer.EvalAltResult-F H E C) → Throws (roll-EvalAltResult H (bare y))

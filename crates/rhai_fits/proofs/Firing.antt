@@ -7,14 +7,14 @@ use Rattle.rhai_values.specs.declared.base.value.Union.TheVariants as value
 use Rattle.rhai_values.specs.Cells.{value_of_cell}
 use Rattle.rhai_state.specs.Errors.{at_position, position_of}
 use Rattle.rhai_state.specs.Native.{Reply, Missing, Gives as Answers, Faults}
-use Rattle.rhai_state.specs.Reach.{Reached}
+use Rattle.rhai_state.specs.ValueContents.{Reached}
 use Rattle.rhai_machine.specs.language.Setting.{Setting}
 use Rattle.rhai_machine.specs.language.State.{Local}
 use Rattle.rhai_machine.specs.language.Values.{Cells}
 use Rattle.rhai_machine.specs.language.Places.{Place, InEntry, InCell, InThis, InFocus, is_barred, while_lent}
 use Rattle.rhai_machine.specs.language.Frames.{Operation, Lender, Call, Frame, Core, core}
 use Rattle.rhai_machine.specs.language.Calls.{First, builtin_of, lendable, in_cell, first_in, first_of, while_from, put_left, noted}
-use Rattle.rhai_machine.specs.language.Calls.{answered, placed_if_none, missing, args_left, replied, unknown, property_named, names_indexer}
+use Rattle.rhai_machine.specs.language.Calls.{answered, with_position, missing, args_left, replied, missing_error, property_named, names_indexer}
 use Rattle.rhai_machine.specs.language.Calls.{first_type, types_of, not_found, barred_call, question_first, question_move, call_native}
 use Rattle.rhai_machine.specs.language.Calls.{fire_first, fire_move}
 use Rattle.rhai_fits.specs.Contents.{of_values, of_cells, of_result}
@@ -43,11 +43,11 @@ module _ {H : Type 0} (own : H → List Reached) (P : Reached → Type 0) (least
   if_fits true e f h g = h
   if_fits false e f h g = g
 
-  pub placed_fits : (at : Position) (e : EvalAltResult H) → FitError own P e → FitError own P (placed_if_none at e)
+  pub placed_fits : (at : Position) (e : EvalAltResult H) → FitError own P e → FitError own P (with_position at e)
   placed_fits at e h = if_fits (nat_eq (position_of e).line 0) (at_position at e) e (fit_at own P at e h) h
 
   unknown_fits : (property : Option (List ℕ)) (indexes : Bool) (name first : List ℕ) (types : List (List ℕ)) (at : Position) →
-      FitError own P (unknown {H = H} property indexes name first types at)
+      FitError own P (missing_error {H = H} property indexes name first types at)
   unknown_fits (Some property) indexes name first types at = fit_error own P _ tt
   unknown_fits None true name first types at = fit_error own P _ tt
   unknown_fits None false name first types at = fit_error own P _ tt
@@ -158,7 +158,7 @@ module _ {H : Type 0} (own : H → List Reached) (P : Reached → Type 0) (least
       answered = λ reply left r g. changed_good _ call.marks reply k (put_left from left l)
           (flat_fits own P least _ (replied_gives s.limits s.host_type reply left rest call.operation (is_some call.number)
           (put_left from left l).around.cells r)) (left_below from left k l g b);
-      starved = λ e left g. left_below from left k l g b;
+      out_in_native = λ e left g. left_below from left k l g b;
     }
 
     fired_good : (call : Call H) (rest : List (Dynamic H)) (r : Result (First H) (EvalAltResult H)) (k : List (Frame H)) (l : Local H) →

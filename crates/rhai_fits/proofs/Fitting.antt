@@ -1,17 +1,17 @@
--- Controls, stacks and states that hold only what has a property, and keep bare handles out of cells.
+-- Controls, stacks and states that contain only what has a property, and keep bare handles out of cells.
 use Rattle.std.proofs.Common.{◌≡◌, ◌≤◌, ℕ, zero, suc, List, [], ◌∷◌, ◌++◌, length, take, drop, refl, ap}
 use Rattle.std.specs.Prelude.{⊤, Option, Some, None, Result, Ok, Err, slice_get, slice_set}
 use Rattle.std.specs.Option.{unwrap_or}
 use Rattle.rhai_machine.specs.Types.{Dynamic, EncapsulatedEnviron, out-EncapsulatedEnviron, EvalAltResult, Import, Module, ScopeEntry}
 use Rattle.rhai_values.specs.Cells.{IsNoHandle, value_of_cell}
 use Rattle.rhai_state.specs.Native.{HasNoHandle}
-use Rattle.rhai_state.specs.Reach.{Reached}
+use Rattle.rhai_state.specs.ValueContents.{Reached}
 use Rattle.rhai_places.specs.Paths.{ToPlace, ToCell}
 use Rattle.rhai_machine.specs.language.Setting.{Offer}
 use Rattle.rhai_machine.specs.language.State.{Local}
 use Rattle.rhai_machine.specs.language.Values.{Cells, unit_value}
-use Rattle.rhai_machine.specs.language.Bodies.{back_by, focus_back}
-use Rattle.rhai_machine.specs.language.Activations.{Object, NoObject, OwnThis, TheFocus}
+use Rattle.rhai_machine.specs.language.Bodies.{this_back, focus_back}
+use Rattle.rhai_machine.specs.language.Activations.{ThisFrom, NoThis, OwnThis, TheFocus}
 use Rattle.rhai_machine.specs.language.Frames.{Lender, FromThis, FromEntry, FromFocus, Control, Frame, Core, core, on_value, ended, Back}
 use Rattle.rhai_machine.specs.language.Frames.{Fail, ChainEnd, StepDown, Temporary, PartMethod, PartAssigned, MemberOperated, CallEnd}
 use Rattle.rhai_machine.specs.language.Handles.{focus_of}
@@ -35,14 +35,14 @@ module _ {H : Type 0} where
   after_clean (Some (FromEntry index)) f g t u cf ct = ct
   after_clean (Some FromFocus) f g t u cf ct = ct
 
-  focus_clean : (object : Object) (before t u : Option (Dynamic H)) → Clean t u →
+  focus_clean : (object : ThisFrom) (before t u : Option (Dynamic H)) → Clean t u →
       Clean (focus_back object before t) (focus_back object before u)
-  focus_clean NoObject before t u c = λ h. h
+  focus_clean NoThis before t u c = λ h. h
   focus_clean OwnThis before t u c = λ h. h
   focus_clean TheFocus before t u c = c
 
-  back_clean : (object : Object) (before t u : Option (Dynamic H)) → Clean t u → Clean (back_by object before t) (back_by object before u)
-  back_clean NoObject before t u c = λ h. h
+  back_clean : (object : ThisFrom) (before t u : Option (Dynamic H)) → Clean t u → Clean (this_back object before t) (this_back object before u)
+  back_clean NoThis before t u c = λ h. h
   back_clean OwnThis before t u c = c
   back_clean TheFocus before t u c = λ h. h
 
@@ -58,8 +58,8 @@ module _ {H : Type 0} where
   goes_back (ChainEnd lender outer ∷ k) f g t u cf ct h =
       goes_back k outer outer (this_after lender f t) (this_after lender g u) (λ c. c) (after_clean lender f g t u cf ct) h
   goes_back (CallEnd exit ∷ k) f g t u cf ct h =
-      goes_back k (focus_back exit.object exit.focus t) (focus_back exit.object exit.focus u) (back_by exit.object exit.this t)
-      (back_by exit.object exit.this u) (focus_clean exit.object exit.focus t u ct) (back_clean exit.object exit.this t u ct) h
+      goes_back k (focus_back exit.object exit.focus t) (focus_back exit.object exit.focus u) (this_back exit.object exit.this t)
+      (this_back exit.object exit.this u) (focus_clean exit.object exit.focus t u ct) (back_clean exit.object exit.this t u ct) h
   goes_back (_ ∷ k) f g t u cf ct h = goes_back k f g t u cf ct h
 
   -- the focus, `()` where there is none

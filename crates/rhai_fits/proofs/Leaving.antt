@@ -7,7 +7,7 @@ use Rattle.rhai_values.specs.DataSize.{data_sizes}
 use Rattle.rhai_state.specs.declared.error.EvalAltResult.TheVariants as error
 use Rattle.rhai_state.specs.Errors.{position_of}
 use Rattle.rhai_state.specs.Native.{HasNoHandle}
-use Rattle.rhai_state.specs.Reach.{Reached}
+use Rattle.rhai_state.specs.ValueContents.{Reached}
 use Rattle.rhai_places.specs.declared.spot.Spot.{Spot}
 use Rattle.rhai_places.specs.Parts.{with_value}
 use Rattle.rhai_places.specs.Paths.{Step, ToPlace, ToCell}
@@ -21,7 +21,7 @@ use Rattle.rhai_machine.specs.language.Frames.{PartAssigned, MemberOperated, Cal
 use Rattle.rhai_machine.specs.language.Calls.{sized}
 use Rattle.rhai_machine.specs.language.Caught.{is_unit_seen, raised_if, raised}
 use Rattle.rhai_machine.specs.language.Members.{focus_of, focused_on}
-use Rattle.rhai_machine.specs.language.Unwinding.{ended_chain, restored, topped, measured_part, part_assigned, part_changed, operated_core}
+use Rattle.rhai_machine.specs.language.Unwinding.{ended_chain, restored, script_ended, measured_part, part_assigned, part_changed, operated_core}
 use Rattle.rhai_machine.specs.language.Unwinding.{got_none, temporary_changed}
 use Rattle.rhai_fits.specs.Contents.{of_maybe, of_result, of_member, of_way_back}
 use Rattle.rhai_fits.specs.Sealed.{GoesBack}
@@ -139,7 +139,7 @@ module _ {H : Type 0} (own : H → List Reached) (P : Reached → Type 0) (least
 
   -- ---- errors on their way
 
-  pub topped_fits : (map_exit : Bool) (e : EvalAltResult H) → FitError own P e → AllFit own P least (of_result (topped map_exit e))
+  pub topped_fits : (map_exit : Bool) (e : EvalAltResult H) → FitError own P e → AllFit own P least (of_result (script_ended map_exit e))
   topped_fits map_exit (error.Return v at) h = error_fits own P (error.Return v at) h
   topped_fits true (error.Exit v at) h = error_fits own P (error.Exit v at) h
   topped_fits map_exit e h = h

@@ -1,4 +1,4 @@
--- The value of a literal holds no cell.
+-- The value of a literal contains no cell.
 use Rattle.std.proofs.Common.{ℕ, List, [], ◌∷◌, map, subst}
 use Rattle.std.specs.Prelude.{⊤, Option, Some, None}
 use Rattle.rhai_tree.specs.declared.expr.Expr.TheOpen as expr
@@ -16,13 +16,13 @@ use Rattle.rhai_values.specs.declared.base.value.FnPtrKind.TheVariants as kind
 use Rattle.rhai_values.specs.declared.base.value.FnPtrKind.TheVariants.{outs-Name, outs-Arity, outs-Native}
 use Rattle.rhai_values.specs.declared.base.value.FnPtrKind.TheFolds.{fold_out-FnPtrKind}
 use Rattle.rhai_values.specs.Literals.{leads_to, literal_step, value_of_literal, pointer_of_literal}
-use Rattle.rhai_state.specs.Reach.{Reached}
+use Rattle.rhai_state.specs.ValueContents.{Reached}
 use Rattle.rhai_machine.specs.language.Expressions.{literal_of}
 use Rattle.rhai_fits.proofs.Values.{Fit, Fits, FitPointer, FitKind, fit_array, fit_map, fit_pointer, fit_unit, fit_bool, fit_int, fit_char}
 use Rattle.rhai_fits.proofs.Values.{fit_text, fit_range, fit_inclusive, fit_blob, fit_rolled}
 
 module _ {H : Type 0} (own : H → List Reached) (P : Reached → Type 0) where
-  -- what leads to no function of a script holds nothing
+  -- what leads to no function of a script contains nothing
   pub kind_name : FitKind own P kind.Name
   unfolding FitKind
   kind_name = rw (fold_out-FnPtrKind, outs-Name) tt

@@ -10,12 +10,12 @@ use Rattle.rhai_values.specs.declared.base.value.FnPtrKind.{FnPtrKind, out-FnPtr
 use Rattle.rhai_values.specs.declared.base.value.FnPtrKind.TheOpen as union
 use Rattle.rhai_values.specs.declared.base.value.FnPtrKind.TheVariants as kind
 use Rattle.rhai_values.specs.Copy.{copy_of}
-use Rattle.rhai_state.specs.Reach.{Reached}
+use Rattle.rhai_state.specs.ValueContents.{Reached}
 use Rattle.rhai_functions.specs.Called.{function_of}
 use Rattle.rhai_functions.specs.Functions.{FunctionKey, def_of, first_given, found_in, functions_of, has_key, if_shown, in_imports}
 use Rattle.rhai_functions.specs.Functions.{in_module, in_modules, in_named, is_public, is_shown, last_given, last_of, later_of, shown_in}
-use Rattle.rhai_functions.specs.Namespaces.{constant_among, constant_in, down, if_public, imported, module_in, named_so, public_in, root_in}
-use Rattle.rhai_functions.specs.Qualified.{behind, found_or_missing, from_root, is_global, path_text, qualified, without_root}
+use Rattle.rhai_functions.specs.Namespaces.{constant_among, constant_in, down, if_public, imported, module_in, module_if_named, public_in, root_in}
+use Rattle.rhai_functions.specs.Qualified.{text_behind, found_or_missing, from_root, is_global, path_text, qualified, without_root}
 use Rattle.rhai_machine.specs.Types.{Dynamic, FnPtr, Import, out-Import, Module, out-Module, ModuleFn, out-ModuleFn, Position}
 use Rattle.rhai_machine.specs.language.Arguments.{KindLayer, linked, linked_to, own_function}
 use Rattle.rhai_machine.specs.language.Functions.{Function, found_function, in_libraries, key_by}
@@ -114,14 +114,14 @@ module _ {H : Type 0} (own : H → List Reached) (P : Reached → Type 0) (least
   down_fits [] from h = h
   down_fits (name ∷ path) from h = down_fits path (option_and_then (module_in name) from) (within_fits name from h)
 
-  named_so_fits : (name : List ℕ) (i : Import H) → FitModule own P (out-Import H i).module → There (FitModule own P) (named_so name i)
+  named_so_fits : (name : List ℕ) (i : Import H) → FitModule own P (out-Import H i).module → There (FitModule own P) (module_if_named name i)
   named_so_fits name i h = if_there (FitModule own P) (bytes_eq (out-Import H i).name name) (out-Import H i).module h
 
   root_fits : (name : List ℕ) (imports : List (Import H)) (named : List (List ℕ) × List (Module H)) →
       AllFit own P least (of_imports imports) → AllFit own P least (of_modules named.1) →
       There (FitModule own P) (root_in name imports named)
   root_fits name imports named h g = or_there (FitModule own P) (imported name imports) (value_of name named)
-      (last_fits (FitModule own P) (named_so name) (named_so_fits name) imports h) (module_of_fits name named g)
+      (last_fits (FitModule own P) (module_if_named name) (named_so_fits name) imports h) (module_of_fits name named g)
 
   -- a constant behind a path, or why there is none
   constant_down : (name : List ℕ) (within : Option (Module H)) → There (FitModule own P) within →
@@ -143,9 +143,9 @@ module _ {H : Type 0} (own : H → List Reached) (P : Reached → Type 0) (least
       There (FitModule own P) root → AllFit own P least (of_maybe there) →
       Gives own P least (FitValue own P least) (from_root root there path rest name at)
   from_root_gives (Some root) there path rest name at h g = missing_gives (option_and_then (constant_in name) (down rest (Some root)))
-      (path_text path ++ behind (name ∷ [])) at (constant_down name (down rest (Some root)) (down_fits rest (Some root) h))
+      (path_text path ++ text_behind (name ∷ [])) at (constant_down name (down rest (Some root)) (down_fits rest (Some root) h))
   from_root_gives None there path rest name at h g =
-      rootless_gives (is_global path) there path (path_text path ++ behind (name ∷ [])) at g
+      rootless_gives (is_global path) there path (path_text path ++ text_behind (name ∷ [])) at g
 
   pub qualified_gives : (imports : List (Import H)) (named : List (List ℕ) × List (Module H))
       (constants : List (List ℕ) × List (Dynamic H)) (path : List (List ℕ)) (name : List ℕ) (at : Position) →

@@ -6,9 +6,9 @@ use Rattle.rhai_machine.specs.Types.{Dynamic, EvalAltResult, Module, Position, U
 use Rattle.rhai_values.specs.declared.base.value.Union.TheVariants as value
 use Rattle.rhai_values.specs.Cells.{value_of_cell}
 use Rattle.rhai_values.specs.Copy.{copy_of}
-use Rattle.rhai_state.specs.Reach.{Reached}
+use Rattle.rhai_state.specs.ValueContents.{Reached}
 use Rattle.rhai_state.specs.Scope.{found, index_of}
-use Rattle.rhai_functions.specs.Functions.{named_in}
+use Rattle.rhai_functions.specs.Functions.{arity_in_modules}
 use Rattle.rhai_functions.specs.Namespaces.{constant_among}
 use Rattle.rhai_machine.specs.language.Setting.{Globals}
 use Rattle.rhai_machine.specs.language.State.{Local, Surroundings}
@@ -86,7 +86,7 @@ module _ {H : Type 0} (own : H → List Reached) (P : Reached → Type 0) (least
       AllFit own P least (of_maybe (without_entry globals lib name))
   without_fits globals lib name g = or_fits (option_map copy_of (constant_among name globals.modules)) (meant_function lib name)
       (copy_fits (constant_among name globals.modules) (among_fits own P least name globals.modules g.0))
-      (function_fits name (named_in name lib))
+      (function_fits name (arity_in_modules name lib))
 
   there_gives : (there : Option (Dynamic H)) (name : List ℕ) (at : Position) → AllFit own P least (of_maybe there) →
       Gives own P least (FitValue own P least) (there_or_unknown there name at)

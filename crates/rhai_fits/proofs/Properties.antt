@@ -1,7 +1,7 @@
 -- Lists of what may be reached, all of which has a property.
 use Rattle.std.proofs.Common.{zero, suc, List, [], ◌∷◌, ◌++◌, refl, subst, arith}
 use Rattle.std.specs.Prelude.{⊤, Contains}
-use Rattle.rhai_state.specs.Reach.{Reached}
+use Rattle.rhai_state.specs.ValueContents.{Reached}
 
 module _ (P : Reached → Type 0) where
   -- each of them has the property
@@ -21,7 +21,7 @@ module _ (P : Reached → Type 0) where
   all_right [] b h = h
   all_right (r ∷ a) b h = all_right a b h.1
 
-  -- one of them, by its place
+  -- one of them, by where it stands in the list
   pub all_at : (held : List Reached) (r : Reached) → AllHave held → Contains held r → P r
   all_at [] r h (k, below, is) = absurd (omega (arith, below))
   all_at (s ∷ rest) r h (zero, below, is) = subst P is h.0

@@ -4,7 +4,7 @@ use Rattle.std.specs.Prelude.{⊤, Bool, Some}
 use Rattle.rhai_tree.specs.Positions.{position_of}
 use Rattle.rhai_machine.specs.Types.{Dynamic, EvalAltResult, out-Expr}
 use Rattle.rhai_state.specs.Errors.{is_catchable, is_system}
-use Rattle.rhai_state.specs.Reach.{Reached}
+use Rattle.rhai_state.specs.ValueContents.{Reached}
 use Rattle.rhai_places.specs.PutBack.{put_back}
 use Rattle.rhai_machine.specs.machine.Machine.{Move, Go}
 use Rattle.rhai_machine.specs.language.Setting.{Setting, globals_of}
@@ -34,7 +34,7 @@ use Rattle.rhai_machine.specs.language.Frames.{TextPart, PrintedPart, CallArgume
 use Rattle.rhai_machine.specs.language.Frames.{StepDown, Temporary, PartMethod, PartAssigned, Measured, MethodLink, MemberLink, MemberGot}
 use Rattle.rhai_machine.specs.language.Frames.{MemberOperated, GetterTried, SetterTried, IndexerTried, MemberSet, SwitchValue}
 use Rattle.rhai_machine.specs.language.Frames.{SwitchCondition, ForItems, ForBody, ImportPath, TryBody, CatchBranch, CallEnd}
-use Rattle.rhai_machine.specs.language.Unwinding.{up_core, down_core, marked_core, operated, looked_at, topped}
+use Rattle.rhai_machine.specs.language.Unwinding.{up_core, down_core, changed_up_core, operands_there, as_measured, script_ended}
 use Rattle.rhai_machine.specs.language.Language.{move_at}
 use Rattle.rhai_fits.specs.Contents.{of_values, of_control}
 use Rattle.rhai_fits.specs.Sealed.{ControlSealed}
@@ -57,7 +57,8 @@ use Rattle.rhai_fits.proofs.Chains.{assign_focus_good}
 use Rattle.rhai_fits.proofs.Forms.{met_good, choose_good, walked_good, for_turn_good, item_good, tried_good, share_good, Fresh}
 use Rattle.rhai_fits.proofs.Statements.{enter_good, run_good, item_gives, value_gives, items_good, entries_good, part_good, joined_good}
 use Rattle.rhai_fits.proofs.Statements.{unprinted_good, argument_good, and_next_good, or_next_good, coalesce_next_good, expr_good}
-use Rattle.rhai_fits.proofs.Statements.{while_good, while_core_good, do_good, caught_good, imported_good, chosen_good, defined_good, stmt_good}
+use Rattle.rhai_fits.proofs.Statements.{while_good, while_core_good, do_good, caught_good, imported_good, chosen_good, defined_good}
+use Rattle.rhai_fits.proofs.Statements.{stmt_good}
 use Rattle.rhai_fits.proofs.Leaving.{pop, refocus, left, step_left, topped_fits, raised_fits, sized_any, part_assigned_good}
 use Rattle.rhai_fits.proofs.Leaving.{part_changed_good, operated_good, got_none_good, temporary_good}
 
@@ -88,7 +89,7 @@ module _ {H : Type 0} (own : H → List Reached) (P : Reached → Type 0) (least
         (truth_gives own P least s.host_type l v at b.local f) b (λ x t. g x)
 
   operation_good : (operation : Operation) (args : List (Dynamic H)) (k : List (Frame H)) (l : Local H) → All args → Below k l →
-      Good (operated s operation args k l)
+      Good (operands_there s operation args k l)
   operation_good operation args k l h b = operator_good own P least s (builtin_of operation.token args) (call_of operation args) k l
       o (builtin_fits own P least operation.token args) h b
 
@@ -195,8 +196,8 @@ module _ {H : Type 0} (own : H → List Reached) (P : Reached → Type 0) (least
       (whole_fits own P least above at (focus_of l) b.stack.0) b
   up_good (Measured op_at) v k l f b =
       let c = pop own P least _ k l b.back b in
-      on own P least (Any own P least (Dynamic H)) (sized s.limits (looked_at l.around.cells (focus_of l)) op_at) _ k l
-      (sized_any own P least s (looked_at l.around.cells (focus_of l)) op_at) c (λ x g. to own P least _ k l (fit_unit own P) tt c)
+      on own P least (Any own P least (Dynamic H)) (sized s.limits (as_measured l.around.cells (focus_of l)) op_at) _ k l
+      (sized_any own P least s (as_measured l.around.cells (focus_of l)) op_at) c (λ x g. to own P least _ k l (fit_unit own P) tt c)
   up_good (MethodLink chain) v k l f b = to own P least _ _ _ b.stack.0 b.sealed.0 (record {
     stack = ((b.local.focus, tt), b.stack.1);
     sealed = (tt, b.sealed.1);
@@ -220,26 +221,26 @@ module _ {H : Type 0} (own : H → List Reached) (P : Reached → Type 0) (least
   up_good (MemberSet value) v k l f b = to own P least _ k l b.stack.0 tt (pop own P least _ k l b.back b)
   up_good frame v k l f b = back own P least v k _ f (left own P least frame k l b)
 
-  -- ---- a value comes up that is marked
+  -- ---- a value comes up as `Changed`
 
-  marked_good : (frame : Frame H) (v : Dynamic H) (k : List (Frame H)) (l : Local H) → Fit own P v → Below (frame ∷ k) l →
-      Good (marked_core s frame v k l)
-  marked_good (StepDown above step) v k l f b = to own P least _ k _ f tt (step_left own P least above step k l b)
-  marked_good (Temporary above back) v k l f b = temporary_good own P least s back (focus_of l) v k _ b.stack.0.1
+  comes_changed_good : (frame : Frame H) (v : Dynamic H) (k : List (Frame H)) (l : Local H) → Fit own P v → Below (frame ∷ k) l →
+      Good (changed_up_core s frame v k l)
+  comes_changed_good (StepDown above step) v k l f b = to own P least _ k _ f tt (step_left own P least above step k l b)
+  comes_changed_good (Temporary above back) v k l f b = temporary_good own P least s back (focus_of l) v k _ b.stack.0.1
       (focus_of_fits own P least l b.local) f (refocus own P least _ above k l b.stack.0.0 b.back b)
-  marked_good (PartMethod above at pos) v k l f b = part_changed_good own P least s (put_back above at (focus_of l)) above at pos v k l
+  comes_changed_good (PartMethod above at pos) v k l f b = part_changed_good own P least s (put_back above at (focus_of l)) above at pos v k l
       (whole_fits own P least above at (focus_of l) b.stack.0) f b
-  marked_good (GetterTried access name) v k l f b = to own P least _ k l f tt (pop own P least _ k l b.back b)
-  marked_good (SetterTried access name value ignores) v k l f b = to own P least _ k l f tt (pop own P least _ k l b.back b)
-  marked_good (IndexerTried otherwise) v k l f b = to own P least _ k l f tt (pop own P least _ k l b.back b)
-  marked_good frame v k l f b = back own P least v (frame ∷ k) l f b
+  comes_changed_good (GetterTried access name) v k l f b = to own P least _ k l f tt (pop own P least _ k l b.back b)
+  comes_changed_good (SetterTried access name value ignores) v k l f b = to own P least _ k l f tt (pop own P least _ k l b.back b)
+  comes_changed_good (IndexerTried otherwise) v k l f b = to own P least _ k l f tt (pop own P least _ k l b.back b)
+  comes_changed_good frame v k l f b = back own P least v (frame ∷ k) l f b
 
   -- ---- an error comes down
 
   down_good : (frame : Frame H) (e : EvalAltResult H) (k : List (Frame H)) (l : Local H) → FitError own P e → Below (frame ∷ k) l →
       Good (down_core s frame e k l)
   down_good (Top map_exit) e k l h b =
-      ended_fits own P least (topped map_exit e) k l (topped_fits own P least map_exit e h) (pop own P least _ k l b.back b)
+      ended_fits own P least (script_ended map_exit e) k l (topped_fits own P least map_exit e h) (pop own P least _ k l b.back b)
   down_good (CallEnd exit) e k l h b = ended_fits own P least (returned exit e) k (called_back exit l) (returned_fits own P least exit e h)
       (call_left own P least exit k l b)
   down_good (WhileBody test body) e k l h b =
@@ -313,6 +314,6 @@ module _ {H : Type 0} (own : H → List Reached) (P : Reached → Type 0) (least
   move_good (Back v) [] l h z b new = tt
   move_good (Back v) (frame ∷ k) l h z b new = up_good frame v k l h b
   move_good (Changed v) [] l h z b new = back own P least v [] l h b
-  move_good (Changed v) (frame ∷ k) l h z b new = marked_good frame v k l h b
+  move_good (Changed v) (frame ∷ k) l h z b new = comes_changed_good frame v k l h b
   move_good (Fail e) [] l h z b new = tt
   move_good (Fail e) (frame ∷ k) l h z b new = down_good frame e k l h b

@@ -1,54 +1,54 @@
--- Whole runs, want of memory included, lead from points that fit to points that fit.
+-- Whole runs, also those that run out of memory, lead from points that fit to points that fit.
 use Rattle.std.proofs.Common.{◌≡◌, ◌≤◌, ◌<◌, ◌⊎◌, inl, inr, ℕ, List, [], length, arith}
 use Rattle.std.specs.Prelude.{⊤, Bool, true, false, Option}
 use Rattle.rhai_machine.specs.Types.{Dynamic, EvalAltResult, Position}
 use Rattle.rhai_state.specs.declared.error.EvalAltResult.TheVariants as error
 use Rattle.rhai_state.specs.Native.{Request, Reply, Faults, Lawful, MayLeave}
-use Rattle.rhai_state.specs.Reach.{Reached, Cell, held_by, held_by_error}
+use Rattle.rhai_state.specs.ValueContents.{Reached, Cell, contents_of, error_contents}
 use Rattle.rhai_machine.specs.machine.Machine.{Move, Halt, Go, Charge, Native, AskPure}
 use Rattle.rhai_machine.specs.machine.Point.{Point, paid, moved, after}
-use Rattle.rhai_machine.specs.machine.Memory.{Leads, here, next, wanting, starved}
+use Rattle.rhai_machine.specs.machine.Memory.{Leads, here, next, out_before_step, out_in_native}
 use Rattle.rhai_machine.specs.language.Setting.{Rules, cut}
 use Rattle.rhai_machine.specs.language.Frames.{Core, core, Fail}
 use Rattle.rhai_machine.specs.language.Language.{machine, move}
 use Rattle.rhai_machine.specs.language.Runs.{at, Steps}
-use Rattle.rhai_fits.specs.Contents.{Contents, Nothing, OneValue, OneError, OneModule, Both, of_core, of_offer, Holds, HeldAt}
-use Rattle.rhai_fits.specs.Modules.{held_by_module}
+use Rattle.rhai_fits.specs.Contents.{Contents, Nothing, OneValue, OneError, OneModule, Both, of_core, of_offer, Has, HasAt}
+use Rattle.rhai_fits.specs.Modules.{module_contents}
 use Rattle.rhai_fits.specs.Sealed.{Sealed}
 use Rattle.rhai_fits.specs.Laws.{count_of_cells, IsAdded, Keeps, RunsKeep, StepsKeep, RunsFit}
 use Rattle.rhai_fits.proofs.Properties.{all_at, all_of}
-use Rattle.rhai_fits.proofs.Values.{fit_held, held_fits}
-use Rattle.rhai_fits.proofs.Errors.{fit_error, error_held, held_error}
-use Rattle.rhai_fits.proofs.Modules.{held_module, module_held}
+use Rattle.rhai_fits.proofs.Values.{fit_reached, reached_is_fit}
+use Rattle.rhai_fits.proofs.Errors.{fit_error, error_reached, reached_error}
+use Rattle.rhai_fits.proofs.Modules.{reached_module, module_reached}
 use Rattle.rhai_fits.proofs.Fitting.{AllFit, FitCore, FitOffer, fail}
-use Rattle.rhai_fits.proofs.Natives.{FitNative, FitState, Moves, reply_fits, first_fits, state_fits, starved_first_fits, starved_state_fits}
+use Rattle.rhai_fits.proofs.Natives.{FitNative, FitState, Moves, reply_fits, first_fits, state_fits, run_out_first_fits, run_out_state_fits}
 use Rattle.rhai_fits.proofs.Rules.{FreshMove, move_good}
 
--- ---- contents that fit, and what they hold
+-- ---- contents that fit, and what they contain
 
 module _ {H : Type 0} (own : H → List Reached) (P : Reached → Type 0) (least : ℕ) where
-  -- what holds only what has the property fits
-  holds_fit : (x : Contents H) → ((r : Reached) → Holds own x r → P r) → AllFit own P least x
-  holds_fit Nothing h = tt
-  holds_fit (OneValue v) h = held_fits own P v (all_of P (held_by own v) h)
-  holds_fit (OneError e) h = held_error own P e (all_of P (held_by_error own e) h)
-  holds_fit (OneModule m) h = held_module own P m (all_of P (held_by_module own m) h)
-  holds_fit (Both a b) h = (holds_fit a (λ r c. h r (inl c)), holds_fit b (λ r c. h r (inr c)))
+  -- what contains only what has the property fits
+  contents_fit : (x : Contents H) → ((r : Reached) → Has own x r → P r) → AllFit own P least x
+  contents_fit Nothing h = tt
+  contents_fit (OneValue v) h = reached_is_fit own P v (all_of P (contents_of own v) h)
+  contents_fit (OneError e) h = reached_error own P e (all_of P (error_contents own e) h)
+  contents_fit (OneModule m) h = reached_module own P m (all_of P (module_contents own m) h)
+  contents_fit (Both a b) h = (contents_fit a (λ r c. h r (inl c)), contents_fit b (λ r c. h r (inr c)))
 
-  -- and what fits holds nothing else
-  fit_holds : (x : Contents H) → AllFit own P least x → (r : Reached) → Holds own x r → P r
-  fit_holds Nothing h n c = absurd c
-  fit_holds (OneValue v) h n c = all_at P (held_by own v) n (fit_held own P v h) c
-  fit_holds (OneError e) h n c = all_at P (held_by_error own e) n (error_held own P e h) c
-  fit_holds (OneModule m) h n c = all_at P (held_by_module own m) n (module_held own P m h) c
-  fit_holds (Both a b) h n (inl c) = fit_holds a h.0 n c
-  fit_holds (Both a b) h n (inr c) = fit_holds b h.1 n c
+  -- and what fits contains nothing else
+  fit_contents : (x : Contents H) → AllFit own P least x → (r : Reached) → Has own x r → P r
+  fit_contents Nothing h n c = absurd c
+  fit_contents (OneValue v) h n c = all_at P (contents_of own v) n (fit_reached own P v h) c
+  fit_contents (OneError e) h n c = all_at P (error_contents own e) n (error_reached own P e h) c
+  fit_contents (OneModule m) h n c = all_at P (module_contents own m) n (module_reached own P m h) c
+  fit_contents (Both a b) h n (inl c) = fit_contents a h.0 n c
+  fit_contents (Both a b) h n (inr c) = fit_contents b h.1 n c
 
-  -- a sealed core that holds only what has the property fits
-  core_fits : (c : Core H) → Sealed c → ((r : Reached) → Holds own (of_core c) r → P r) → least ≤ length c.local.around.cells →
+  -- a sealed core that has only what has the property fits
+  core_fits : (c : Core H) → Sealed c → ((r : Reached) → Has own (of_core c) r → P r) → least ≤ length c.local.around.cells →
       FitCore own P least c
   core_fits c s h enough =
-      let all : AllFit own P least (of_core c) = holds_fit (of_core c) h in
+      let all : AllFit own P least (of_core c) = contents_fit (of_core c) h in
       record {
         control = all.0;
         sealed = s.control;
@@ -129,9 +129,9 @@ module _ {S H : Type 0} (rules : Rules S H) (names : H → List ℕ) (lawful : L
     unfolding after
     step_fits p f new = moved_fits (move_of p) p (moves p f new) f
 
-    want_fits : (at : Position) (p : Point S (Core H)) → FitPoint P least p →
+    run_out_fits : (at : Position) (p : Point S (Core H)) → FitPoint P least p →
         FitPoint P least (record p { core = core (Fail (error.ErrorOutOfMemory at)) p.core.stack p.core.local })
-    want_fits at p f =
+    run_out_fits at p f =
         record {
           core = fail own P least _ p.core.stack p.core.local (fit_error own P _ tt) f.core.below;
           offer = f.offer;
@@ -139,19 +139,19 @@ module _ {S H : Type 0} (rules : Rules S H) (names : H → List ℕ) (lawful : L
         }
 
     -- a native that finds no memory
-    starved_fits : (p : Point S (Core H)) (call : Request H) (g : Reply H → Option (Dynamic H) → Core H) (at : Position)
+    native_run_out_fits : (p : Point S (Core H)) (call : Request H) (g : Reply H → Option (Dynamic H) → Core H) (at : Position)
         (e : EvalAltResult H) (first : Option (Dynamic H)) (state : S) → FitNative own P least call g → FitPoint P least p →
         MayLeave rules.setting.host_type rules.natives p.table call first state →
         FitPoint P least (record p {
           core = core (Fail (error.ErrorOutOfMemory at)) (g (Faults e) first).stack (g (Faults e) first).local;
           table = state;
         })
-    starved_fits p call g at e first state h f may = record {
+    native_run_out_fits p call g at e first state h f may = record {
       core = fail own P least _ _ _ (fit_error own P _ tt)
-          (h.starved e first (starved_first_fits names rules.natives P least rules.setting.host_type p.table call first state f.state
+          (h.out_in_native e first (run_out_first_fits names rules.natives P least rules.setting.host_type p.table call first state f.state
           h.asks may));
       offer = f.offer;
-      state = starved_state_fits names rules.natives P least rules.setting.host_type p.table call first state f.state h.asks may;
+      state = run_out_state_fits names rules.natives P least rules.setting.host_type p.table call first state f.state h.asks may;
     }
 
     native_of : (v : Move H (Core H)) (call : Request H) (g : Reply H → Option (Dynamic H) → Core H) → v ≡ Native call g →
@@ -176,21 +176,21 @@ module _ {S H : Type 0} (rules : Rules S H) (names : H → List ℕ) (lawful : L
       run_fits : {p q : Point S (Core H)} → Leads (machine rules) allows p q → FitPoint P least p → FitPoint P least q
       run_fits here f = f
       run_fits (next {p = p} r) f = run_fits r (step_fits p f (fresh_move (move_of p)))
-      run_fits (wanting {p = p} {at = at} r) f = run_fits r (want_fits at p f)
-      run_fits (starved {p = p} {call = call} {f = g} {at = at} is e first state may r) f = run_fits r
-          (starved_fits p call g at e first state (native_of (move_of p) call g is (moves p f (fresh_move (move_of p)))) f may)
+      run_fits (out_before_step {p = p} {at = at} r) f = run_fits r (run_out_fits at p f)
+      run_fits (out_in_native {p = p} {call = call} {f = g} {at = at} is e first state may r) f = run_fits r
+          (native_run_out_fits p call g at e first state (native_of (move_of p) call g is (moves p f (fresh_move (move_of p)))) f may)
 
   -- ---- a run only adds cells
 
   any : Reached → Type 0
   any r = ⊤
 
-  -- a sealed point fits, whatever it holds
+  -- a sealed point fits, whatever it has
   any_fits : (p : Point S (Core H)) → Sealed p.core → FitPoint any (count_of_cells p) p
   unfolding any
   any_fits p s = record {
     core = core_fits own any (count_of_cells p) p.core s (λ n c. tt) (omega arith);
-    offer = holds_fit own any (count_of_cells p) (of_offer rules.setting.offer) (λ n c. tt);
+    offer = contents_fit own any (count_of_cells p) (of_offer rules.setting.offer) (λ n c. tt);
     state = all_of any (rules.natives.holds.of_state p.table) (λ n c. tt);
   }
 
@@ -225,30 +225,30 @@ module _ {S H : Type 0} (rules : Rules S H) (names : H → List ℕ) (lawful : L
     run_fits_below (next {p = p} r) f =
         let sealed = after_sealed p (sealed_core own P least p.core f.core) in
         run_fits_below r (step_fits P least p f (fresh_step p (run_grows r sealed)))
-    run_fits_below (wanting {p = p} {at = at} r) f = run_fits_below r (want_fits P least at p f)
-    run_fits_below (starved {p = p} {call = call} {f = g} {at = at} is e first state may r) f =
+    run_fits_below (out_before_step {p = p} {at = at} r) f = run_fits_below r (run_out_fits P least at p f)
+    run_fits_below (out_in_native {p = p} {call = call} {f = g} {at = at} is e first state may r) f =
         let native = native_of P least (move_of P least p) call g is (moves P least p f (fresh_native P least (move_of P least p) call g
         is)) in
-        run_fits_below r (starved_fits P least p call g at e first state native f may)
+        run_fits_below r (native_run_out_fits P least p call g at e first state native f may)
 
   -- ---- the laws
 
-  -- held before, or a cell added since
+  -- there before, or a cell added since
   abbrev Known : (p q : Point S (Core H)) → Reached → Type 0
-  Known p q r = HeldAt rules p r ⊎ IsAdded p q r
+  Known p q r = HasAt rules p r ⊎ IsAdded p q r
 
   known_fits : (p q : Point S (Core H)) → Sealed p.core → FitPoint (Known p q) (count_of_cells p) p
   known_fits p q s = record {
     core = core_fits own (Known p q) (count_of_cells p) p.core s (λ n c. inl (inl (inl c))) (omega arith);
-    offer = holds_fit own (Known p q) (count_of_cells p) (of_offer rules.setting.offer) (λ n c. inl (inl (inr c)));
+    offer = contents_fit own (Known p q) (count_of_cells p) (of_offer rules.setting.offer) (λ n c. inl (inl (inr c)));
     state = all_of (Known p q) (rules.natives.holds.of_state p.table) (λ n c. inl (inr c));
   }
 
-  held_known : (p q : Point S (Core H)) → FitPoint (Known p q) (count_of_cells p) q → (r : Reached) → HeldAt rules q r → Known p q r
-  held_known p q f n (inl (inl c)) = fit_holds own (Known p q) (count_of_cells p) (of_core q.core)
+  had_known : (p q : Point S (Core H)) → FitPoint (Known p q) (count_of_cells p) q → (r : Reached) → HasAt rules q r → Known p q r
+  had_known p q f n (inl (inl c)) = fit_contents own (Known p q) (count_of_cells p) (of_core q.core)
       (all_core own (Known p q) (count_of_cells p) q.core f.core) n c
-  held_known p q f n (inl (inr c)) = fit_holds own (Known p q) (count_of_cells p) (of_offer rules.setting.offer) f.offer n c
-  held_known p q f n (inr c) = all_at (Known p q) (rules.natives.holds.of_state q.table) n f.state c
+  had_known p q f n (inl (inr c)) = fit_contents own (Known p q) (count_of_cells p) (of_offer rules.setting.offer) f.offer n c
+  had_known p q f n (inr c) = all_at (Known p q) (rules.natives.holds.of_state q.table) n f.state c
 
   pub leads_keep : (p q : Point S (Core H)) → Sealed p.core → Leads (machine rules) allows p q → Keeps rules p q
   leads_keep p q s r =
@@ -256,7 +256,7 @@ module _ {S H : Type 0} (rules : Rules S H) (names : H → List ℕ) (lawful : L
       record {
         sealed = sealed_core own (Known p q) (count_of_cells p) q.core f.core;
         grows = f.core.below.local.enough;
-        held = held_known p q f;
+        only_cells = had_known p q f;
       }
 
 module _ {S H : Type 0} (rules : Rules S H) (names : H → List ℕ) (lawful : Lawful names rules.natives) where
@@ -268,8 +268,8 @@ module _ {S H : Type 0} (rules : Rules S H) (names : H → List ℕ) (lawful : L
   steps_keep c d old new z s steps =
       runs_keep (at c [] old) (at d [] new) (record { control = z; stack = tt; goes_back = tt; cells = s }) (steps [])
 
-  within_more : (m n : ℕ) (p : Point S (Core H)) (k : ℕ) → m ≤ n → ((k : ℕ) → HeldAt rules p (Cell k) → k < m) →
-      HeldAt rules p (Cell k) ⊎ ((m ≤ k) × (k < n)) → k < n
+  within_more : (m n : ℕ) (p : Point S (Core H)) (k : ℕ) → m ≤ n → ((k : ℕ) → HasAt rules p (Cell k) → k < m) →
+      HasAt rules p (Cell k) ⊎ ((m ≤ k) × (k < n)) → k < n
   within_more m n p k few within (inl held) = omega (arith, within k held, few)
   within_more m n p k few within (inr added) = added.1
 
@@ -278,5 +278,5 @@ module _ {S H : Type 0} (rules : Rules S H) (names : H → List ℕ) (lawful : L
       let kept = runs_keep p q f.sealed r in
       record {
         sealed = kept.sealed;
-        within = λ n held. within_more (count_of_cells p) (count_of_cells q) p n kept.grows f.within (kept.held (Cell n) held);
+        within = λ n held. within_more (count_of_cells p) (count_of_cells q) p n kept.grows f.within (kept.only_cells (Cell n) held);
       }

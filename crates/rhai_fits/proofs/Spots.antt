@@ -10,14 +10,14 @@ use Rattle.rhai_values.specs.declared.base.value.FnPtrKind.TheOpen as layer
 use Rattle.rhai_values.specs.declared.base.value.Union.TheVariants as value
 use Rattle.rhai_values.specs.Layers.{UnionLayer, layer_of}
 use Rattle.rhai_state.specs.Native.{HasNoHandle}
-use Rattle.rhai_state.specs.Reach.{Reached}
+use Rattle.rhai_state.specs.ValueContents.{Reached}
 use Rattle.rhai_machine.specs.Types.{Dynamic, EvalAltResult, Union}
 use Rattle.rhai_places.specs.declared.spot.Access.{Access}
 use Rattle.rhai_places.specs.declared.spot.Refusal.{Refusal}
 use Rattle.rhai_places.specs.declared.spot.Spot.{Spot}
 use Rattle.rhai_places.specs.declared.spot.Refusal.TheVariants as refusal
 use Rattle.rhai_places.specs.declared.spot.Spot.TheVariants as spot
-use Rattle.rhai_places.specs.Found.{with_key, without_key, settled, found_by, found, through}
+use Rattle.rhai_places.specs.Found.{with_key, without_key, spot_or_error, found_by, found, through}
 use Rattle.rhai_places.specs.Indexing.{located}
 use Rattle.rhai_places.specs.Parts.{is_part, value_in, value_at, with_value_in, with_value, part_in, part_of}
 use Rattle.rhai_places.specs.PutBack.{put_in, put, put_back}
@@ -104,7 +104,7 @@ module _ {H : Type 0} (own : H → List Reached) (P : Reached → Type 0) (least
   pub part_fits : (source : Dynamic H) (at : Spot) → Fit own P (part_of source at)
   part_fits source at = part_in_fits (layer_of source) at
 
-  -- a part put back makes a value that fits and is no handle, as the source is
+  -- a part put back makes a value that fits and is no handle, as the value above is
   abbrev FlatMaybe : Option (Dynamic H) → Type 0
   FlatMaybe None = ⊤
   FlatMaybe (Some v) = Fit own P v
@@ -118,7 +118,7 @@ module _ {H : Type 0} (own : H → List Reached) (P : Reached → Type 0) (least
   put_in_fits (layer.Blob bytes) (spot.Byte at) (layer.Int v) source = fit_blob own P _
   put_in_fits _ _ _ source = tt
 
-  -- what a part put back makes: a value that fits, and is a handle only where the source is one
+  -- what a part put back makes: a value that fits, and is a handle only where the value above is one
   abbrev pub Whole : (source : Dynamic H) → Option (Dynamic H) → Type 0
   Whole source None = ⊤
   Whole source (Some w) = Fit own P w × (IsNoHandle source.value → IsNoHandle w.value)
@@ -172,7 +172,7 @@ module _ {H : Type 0} (own : H → List Reached) (P : Reached → Type 0) (least
       (if_gives how.fail_on_invalid_map_property _ _ (fit_error own P _ tt) f)
 
   settled_gives : (how : Access) (host : H → List ℕ) (cells : Cells H) (source index : Dynamic H) (r : Result Spot Refusal) →
-      Flat own P least source → Gives own P least FlatSource (settled how host cells source index r)
+      Flat own P least source → Gives own P least FlatSource (spot_or_error how host cells source index r)
   settled_gives how host cells source index (Ok spot.Missing) f = without_gives how source index f
   settled_gives how host cells source index (Ok at) f = f
   settled_gives how host cells source index (Err why) f = refused_fits host cells how source index why

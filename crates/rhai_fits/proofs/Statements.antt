@@ -17,7 +17,7 @@ use Rattle.rhai_values.specs.Copy.{copy_of}
 use Rattle.rhai_values.specs.DataSize.{data_sizes}
 use Rattle.rhai_values.specs.Modes.{with_mode}
 use Rattle.rhai_state.specs.declared.error.EvalAltResult.TheVariants as error
-use Rattle.rhai_state.specs.Reach.{Reached}
+use Rattle.rhai_state.specs.ValueContents.{Reached}
 use Rattle.rhai_state.specs.declared.scope.ScopeEntry.{ScopeEntry}
 use Rattle.rhai_state.specs.Scope.{aliased, index_of, new_entry}
 use Rattle.rhai_state.specs.State.{import_as}

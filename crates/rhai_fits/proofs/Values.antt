@@ -1,4 +1,4 @@
--- Values that hold only what has a property, by their kinds.
+-- Values that contain only what has a property, by their kinds.
 use Rattle.std.proofs.Common.{◌≡◌, ℕ, ℤ, List, [], ◌∷◌, ◌++◌, map, refl, sym, subst}
 use Rattle.std.specs.Prelude.{⊤, Bool}
 use Rattle.rhai_values.specs.declared.base.value.CellId.{CellId}
@@ -14,56 +14,56 @@ use Rattle.rhai_values.specs.declared.base.value.Union.TheVariants.{outs-Unit, o
 use Rattle.rhai_values.specs.declared.base.value.Union.TheVariants.{outs-ExclusiveRange, outs-InclusiveRange, outs-Array, outs-Blob}
 use Rattle.rhai_values.specs.declared.base.value.Union.TheVariants.{outs-Map, outs-FnPtr, outs-Cell}
 use Rattle.rhai_values.specs.Layers.{UnionLayer}
-use Rattle.rhai_state.specs.Reach.{Reached, Cell, Constants, Function, each, in_kind, in_union, maybe, held_by}
+use Rattle.rhai_state.specs.ValueContents.{Reached, Cell, Constants, Function, each, in_kind, in_union, maybe, contents_of}
 use Rattle.rhai_fits.proofs.Properties.{AllHave, all_joined, all_left, all_right}
 
--- ---- what values hold, by one level
+-- ---- what values contain, by one level
 
 module _ {H : Type 0} (own : H → List Reached) where
   abbrev L : Type 0
   L = List Reached
 
-  abbrev pub held_union : Union H → L
-  held_union = fold-Union H L L L L L L L L (in_kind own) (in_union own) (λ d. d.value)
+  abbrev pub reached_union : Union H → L
+  reached_union = fold-Union H L L L L L L L L (in_kind own) (in_union own) (λ d. d.value)
       (λ e. Constants e.constants ∷ (each e.lib ++ each e.imports))
       (λ p. each p.curry ++ p.kind) (λ i. i.module) (λ m. each m.constants.1 ++ (each m.functions ++ each m.sub_modules.1))
       (λ f. Function f.def ∷ maybe f.environ)
 
-  abbrev held_pointer : FnPtr H → L
-  held_pointer = fold-FnPtr H L L L L L L L L (in_kind own) (in_union own) (λ d. d.value)
+  abbrev reached_pointer : FnPtr H → L
+  reached_pointer = fold-FnPtr H L L L L L L L L (in_kind own) (in_union own) (λ d. d.value)
       (λ e. Constants e.constants ∷ (each e.lib ++ each e.imports))
       (λ p. each p.curry ++ p.kind) (λ i. i.module) (λ m. each m.constants.1 ++ (each m.functions ++ each m.sub_modules.1))
       (λ f. Function f.def ∷ maybe f.environ)
 
-  abbrev pub held_kind : FnPtrKind H → L
-  held_kind = fold-FnPtrKind H L L L L L L L L (in_kind own) (in_union own) (λ d. d.value)
+  abbrev pub reached_kind : FnPtrKind H → L
+  reached_kind = fold-FnPtrKind H L L L L L L L L (in_kind own) (in_union own) (λ d. d.value)
       (λ e. Constants e.constants ∷ (each e.lib ++ each e.imports))
       (λ p. each p.curry ++ p.kind) (λ i. i.module) (λ m. each m.constants.1 ++ (each m.functions ++ each m.sub_modules.1))
       (λ f. Function f.def ∷ maybe f.environ)
 
-  pub held_value : (d : Dynamic H) → held_by own d ≡ held_union d.value
-  held_value d = simp fold_out-Dynamic
+  pub reached_value : (d : Dynamic H) → contents_of own d ≡ reached_union d.value
+  reached_value d = simp fold_out-Dynamic
 
-  held_pointer_out : (p : FnPtr H) → held_pointer p ≡ each (map (held_by own) (out-FnPtr H p).curry) ++ held_kind (out-FnPtr H p).kind
-  held_pointer_out p = rw fold_out-FnPtr refl
+  reached_pointer_out : (p : FnPtr H) → reached_pointer p ≡ each (map (contents_of own) (out-FnPtr H p).curry) ++ reached_kind (out-FnPtr H p).kind
+  reached_pointer_out p = rw fold_out-FnPtr refl
 
-  abbrev held_layer : UnionLayer H → L
-  held_layer (layer.Array items) = each (map (held_by own) items)
-  held_layer (layer.Map entries) = each (map (held_by own) entries.1)
-  held_layer (layer.FnPtr pointer) = held_pointer pointer
-  held_layer (layer.Host value) = own value
-  held_layer (layer.Cell id) = Cell id.number ∷ []
-  held_layer _ = []
+  abbrev reached_layer : UnionLayer H → L
+  reached_layer (layer.Array items) = each (map (contents_of own) items)
+  reached_layer (layer.Map entries) = each (map (contents_of own) entries.1)
+  reached_layer (layer.FnPtr pointer) = reached_pointer pointer
+  reached_layer (layer.Host value) = own value
+  reached_layer (layer.Cell id) = Cell id.number ∷ []
+  reached_layer _ = []
 
-  held_at : (l : UnionLayer H) (u : Union H) → out-Union H u ≡ l → held_union u ≡ held_layer l
-  held_at (layer.Array items) u is = rw (fold_out-Union, is) refl
-  held_at _ u is = rw (fold_out-Union, is) refl
+  reached_at : (l : UnionLayer H) (u : Union H) → out-Union H u ≡ l → reached_union u ≡ reached_layer l
+  reached_at (layer.Array items) u is = rw (fold_out-Union, is) refl
+  reached_at _ u is = rw (fold_out-Union, is) refl
 
   module _ (P : Reached → Type 0) where
     -- ---- values that fit
 
     unfoldable pub FitUnion : Union H → Type 0
-    FitUnion u = AllHave P (held_union u)
+    FitUnion u = AllHave P (reached_union u)
 
     abbrev pub Fit : Dynamic H → Type 0
     Fit v = FitUnion v.value
@@ -73,7 +73,7 @@ module _ {H : Type 0} (own : H → List Reached) where
     Fits (v ∷ vs) = Fit v × Fits vs
 
     unfoldable pub FitKind : FnPtrKind H → Type 0
-    FitKind k = AllHave P (held_kind k)
+    FitKind k = AllHave P (reached_kind k)
 
     -- a pointer, by its curried values and what it leads to
     pub record FitPointer (p : FnPtr H) : Type 0 where
@@ -88,58 +88,58 @@ module _ {H : Type 0} (own : H → List Reached) where
     FitLayer (layer.Cell id) = P (Cell id.number)
     FitLayer _ = ⊤
 
-    pub fit_held : (v : Dynamic H) → Fit v → AllHave P (held_by own v)
+    pub fit_reached : (v : Dynamic H) → Fit v → AllHave P (contents_of own v)
     unfolding FitUnion
-    fit_held v h = rw held_value h
+    fit_reached v h = rw reached_value h
 
-    pub held_fits : (v : Dynamic H) → AllHave P (held_by own v) → Fit v
+    pub reached_is_fit : (v : Dynamic H) → AllHave P (contents_of own v) → Fit v
     unfolding FitUnion
-    held_fits v h = rw held_value at h
+    reached_is_fit v h = rw reached_value at h
 
-    fits_held : (vs : List (Dynamic H)) → Fits vs → AllHave P (each (map (held_by own) vs))
-    fits_held [] h = tt
-    fits_held (v ∷ vs) h = all_joined P (held_by own v) (each (map (held_by own) vs)) (fit_held v h.0) (fits_held vs h.1)
+    fits_reached : (vs : List (Dynamic H)) → Fits vs → AllHave P (each (map (contents_of own) vs))
+    fits_reached [] h = tt
+    fits_reached (v ∷ vs) h = all_joined P (contents_of own v) (each (map (contents_of own) vs)) (fit_reached v h.0) (fits_reached vs h.1)
 
-    pub held_fit : (vs : List (Dynamic H)) → AllHave P (each (map (held_by own) vs)) → Fits vs
-    held_fit [] h = tt
-    held_fit (v ∷ vs) h = (
-      held_fits v (all_left P (held_by own v) (each (map (held_by own) vs)) h),
-      held_fit vs (all_right P (held_by own v) (each (map (held_by own) vs)) h),
+    pub reached_are_fit : (vs : List (Dynamic H)) → AllHave P (each (map (contents_of own) vs)) → Fits vs
+    reached_are_fit [] h = tt
+    reached_are_fit (v ∷ vs) h = (
+      reached_is_fit v (all_left P (contents_of own v) (each (map (contents_of own) vs)) h),
+      reached_are_fit vs (all_right P (contents_of own v) (each (map (contents_of own) vs)) h),
     )
 
-    layer_held : (l : UnionLayer H) → FitLayer l → AllHave P (held_layer l)
+    layer_reached : (l : UnionLayer H) → FitLayer l → AllHave P (reached_layer l)
     unfolding FitKind
-    layer_held (layer.Array items) h = fits_held items h
-    layer_held (layer.Map entries) h = fits_held entries.1 h
-    layer_held (layer.FnPtr p) h = rw held_pointer_out (all_joined P (each (map (held_by own) (out-FnPtr H p).curry))
-        (held_kind (out-FnPtr H p).kind) (fits_held (out-FnPtr H p).curry h.curry) h.kind)
-    layer_held (layer.Host v) h = h
-    layer_held (layer.Cell id) h = (h, tt)
-    layer_held _ h = tt
+    layer_reached (layer.Array items) h = fits_reached items h
+    layer_reached (layer.Map entries) h = fits_reached entries.1 h
+    layer_reached (layer.FnPtr p) h = rw reached_pointer_out (all_joined P (each (map (contents_of own) (out-FnPtr H p).curry))
+        (reached_kind (out-FnPtr H p).kind) (fits_reached (out-FnPtr H p).curry h.curry) h.kind)
+    layer_reached (layer.Host v) h = h
+    layer_reached (layer.Cell id) h = (h, tt)
+    layer_reached _ h = tt
 
-    held_layer_fits : (l : UnionLayer H) → AllHave P (held_layer l) → FitLayer l
+    reached_layer_fits : (l : UnionLayer H) → AllHave P (reached_layer l) → FitLayer l
     unfolding FitKind
-    held_layer_fits (layer.Array items) h = held_fit items h
-    held_layer_fits (layer.Map entries) h = held_fit entries.1 h
-    held_layer_fits (layer.FnPtr p) h =
-        let both = rw held_pointer_out at h in
+    reached_layer_fits (layer.Array items) h = reached_are_fit items h
+    reached_layer_fits (layer.Map entries) h = reached_are_fit entries.1 h
+    reached_layer_fits (layer.FnPtr p) h =
+        let both = rw reached_pointer_out at h in
         record {
-          curry = held_fit (out-FnPtr H p).curry (all_left P (each (map (held_by own) (out-FnPtr H p).curry))
-              (held_kind (out-FnPtr H p).kind) both);
-          kind = all_right P (each (map (held_by own) (out-FnPtr H p).curry)) (held_kind (out-FnPtr H p).kind) both;
+          curry = reached_are_fit (out-FnPtr H p).curry (all_left P (each (map (contents_of own) (out-FnPtr H p).curry))
+              (reached_kind (out-FnPtr H p).kind) both);
+          kind = all_right P (each (map (contents_of own) (out-FnPtr H p).curry)) (reached_kind (out-FnPtr H p).kind) both;
         }
-    held_layer_fits (layer.Host v) h = h
-    held_layer_fits (layer.Cell id) h = h.0
-    held_layer_fits _ h = tt
+    reached_layer_fits (layer.Host v) h = h
+    reached_layer_fits (layer.Cell id) h = h.0
+    reached_layer_fits _ h = tt
 
     -- a value fits as one level of it does
     pub fit_out : (u : Union H) → FitUnion u → FitLayer (out-Union H u)
     unfolding FitUnion
-    fit_out u h = held_layer_fits (out-Union H u) (subst (AllHave P) (held_at (out-Union H u) u refl) h)
+    fit_out u h = reached_layer_fits (out-Union H u) (subst (AllHave P) (reached_at (out-Union H u) u refl) h)
 
     pub fit_in : (u : Union H) → FitLayer (out-Union H u) → FitUnion u
     unfolding FitUnion
-    fit_in u h = subst (AllHave P) (sym (held_at (out-Union H u) u refl)) (layer_held (out-Union H u) h)
+    fit_in u h = subst (AllHave P) (sym (reached_at (out-Union H u) u refl)) (layer_reached (out-Union H u) h)
 
     -- ---- by their kinds
 

@@ -1,5 +1,5 @@
--- What a run has in hand: the values and errors in its control, on its stack, and among its variables and cells; the modules and the
--- tables of constants around it, and the modules of its engine; and what those hold.
+-- What a run has in hand: the values and errors in its control, on its stack, and among its variables and cells; the modules and the tables
+-- of constants around it, and the modules of its engine; and what those contain.
 use Rattle.std.specs.Prelude.{◌⊎◌, ℕ, List, [], ◌∷◌, Option, Some, None, Result, Ok, Err, Contains}
 use Rattle.rhai_values.specs.declared.base.value.Dynamic.{Dynamic}
 use Rattle.rhai_values.specs.declared.base.value.EncapsulatedEnviron.{EncapsulatedEnviron, out-EncapsulatedEnviron}
@@ -9,7 +9,7 @@ use Rattle.rhai_values.specs.declared.base.value.Union.TheVariants as value
 use Rattle.rhai_values.specs.Copy.{plain}
 use Rattle.rhai_state.specs.declared.error.EvalAltResult.{EvalAltResult}
 use Rattle.rhai_state.specs.declared.scope.ScopeEntry.{ScopeEntry}
-use Rattle.rhai_state.specs.Reach.{Reached, held_by, held_by_error}
+use Rattle.rhai_state.specs.ValueContents.{Reached, contents_of, error_contents}
 use Rattle.rhai_machine.specs.machine.Point.{Point}
 use Rattle.rhai_machine.specs.language.Setting.{Offer, Rules}
 use Rattle.rhai_machine.specs.language.State.{Local, Surroundings}
@@ -24,7 +24,7 @@ use Rattle.rhai_machine.specs.language.Frames.{Locate, Back, Changed, Fail, Fram
 use Rattle.rhai_machine.specs.language.Frames.{ForBody, CatchBranch, RootValue, ChainEnd, StepDown, Temporary, PartMethod, PartAssigned}
 use Rattle.rhai_machine.specs.language.Frames.{MethodLink, MemberLink, MemberGot, MemberOperated, GetterTried, SetterTried, IndexerTried}
 use Rattle.rhai_machine.specs.language.Frames.{MemberSet, CallEnd}
-use Rattle.rhai_fits.specs.Modules.{held_by_module}
+use Rattle.rhai_fits.specs.Modules.{module_contents}
 
 -- values, errors and modules, one after the other
 pub data Contents (H : Type 0) : Type 0 where
@@ -37,18 +37,22 @@ pub data Contents (H : Type 0) : Type 0 where
 module _ {H : Type 0} where
   -- ---- lists, and what may be there
 
+  -- the values of a list, in order
   abbrev pub of_values : List (Dynamic H) → Contents H
   of_values [] = Nothing
   of_values (v ∷ vs) = Both (OneValue v) (of_values vs)
 
+  -- a value that may be there
   abbrev pub of_maybe : Option (Dynamic H) → Contents H
   of_maybe None = Nothing
   of_maybe (Some v) = OneValue v
 
+  -- the value of a result, or its error
   abbrev pub of_result : Result (Dynamic H) (EvalAltResult H) → Contents H
   of_result (Ok v) = OneValue v
   of_result (Err e) = OneError e
 
+  -- the values of the variables of a scope
   abbrev pub of_scope : List (ScopeEntry H) → Contents H
   of_scope [] = Nothing
   of_scope (entry ∷ entries) = Both (OneValue entry.value) (of_scope entries)
@@ -60,10 +64,12 @@ module _ {H : Type 0} where
 
   -- ---- modules and tables of constants
 
+  -- the modules of a list, in order
   abbrev pub of_modules : List (Module H) → Contents H
   of_modules [] = Nothing
   of_modules (m ∷ ms) = Both (OneModule m) (of_modules ms)
 
+  -- the modules of some imports
   abbrev pub of_imports : List (Import H) → Contents H
   of_imports [] = Nothing
   of_imports (i ∷ imports) = Both (OneModule (out-Import H i).«module») (of_imports imports)
@@ -90,28 +96,35 @@ module _ {H : Type 0} where
 
   -- ---- parts of controls and frames
 
+  -- the value that is assigned, if one is
   abbrev pub of_new : Option (NewValue H) → Contents H
   of_new None = Nothing
   of_new (Some new) = OneValue new.value
 
+  -- what a chain assigns, and the arguments of its links that are left
   abbrev pub of_chain : Chain H → Contents H
   of_chain chain = Both (of_new chain.new) (of_values chain.args)
 
+  -- the index of an item; a property has only a name
   abbrev pub of_member : Member H → Contents H
   of_member (Property name at) = Nothing
   of_member (Item index) = OneValue index
 
+  -- the index by which a temporary is set again, if it is set as an item
   abbrev pub of_way_back : Option (MemberAccess H) → Contents H
   of_way_back None = Nothing
   of_way_back (Some access) = of_member access.member
 
+  -- the value at the place of an update, and the one on the right
   abbrev pub of_update : Update H → Contents H
   of_update u = Both (OneValue u.target) (OneValue u.operand)
 
+  -- the items that a `for` has left; integers are counted, and are none
   abbrev pub of_turns : Turns H → Contents H
   of_turns (OfItems items) = of_values items
   of_turns (OfIntegers next count) = Nothing
 
+  -- what waits for arguments: curried values, a function's environment, a pointer, or a chain
   abbrev pub of_purpose : Purpose H → Contents H
   of_purpose (ToCall operation curried how) = of_values curried
   of_purpose (ToCallFunction function at curried) = Both (of_values curried) (of_environ function.environ)
@@ -125,11 +138,13 @@ module _ {H : Type 0} where
   of_variables (Caller scope) = of_scope scope
   of_variables _ = Nothing
 
+  -- what the end of a function's call gives back: the caller's variables, a `this` and a focus
   abbrev pub of_exit : CallExit H → Contents H
   of_exit exit = Both (of_variables exit.variables) (Both (of_maybe exit.this) (of_maybe exit.focus))
 
   -- ---- the control
 
+  -- the values, errors and environments in what is done next
   abbrev pub of_control : Control H → Contents H
   of_control (Ask call) = of_values call.args
   of_control (Question call) = of_values call.args
@@ -160,6 +175,7 @@ module _ {H : Type 0} where
 
   -- ---- the stack
 
+  -- the values and errors in a frame, which waits for another value
   abbrev pub of_frame : Frame H → Contents H
   of_frame (RightOperand operation left right_at) = OneValue left
   of_frame (CallArgument purpose made argument_at rest) = Both (of_purpose purpose) (of_values made)
@@ -184,6 +200,7 @@ module _ {H : Type 0} where
   of_frame (CallEnd exit) = of_exit exit
   of_frame _ = Nothing
 
+  -- those in each frame of a stack
   abbrev pub of_stack : List (Frame H) → Contents H
   of_stack [] = Nothing
   of_stack (frame ∷ k) = Both (of_frame frame) (of_stack k)
@@ -195,19 +212,20 @@ module _ {H : Type 0} where
   of_local l =
       Both (of_scope l.scope) (Both (of_maybe l.this) (Both (of_maybe l.focus) (Both (of_cells l.around.cells) (of_around l.around))))
 
+  -- those in the control and on the stack, and the variables with all around them
   abbrev pub of_core : Core H → Contents H
   of_core c = Both (of_control c.control) (Both (of_stack c.stack) (of_local c.local))
 
 module _ {H : Type 0} (own : H → List Reached) where
-  -- a value, an error or a module among them holds this: a cell, a script function, or a table of constants
-  abbrev pub Holds : Contents H → Reached → Type 0
-  Holds Nothing r = ⊥
-  Holds (OneValue v) r = Contains (held_by own v) r
-  Holds (OneError e) r = Contains (held_by_error own e) r
-  Holds (OneModule m) r = Contains (held_by_module own m) r
-  Holds (Both a b) r = Holds a r ⊎ Holds b r
+  -- a value, an error or a module among them contains this: a cell, a script function, or a table of constants
+  abbrev pub Has : Contents H → Reached → Type 0
+  Has Nothing r = ⊥
+  Has (OneValue v) r = Contains (contents_of own v) r
+  Has (OneError e) r = Contains (error_contents own e) r
+  Has (OneModule m) r = Contains (module_contents own m) r
+  Has (Both a b) r = Has a r ⊎ Has b r
 
--- a run holds this at a point: what it has in hand does, or a module of the engine, or the table's state
-abbrev pub HeldAt : {S H : Type 0} → Rules S H → Point S (Core H) → Reached → Type 0
-HeldAt rules p r = Holds rules.natives.holds.of_host (Both (of_core p.core) (of_offer rules.setting.offer)) r
+-- a run has this at a point: in hand, in a module of the engine, or in the table's state
+abbrev pub HasAt : {S H : Type 0} → Rules S H → Point S (Core H) → Reached → Type 0
+HasAt rules p r = Has rules.natives.holds.of_host (Both (of_core p.core) (of_offer rules.setting.offer)) r
     ⊎ Contains (rules.natives.holds.of_state p.table) r

@@ -5,7 +5,7 @@ use Rattle.rhai_values.specs.Cells.{IsNoHandle}
 use Rattle.rhai_state.specs.Native.{HasNoHandle}
 use Rattle.rhai_places.specs.Paths.{ToPlace, ToCell}
 use Rattle.rhai_machine.specs.language.Values.{Cells}
-use Rattle.rhai_machine.specs.language.Bodies.{back_by, focus_back}
+use Rattle.rhai_machine.specs.language.Bodies.{this_back, focus_back}
 use Rattle.rhai_machine.specs.language.Frames.{Lender, FromThis, NewValue, Purpose, ToChain, Core, Control, Assign, AssignThis, Store}
 use Rattle.rhai_machine.specs.language.Frames.{StoreThis, OpenChain, ChainArguments, ChainRoot, ReadRoot, Walk, Locate, Frame, CallArgument}
 use Rattle.rhai_machine.specs.language.Frames.{RootValue, ChainEnd, StepDown, Temporary, PartMethod, PartAssigned, MethodLink, MemberLink}
@@ -19,14 +19,17 @@ module _ {H : Type 0} where
 
   -- ---- what is assigned may go into a cell, and so is no handle
 
+  -- the value that is assigned, if one is, is no handle of a cell
   abbrev pub NewSealed : Option (NewValue H) → Type 0
   NewSealed None = ⊤
   NewSealed (Some new) = IsNoHandle new.value.value
 
+  -- a chain that waits for arguments assigns no handle
   abbrev pub PurposeSealed : Purpose H → Type 0
   PurposeSealed (ToChain chain behind) = NewSealed chain.new
   PurposeSealed _ = ⊤
 
+  -- what is done next assigns no handle
   abbrev pub ControlSealed : Control H → Type 0
   ControlSealed (Assign assignment v) = IsNoHandle v.value
   ControlSealed (Store assignment v) = IsNoHandle v.value
@@ -40,6 +43,7 @@ module _ {H : Type 0} where
   ControlSealed (Locate link chain) = NewSealed chain.new
   ControlSealed _ = ⊤
 
+  -- what waits in a frame assigns no handle
   abbrev pub FrameSealed : Frame H → Type 0
   FrameSealed (CallArgument purpose made argument_at rest) = PurposeSealed purpose
   FrameSealed (RootValue chain) = NewSealed chain.new
@@ -48,6 +52,7 @@ module _ {H : Type 0} where
   FrameSealed (MemberGot access root new) = IsNoHandle new.value.value
   FrameSealed _ = ⊤
 
+  -- no frame of a stack assigns a handle
   abbrev pub StackSealed : List (Frame H) → Type 0
   StackSealed [] = ⊤
   StackSealed (frame ∷ k) = FrameSealed frame × StackSealed k
@@ -70,7 +75,7 @@ module _ {H : Type 0} where
   GoesBack (PartAssigned above spot at ∷ k) focus this = GoesBack k (Some above) this
   GoesBack (MemberOperated access above at ∷ k) focus this = GoesBack k above this
   GoesBack (ChainEnd lender outer ∷ k) focus this = GoesBack k outer (this_after lender focus this)
-  GoesBack (CallEnd exit ∷ k) focus this = GoesBack k (focus_back exit.object exit.focus this) (back_by exit.object exit.this this)
+  GoesBack (CallEnd exit ∷ k) focus this = GoesBack k (focus_back exit.object exit.focus this) (this_back exit.object exit.this this)
   GoesBack (_ ∷ k) focus this = GoesBack k focus this
 
   -- no cell has a bare handle, and none will get one: not by an assignment, and not by what goes back as the stack is left

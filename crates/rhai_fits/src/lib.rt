@@ -1,4 +1,4 @@
-//! What every run of the language keeps of what it holds, whatever its end, want of memory included.
+//! What every run of the language keeps of what it has, whatever its end, also where memory runs out.
 #![tactic(auto)]
 
 pub mod script;

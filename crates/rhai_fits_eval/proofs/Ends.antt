@@ -5,44 +5,44 @@ use Rattle.rhai_machine.specs.Types.{Dynamic, EvalAltResult}
 use Rattle.rhai_state.specs.declared.error.EvalAltResult.TheVariants as error
 use Rattle.rhai_state.specs.Errors.{is_out_of_memory}
 use Rattle.rhai_state.specs.Native.{Lawful}
-use Rattle.rhai_state.specs.Reach.{Reached, Cell, Function, Constants, held_by, held_by_error}
+use Rattle.rhai_state.specs.ValueContents.{Reached, Cell, Function, Constants, contents_of, error_contents}
 use Rattle.rhai_machine.specs.machine.Point.{Point}
 use Rattle.rhai_machine.specs.machine.Memory.{here}
 use Rattle.rhai_machine.specs.language.Setting.{Rules}
 use Rattle.rhai_machine.specs.language.State.{Local, State, HasMemory}
-use Rattle.rhai_machine.specs.language.Frames.{Control, Frame, Core, core, ended, marked, Fail}
+use Rattle.rhai_machine.specs.language.Frames.{Control, Frame, Core, core, ended, ended_or_changed, Fail}
 use Rattle.rhai_machine.specs.language.Runs.{at, with_core, Goes}
 use Rattle.rhai_fits.specs.Contents.{Contents, Nothing, OneValue, OneError, OneModule, Both, of_maybe, of_result, of_control, of_core}
-use Rattle.rhai_fits.specs.Contents.{of_offer, Holds, HeldAt}
-use Rattle.rhai_fits.specs.Modules.{held_by_module}
+use Rattle.rhai_fits.specs.Contents.{of_offer, Has, HasAt}
+use Rattle.rhai_fits.specs.Modules.{module_contents}
 use Rattle.rhai_fits.specs.Sealed.{AreSealed, ControlSealed, Sealed}
 use Rattle.rhai_fits.specs.Laws.{IsAdded, Keeps}
 use Rattle.rhai_fits.proofs.Properties.{all_at, all_of}
-use Rattle.rhai_fits.proofs.Values.{fit_held, held_fits}
-use Rattle.rhai_fits.proofs.Errors.{FitError, fit_error, error_held, held_error}
-use Rattle.rhai_fits.proofs.Modules.{held_module, module_held}
+use Rattle.rhai_fits.proofs.Values.{fit_reached, reached_is_fit}
+use Rattle.rhai_fits.proofs.Errors.{FitError, fit_error, error_reached, reached_error}
+use Rattle.rhai_fits.proofs.Modules.{reached_module, module_reached}
 use Rattle.rhai_fits.proofs.Fitting.{AllFit, FitBelow, FitCore, FitOffer, fail, to}
 use Rattle.rhai_fits.proofs.Runs.{runs_keep}
 use Rattle.rhai_eval.specs.Assigned.{assigned}
-use Rattle.rhai_eval.specs.Ends.{Ends, EndsAlone, EndsAs, EndsAssigned, EndsFrom, EndsMarked}
-use Rattle.rhai_fits_eval.specs.InHand.{of_done, of_marked, of_state, cells_in, IsNew, IsHeld, IsWithin, FitsAgain}
+use Rattle.rhai_eval.specs.Ends.{Ends, EndsAlone, EndsAs, EndsAssigned, EndsFrom, EndsChanged}
+use Rattle.rhai_fits_eval.specs.InHand.{of_done, of_changed, of_state, cells_in, IsNew, IsInHand, IsWithin, FitsAgain}
 use Rattle.rhai_fits_eval.proofs.Steps.{goes, goes_up_to}
 
 module _ {H : Type 0} (own : H → List Reached) (P : Reached → Type 0) (least : ℕ) where
-  -- contents that hold only what has the property fit
-  pub holds_fit : (x : Contents H) → ((r : Reached) → Holds own x r → P r) → AllFit own P least x
+  -- contents that have only what has the property fit
+  pub holds_fit : (x : Contents H) → ((r : Reached) → Has own x r → P r) → AllFit own P least x
   holds_fit Nothing h = tt
-  holds_fit (OneValue v) h = held_fits own P v (all_of P (held_by own v) h)
-  holds_fit (OneError e) h = held_error own P e (all_of P (held_by_error own e) h)
-  holds_fit (OneModule m) h = held_module own P m (all_of P (held_by_module own m) h)
+  holds_fit (OneValue v) h = reached_is_fit own P v (all_of P (contents_of own v) h)
+  holds_fit (OneError e) h = reached_error own P e (all_of P (error_contents own e) h)
+  holds_fit (OneModule m) h = reached_module own P m (all_of P (module_contents own m) h)
   holds_fit (Both a b) h = (holds_fit a (λ r c. h r (inl c)), holds_fit b (λ r c. h r (inr c)))
 
-  -- and those that fit hold nothing else
-  pub fit_holds : (x : Contents H) → AllFit own P least x → (r : Reached) → Holds own x r → P r
+  -- and those that fit have nothing else
+  pub fit_holds : (x : Contents H) → AllFit own P least x → (r : Reached) → Has own x r → P r
   fit_holds Nothing h n c = absurd c
-  fit_holds (OneValue v) h n c = all_at P (held_by own v) n (fit_held own P v h) c
-  fit_holds (OneError e) h n c = all_at P (held_by_error own e) n (error_held own P e h) c
-  fit_holds (OneModule m) h n c = all_at P (held_by_module own m) n (module_held own P m h) c
+  fit_holds (OneValue v) h n c = all_at P (contents_of own v) n (fit_reached own P v h) c
+  fit_holds (OneError e) h n c = all_at P (error_contents own e) n (error_reached own P e h) c
+  fit_holds (OneModule m) h n c = all_at P (module_contents own m) n (module_reached own P m h) c
   fit_holds (Both a b) h n (inl c) = fit_holds a h.0 n c
   fit_holds (Both a b) h n (inr c) = fit_holds b h.1 n c
 
@@ -59,12 +59,12 @@ module _ {H : Type 0} (own : H → List Reached) (P : Reached → Type 0) (least
   sealed_core c h =
       record { control = h.sealed; stack = h.below.sealed; goes_back = h.below.back; cells = h.below.local.sealed }
 
-  -- want of memory holds nothing
+  -- the out-of-memory error contains nothing
   pub memory_fits : (e : EvalAltResult H) → is_out_of_memory e ≡ true → FitError own P e
   memory_fits (error.ErrorOutOfMemory at) is = fit_error own P (error.ErrorOutOfMemory at) tt
   memory_fits _ is = absurd (true≢false (sym is))
 
--- a state in which a place of the caller is worked on
+-- a state whose focus is a place of the caller, or nothing
 abbrev pub at_work : {S H : Type 0} → Option (Dynamic H) → State S H → State S H
 at_work focus s = record s { local = record s.local { focus = focus } }
 
@@ -72,9 +72,9 @@ module _ {S H : Type 0} (rules : Rules S H) (given : Contents H) (old new : Stat
   abbrev own : H → List Reached
   own = rules.natives.holds.of_host
 
-  -- held before, or a cell that was added
+  -- there before, or a cell that was added
   abbrev pub Stays : Reached → Type 0
-  Stays r = IsHeld rules given old r ⊎ IsNew old new r
+  Stays r = IsInHand rules given old r ⊎ IsNew old new r
 
   abbrev Fit : Contents H → Type 0
   Fit x = AllFit own Stays (cells_in old) x
@@ -99,7 +99,7 @@ module _ {S H : Type 0} (rules : Rules S H) (given : Contents H) (old new : Stat
   pub offer_fits : FitOffer own Stays (cells_in old) rules.setting.offer
   offer_fits = holds_fit own Stays (cells_in old) (of_offer rules.setting.offer) (λ r h. inl (inl (inr h)))
 
-  -- nothing waits, and a place of the caller is worked on, or none
+  -- nothing waits, and the focus is a place of the caller, or nothing
   pub nothing_below : AreSealed old.local.around.cells → (focus : Option (Dynamic H)) → Fit (of_maybe focus) →
       Below [] (at_work focus old).local
   nothing_below s focus h = record {
@@ -123,10 +123,10 @@ module _ {S H : Type 0} (rules : Rules S H) (given : Contents H) (old new : Stat
   result_fits (Ok v) h = h
   result_fits (Err e) h = h
 
-  marked_fits : (r : Result (Dynamic H × Bool) (EvalAltResult H)) → Fit (of_control (marked r)) → Fit (of_marked r)
-  marked_fits (Ok (v, true)) h = h
-  marked_fits (Ok (v, false)) h = h
-  marked_fits (Err e) h = h
+  changed_fits : (r : Result (Dynamic H × Bool) (EvalAltResult H)) → Fit (of_control (ended_or_changed r)) → Fit (of_changed r)
+  changed_fits (Ok (v, true)) h = h
+  changed_fits (Ok (v, false)) h = h
+  changed_fits (Err e) h = h
 
   module _ (names : H → List ℕ) (lawful : Lawful names rules.natives) where
     -- ---- a run with nothing below
@@ -150,29 +150,29 @@ module _ {S H : Type 0} (rules : Rules S H) (given : Contents H) (old new : Stat
       added (Function def) h = absurd h
       added (Constants n) h = absurd h
 
-      -- what the start holds was held before
-      was_held : (r : Reached) → HeldAt rules start r → Stays r
-      was_held r (inl (inl h)) = fit_holds own Stays (cells_in old) (of_core c) (all_core own Stays (cells_in old) c good) r h
-      was_held r (inl (inr h)) = inl (inl (inr h))
-      was_held r (inr h) = inl (inr h)
+      -- what the start has was there before
+      was_in_hand : (r : Reached) → HasAt rules start r → Stays r
+      was_in_hand r (inl (inl h)) = fit_holds own Stays (cells_in old) (of_core c) (all_core own Stays (cells_in old) c good) r h
+      was_in_hand r (inl (inr h)) = inl (inl (inr h))
+      was_in_hand r (inr h) = inl (inr h)
 
-      since : (r : Reached) → HeldAt rules start r ⊎ IsAdded start stop r → Stays r
-      since r (inl h) = was_held r h
+      since : (r : Reached) → HasAt rules start r ⊎ IsAdded start stop r → Stays r
+      since r (inl h) = was_in_hand r h
       since r (inr h) = inr (added r h)
 
-      stays : (r : Reached) → HeldAt rules stop r → Stays r
-      stays r h = since r (kept.held r h)
+      stays : (r : Reached) → HasAt rules stop r → Stays r
+      stays r h = since r (kept.only_cells r h)
 
       stop_fits : Fit (of_core stop.core)
       stop_fits = holds_fit own Stays (cells_in old) (of_core stop.core) (λ r h. stays r (inl (inl h)))
 
       module _ (left : Contents H) (fits : Fit left) where
-        held : (r : Reached) → IsHeld rules left new r → Stays r
-        held r (inl (inl (inl h))) = fit_holds own Stays (cells_in old) left fits r h
-        held r (inl (inl (inr h))) = fit_holds own Stays (cells_in old) (of_state new)
+        only_cells : (r : Reached) → IsInHand rules left new r → Stays r
+        only_cells r (inl (inl (inl h))) = fit_holds own Stays (cells_in old) left fits r h
+        only_cells r (inl (inl (inr h))) = fit_holds own Stays (cells_in old) (of_state new)
             (stop_fits.1.1.0, (stop_fits.1.1.1.0, stop_fits.1.1.1.1.1)) r h
-        held r (inl (inr h)) = inl (inl (inr h))
-        held r (inr h) = stays r (inr h)
+        only_cells r (inl (inr h)) = inl (inl (inr h))
+        only_cells r (inr h) = stays r (inr h)
 
         below_more : (n : ℕ) → IsWithin rules given old → Stays (Cell n) → n < cells_in new
         below_more n within (inl h) = omega (arith, within n h, grows)
@@ -182,8 +182,8 @@ module _ {S H : Type 0} (rules : Rules S H) (given : Contents H) (old new : Stat
         again = record {
           sealed = kept.sealed.cells;
           grows = grows;
-          held = held;
-          fits = λ within n h. below_more n within (held (Cell n) h);
+          only_cells = only_cells;
+          fits = λ within n h. below_more n within (only_cells (Cell n) h);
         }
 
       -- what is left is told from how it ended, and from the place
@@ -208,20 +208,20 @@ module _ {S H : Type 0} (rules : Rules S H) (given : Contents H) (old new : Stat
       from_again r left ends leaves =
           ends_again (HasMemory r) (ended r) left ends (λ control focus. leaves (result_fits r control) focus)
 
-      -- with a value that has a mark, or an error
-      pub mark_again : (r : Result (Dynamic H × Bool) (EvalAltResult H)) (left : Contents H) →
-          EndsMarked rules begins (at_work before old) r (at_work after new) →
-          (Fit (of_marked r) → Fit (of_maybe after) → Fit left) → FitsAgain rules given old left new
-      mark_again r left ends leaves =
-          ends_again (HasMemory r) (marked r) left ends (λ control focus. leaves (marked_fits r control) focus)
+      -- with a value and whether the first argument may have changed, or an error
+      pub changed_again : (r : Result (Dynamic H × Bool) (EvalAltResult H)) (left : Contents H) →
+          EndsChanged rules begins (at_work before old) r (at_work after new) →
+          (Fit (of_changed r) → Fit (of_maybe after) → Fit left) → FitsAgain rules given old left new
+      changed_again r left ends leaves =
+          ends_again (HasMemory r) (ended_or_changed r) left ends (λ control focus. leaves (changed_fits r control) focus)
 
       -- with nothing behind it, of which the place alone is told
       pub alone_again : EndsAlone rules begins (at_work before old) (at_work after new) →
           FitsAgain rules given old (of_maybe after) new
-      alone_again ends = fits_again before after (begins [] (at_work before old).local) (marked ends.0) good (goes rules ends.1)
+      alone_again ends = fits_again before after (begins [] (at_work before old).local) (ended_or_changed ends.0) good (goes rules ends.1)
           (of_maybe after) (λ control focus. focus)
 
-      -- with an error of an assignment that did nothing, since memory was wanting, or that ended as the machine does
+      -- with an error of an assignment that did nothing, since memory ran out, or that ended as the machine does
       failed_again : (s : AreSealed old.local.around.cells) (place : Fit (of_maybe before)) (e : EvalAltResult H) (left : Contents H) →
           (lacks : Bool) → is_out_of_memory e ≡ lacks →
           EndsAssigned rules begins (at_work before old) (Err e) (at_work after new) →
@@ -242,7 +242,7 @@ module _ {S H : Type 0} (rules : Rules S H) (given : Contents H) (old new : Stat
           EndsAssigned rules begins (at_work before old) r (at_work after new) →
           (Fit (of_done r) → Fit (of_maybe after) → Fit left) → FitsAgain rules given old left new
       assigned_again s place (Ok done) left ends leaves =
-          fits_again before after (begins [] (at_work before old).local) (marked (assigned (Ok done))) good
+          fits_again before after (begins [] (at_work before old).local) (ended_or_changed (assigned (Ok done))) good
           (goes rules (ends.runs tt [])) left (λ control focus. leaves tt focus)
       assigned_again s place (Err e) left ends leaves = failed_again s place e left (is_out_of_memory e) refl ends leaves
 

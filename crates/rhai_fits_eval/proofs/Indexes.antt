@@ -1,4 +1,4 @@
--- What an index keeps: it leads to a part or a copy of the object, or to what an indexer made of what it reached.
+-- What an index keeps: it leads to a part or a copy of the value that is indexed, or to what an indexer made of what it reached.
 use Rattle.std.proofs.Common.{◌≡◌, ◌≤◌, ◌<◌, ◌+◌, ◌⊎◌, inl, inr, ℕ, Bool, true, false, List, [], ◌∷◌, refl, sym, subst}
 use Rattle.std.proofs.Common.{true≢false, arith}
 use Rattle.std.proofs.lemmas.Bool.{cases_lt}
@@ -12,7 +12,7 @@ use Rattle.rhai_state.specs.declared.scope.Scope.{Scope}
 use Rattle.rhai_state.specs.declared.state.GlobalRuntimeState.{GlobalRuntimeState}
 use Rattle.rhai_state.specs.Errors.{is_out_of_memory}
 use Rattle.rhai_state.specs.Native.{Effect, Natives, Request, Reply, Missing, Gives as Answers, Faults, ByFirst, ByState, Lawful}
-use Rattle.rhai_state.specs.Reach.{Reached, Cell}
+use Rattle.rhai_state.specs.ValueContents.{Reached, Cell}
 use Rattle.rhai_places.specs.declared.spot.Access.{Access}
 use Rattle.rhai_places.specs.declared.spot.Spot.{Spot}
 use Rattle.rhai_places.specs.declared.spot.Spot.TheVariants as spot
@@ -31,16 +31,16 @@ use Rattle.rhai_fits.proofs.Properties.{all_at, all_of}
 use Rattle.rhai_fits.proofs.Values.{Fit, fit_unit}
 use Rattle.rhai_fits.proofs.Errors.{FitError, fit_error}
 use Rattle.rhai_fits.proofs.Fitting.{AllFit, Flat, FlatMaybe, Gives}
-use Rattle.rhai_fits.proofs.Natives.{FitReply, FitRequest, FitState, reply_fits, first_fits, starved_first_fits, starved_state_fits}
+use Rattle.rhai_fits.proofs.Natives.{FitReply, FitRequest, FitState, reply_fits, first_fits, run_out_first_fits, run_out_state_fits}
 use Rattle.rhai_fits.proofs.Calls.{sized_gives}
 use Rattle.rhai_fits.proofs.Firing.{placed_fits}
 use Rattle.rhai_fits.proofs.Spots.{FlatSource, found_gives, part_fits, value_at_fits}
-use Rattle.rhai_index.specs.Indexers.{as_temporary, asks_indexer, called, effect_of, indexer_result, is_barred, is_pure_for, reading}
+use Rattle.rhai_index.specs.Indexers.{as_temporary, asks_indexer, call_effect, effect_of, indexer_result, is_barred, is_pure_for, read_call}
 use Rattle.rhai_index.specs.Indexers.{is_called, request_of}
 use Rattle.rhai_index.specs.Indexes.{Indexes}
 use Rattle.rhai_index.specs.Lends.{EndsRefused, MayEndAs}
 use Rattle.rhai_index.proofs.Following.{index_counts}
-use Rattle.rhai_fits_eval.specs.InHand.{FitsAgain, IsHeld, IsWithin, cells_in, of_lent}
+use Rattle.rhai_fits_eval.specs.InHand.{FitsAgain, IsInHand, IsWithin, cells_in, of_lent}
 use Rattle.rhai_fits_eval.proofs.Ends.{Stays, fit_holds, given_fits, memory_fits, state_fits}
 
 module _ {H : Type 0} (own : H → List Reached) (P : Reached → Type 0) (least : ℕ) where
@@ -127,21 +127,21 @@ module _ {S H T : Type 0} (limits : Limits) (host : H → List ℕ) (natives : N
       (cells : AllFit natives.holds.of_host P least (of_cells (cells_of g.cells))) (object : Fit natives.holds.of_host P x)
       (index : Fit natives.holds.of_host P i) (table : FitState host natives P least (table_of t)) where
     abbrev asks : Request H
-    asks = request_of (cells_of g.cells) (reading i how.op_pos) x
+    asks = request_of (cells_of g.cells) (read_call i how.op_pos) x
 
     asks_fits : FitRequest natives.holds.of_host P least asks
     asks_fits = record { cells = cells; first = (object, flat); rest = (index, tt) }
 
     -- the table's state
     pub table_fits : FitState host natives P least (table_of t')
-    table_fits = starved_state_fits host natives P least host (table_of t) asks (Some x) (table_of t') table asks_fits (record {
+    table_fits = run_out_state_fits host natives P least host (table_of t) asks (Some x) (table_of t') table asks_fits (record {
       no_handle = flat;
       leaves = record { pure_keeps = λ pure. refl; first_reached = λ r held. ByFirst held; state_reached = does.reached };
     })
 
     -- what an indexer leaves
     abbrev effect_at : Bool → Effect S H
-    effect_at barred = called natives (cells_of g.cells) how.op_pos barred (table_of t) (reading i how.op_pos).name x (i ∷ [])
+    effect_at barred = call_effect natives (cells_of g.cells) how.op_pos barred (table_of t) (read_call i how.op_pos).name x (i ∷ [])
 
     effect_fits : (barred : Bool) → FitReply natives.holds.of_host P least (effect_at barred).reply
         × FlatMaybe natives.holds.of_host P least (effect_at barred).first
@@ -156,7 +156,7 @@ module _ {S H T : Type 0} (limits : Limits) (host : H → List ℕ) (natives : N
     maybe_fits (Some v) h = h.0
 
     abbrev barred : Bool
-    barred = is_barred true (is_pure_for natives host (cells_of g.cells) (table_of t) (reading i how.op_pos) x) x
+    barred = is_barred true (is_pure_for natives host (cells_of g.cells) (table_of t) (read_call i how.op_pos) x) x
 
     abbrev Lent : Result (Target H) (EvalAltResult H) → Type 0
     Lent r = AllFit natives.holds.of_host P least (of_lent r)
@@ -182,9 +182,9 @@ module _ {S H T : Type 0} (limits : Limits) (host : H → List ℕ) (natives : N
     abbrev unpure : Natives S H
     unpure = record natives { pure = λ state asked. false }
 
-    -- what an indexer may leave of the object
+    -- what an indexer may leave of the value that is indexed
     left_fits : (end : Dynamic H) → MayEndAs natives (table_of t) asks end → Fit natives.holds.of_host P end
-    left_fits end may = (starved_first_fits host unpure P least host (table_of t) asks (Some end) (table_of t) table asks_fits (record {
+    left_fits end may = (run_out_first_fits host unpure P least host (table_of t) asks (Some end) (table_of t) table asks_fits (record {
       no_handle = may.0;
       leaves = record {
         pure_keeps = λ pure. absurd (true≢false (sym pure));
@@ -193,14 +193,14 @@ module _ {S H T : Type 0} (limits : Limits) (host : H → List ℕ) (natives : N
       };
     })).0
 
-    ended_fits : (called : Bool) (left : Option (Dynamic H)) (end : Dynamic H) →
-        EndsRefused called left (MayEndAs natives (table_of t) asks) r x end → Fit natives.holds.of_host P end
+    ended_fits : (call_effect : Bool) (left : Option (Dynamic H)) (end : Dynamic H) →
+        EndsRefused call_effect left (MayEndAs natives (table_of t) asks) r x end → Fit natives.holds.of_host P end
     ended_fits true left end ends = left_fits end ends.1
     ended_fits false left end ends = rw ends object
 
     -- what is left of it at an error
     pub refused_fits : (end : Dynamic H) → EndsRefused (is_called limits g use_indexers (layer_of x))
-        (effect_of natives host (cells_of g.cells) (table_of t) (reading i how.op_pos) x).first
+        (effect_of natives host (cells_of g.cells) (table_of t) (read_call i how.op_pos) x).first
         (MayEndAs natives (table_of t) asks) r x end → Fit natives.holds.of_host P end
     refused_fits end ends = ended_fits _ _ end ends
 
@@ -222,18 +222,18 @@ module _ {S H : Type 0} (rules : Rules S H) (given left : Contents H) (old : Sta
   abbrev own : H → List Reached
   own = rules.natives.holds.of_host
 
-  abbrev StaysHeld : Reached → Type 0
-  StaysHeld = Stays rules given old after
+  abbrev StaysInHand : Reached → Type 0
+  StaysInHand = Stays rules given old after
 
-  module _ (fits : AllFit own StaysHeld (cells_in old) left)
-      (state : FitState rules.setting.host_type rules.natives StaysHeld (cells_in old) table) where
-    held_after : (r : Reached) → IsHeld rules left after r → StaysHeld r
-    held_after r (inl (inl (inl h))) = fit_holds own StaysHeld (cells_in old) left fits r h
-    held_after r (inl (inl (inr h))) = inl (inl (inl (inr h)))
-    held_after r (inl (inr h)) = inl (inl (inr h))
-    held_after r (inr h) = all_at StaysHeld (rules.natives.holds.of_state table) r state h
+  module _ (fits : AllFit own StaysInHand (cells_in old) left)
+      (state : FitState rules.setting.host_type rules.natives StaysInHand (cells_in old) table) where
+    in_hand_after : (r : Reached) → IsInHand rules left after r → StaysInHand r
+    in_hand_after r (inl (inl (inl h))) = fit_holds own StaysInHand (cells_in old) left fits r h
+    in_hand_after r (inl (inl (inr h))) = inl (inl (inl (inr h)))
+    in_hand_after r (inl (inr h)) = inl (inl (inr h))
+    in_hand_after r (inr h) = all_at StaysInHand (rules.natives.holds.of_state table) r state h
 
-    below : (n : ℕ) → IsWithin rules given old → StaysHeld (Cell n) → n < cells_in old
+    below : (n : ℕ) → IsWithin rules given old → StaysInHand (Cell n) → n < cells_in old
     below n within (inl h) = within n h
     below n within (inr h) = h.1
 
@@ -241,8 +241,8 @@ module _ {S H : Type 0} (rules : Rules S H) (given left : Contents H) (old : Sta
     same_again = record {
       sealed = s;
       grows = omega arith;
-      held = held_after;
-      fits = λ within n h. below n within (held_after (Cell n) h);
+      only_cells = in_hand_after;
+      fits = λ within n h. below n within (in_hand_after (Cell n) h);
     }
 
 module _ {S H T : Type 0} (rules : Rules S H) (limits : Limits) (names : H → List ℕ) (table_of : T → S) (how : Access)
@@ -256,11 +256,11 @@ module _ {S H T : Type 0} (rules : Rules S H) (limits : Limits) (names : H → L
   abbrev old : State S H
   old = state_of (table_of t) g scope held
 
-  -- what the object ends as where it is refused
+  -- what the value that is indexed ends as where the index is refused
   abbrev Ends : Dynamic H → Type 0
   Ends end = EndsRefused (is_called limits g use_indexers (layer_of x))
-      (effect_of rules.natives names (cells_of g.cells) (table_of t) (reading i how.op_pos) x).first
-      (MayEndAs rules.natives (table_of t) (request_of (cells_of g.cells) (reading i how.op_pos) x)) r x end
+      (effect_of rules.natives names (cells_of g.cells) (table_of t) (read_call i how.op_pos) x).first
+      (MayEndAs rules.natives (table_of t) (request_of (cells_of g.cells) (read_call i how.op_pos) x)) r x end
 
   module _ (n : ℕ) where
     abbrev new : State S H
@@ -269,26 +269,26 @@ module _ {S H T : Type 0} (rules : Rules S H) (limits : Limits) (names : H → L
     abbrev P : Reached → Type 0
     P = Stays rules given old new
 
-    abbrev host_holds : H → List Reached
-    host_holds = rules.natives.holds.of_host
+    abbrev host_reaches : H → List Reached
+    host_reaches = rules.natives.holds.of_host
 
-    cells_fit : AllFit host_holds P (cells_in old) (of_cells (cells_of g.cells))
+    cells_fit : AllFit host_reaches P (cells_in old) (of_cells (cells_of g.cells))
     cells_fit = (state_fits rules given old new).1.1.0
 
-    object_fits : Fit host_holds P x
+    object_fits : Fit host_reaches P x
     object_fits = (given_fits rules given old new).0
 
-    index_fits : Fit host_holds P i
+    index_fits : Fit host_reaches P i
     index_fits = (given_fits rules given old new).1
 
     table_before : FitState names rules.natives P (cells_in old) (table_of t)
     table_before = all_of P (rules.natives.holds.of_state (table_of t)) (λ r c. inl (inr c))
 
-    lent_at : AllFit host_holds P (cells_in old) (of_lent r)
+    lent_at : AllFit host_reaches P (cells_in old) (of_lent r)
     lent_at = lent_fits limits names rules.natives table_of how use_indexers g t x i g' t' i' r does P (cells_in old) lawful flat cells_fit
         object_fits index_fits table_before
 
-    index_at : Fit host_holds P i'
+    index_at : Fit host_reaches P i'
     index_at = rw does.index index_fits
 
     table_at : FitState names rules.natives P (cells_in old) (table_of t')
@@ -315,7 +315,7 @@ module _ {S H T : Type 0} (rules : Rules S H) (limits : Limits) (names : H → L
   pub index_again : Again (Both (of_lent r) (OneValue i')) g'
   index_again = subst (Again (Both (of_lent r) (OneValue i'))) (sym counted) (found_again g'.num_operations)
 
-  -- where it is refused, with what is left of the object
+  -- where it is refused, with what is left of the value that is indexed
   pub refused_again : (end : Dynamic H) → Ends end → Again (Both (of_lent r) (Both (OneValue end) (OneValue i'))) g'
   refused_again end ends = subst (Again (Both (of_lent r) (Both (OneValue end) (OneValue i')))) (sym counted)
       (missed_again g'.num_operations end ends)

@@ -1,10 +1,10 @@
--- What calls keep whose first argument, or object, stands in a place of the caller, or is handed in by value.
+-- What calls keep whose first argument, or what they index, stands in a place of the caller, or is handed in by value.
 use Rattle.std.proofs.Common.{◌≡◌, ℕ, zero, suc, Bool, true, false, List, [], ◌∷◌, replicate}
 use Rattle.std.specs.Prelude.{Some, None, Result}
 use Rattle.rhai_tree.specs.declared.position.Position.{Position}
 use Rattle.rhai_machine.specs.Types.{Dynamic, EvalAltResult}
 use Rattle.rhai_state.specs.Native.{Lawful}
-use Rattle.rhai_state.specs.Reach.{Reached}
+use Rattle.rhai_state.specs.ValueContents.{Reached}
 use Rattle.rhai_machine.specs.language.Setting.{Rules}
 use Rattle.rhai_machine.specs.language.State.{State}
 use Rattle.rhai_machine.specs.language.Calls.{dispatch_core}
@@ -17,11 +17,11 @@ use Rattle.rhai_fits.proofs.Values.{fit_unit}
 use Rattle.rhai_fits.proofs.Fitting.{AllFit, to}
 use Rattle.rhai_fits.proofs.Calls.{dispatch_good}
 use Rattle.rhai_fits.proofs.Methods.{get_good, set_good}
-use Rattle.rhai_eval.specs.Ends.{EndsFrom, EndsMarked}
+use Rattle.rhai_eval.specs.Ends.{EndsFrom, EndsChanged}
 use Rattle.rhai_eval.specs.Indexing.{item_by}
 use Rattle.rhai_eval.specs.Places.{by_name, by_value, on_place}
-use Rattle.rhai_fits_eval.specs.InHand.{FitsAgain, cells_in, of_marked}
-use Rattle.rhai_fits_eval.proofs.Ends.{at_work, given_fits, offer_fits, nothing_below, from_again, mark_again}
+use Rattle.rhai_fits_eval.specs.InHand.{FitsAgain, cells_in, of_changed}
+use Rattle.rhai_fits_eval.proofs.Ends.{at_work, given_fits, offer_fits, nothing_below, from_again, changed_again}
 
 -- `()` in so many places
 pub units_fit : {H : Type 0} (own : H → List Reached) (P : Reached → Type 0) (least n : ℕ) →
@@ -31,7 +31,7 @@ units_fit own P least (suc n) = (fit_unit own P, units_fit own P least n)
 
 module _ {S H : Type 0} (rules : Rules S H) (old new : State S H) (names : H → List ℕ) (lawful : Lawful names rules.natives)
     (s : AreSealed old.local.around.cells) where
-  -- a call with a mark, on a value that stood in a place, and on the others
+  -- a call that says whether it changed its first argument, which stood in a place; and the other arguments
   module _ (operation : Operation) (r : Result (Dynamic H × Bool) (EvalAltResult H)) (x y : Dynamic H) (rest : List (Dynamic H))
       (n : ℕ) (left : List (Dynamic H)) where
     abbrev given : Contents H
@@ -39,37 +39,37 @@ module _ {S H : Type 0} (rules : Rules S H) (old new : State S H) (names : H →
 
     -- a native, which leaves the others
     pub native_again : (guarded : Bool) → left ≡ rest →
-        EndsMarked rules (λ k l. core (Ask (on_place operation guarded (Some x) rest)) k l) (at_work (Some x) old) r
-        (at_work (Some y) new) → FitsAgain rules given old (Both (of_marked r) (of_values (y ∷ left))) new
+        EndsChanged rules (λ k l. core (Ask (on_place operation guarded (Some x) rest)) k l) (at_work (Some x) old) r
+        (at_work (Some y) new) → FitsAgain rules given old (Both (of_changed r) (of_values (y ∷ left))) new
     native_again guarded is ends =
         let h = given_fits rules given old new in
-        mark_again rules given old new names lawful (Some x) (Some y) (λ k l. core (Ask (on_place operation guarded (Some x) rest)) k l)
+        changed_again rules given old new names lawful (Some x) (Some y) (λ k l. core (Ask (on_place operation guarded (Some x) rest)) k l)
         (to _ _ _ (Ask (on_place operation guarded (Some x) rest)) [] _ h tt (nothing_below rules given old new s (Some x) h.0)) r
-        (Both (of_marked r) (of_values (y ∷ left))) ends (λ result focus. (result, (focus, rw is h.1)))
+        (Both (of_changed r) (of_values (y ∷ left))) ends (λ result focus. (result, (focus, rw is h.1)))
 
     -- a call by name, which uses up the others
     pub lent_again : (of_method on_scope : Bool) → left ≡ replicate n unit_value →
-        EndsMarked rules (dispatch_core rules.setting (by_name of_method on_scope) (on_place operation true (Some x) rest))
-        (at_work (Some x) old) r (at_work (Some y) new) → FitsAgain rules given old (Both (of_marked r) (of_values (y ∷ left))) new
+        EndsChanged rules (dispatch_core rules.setting (by_name of_method on_scope) (on_place operation true (Some x) rest))
+        (at_work (Some x) old) r (at_work (Some y) new) → FitsAgain rules given old (Both (of_changed r) (of_values (y ∷ left))) new
     lent_again of_method on_scope is ends =
         let h = given_fits rules given old new in
-        mark_again rules given old new names lawful (Some x) (Some y)
+        changed_again rules given old new names lawful (Some x) (Some y)
         (dispatch_core rules.setting (by_name of_method on_scope) (on_place operation true (Some x) rest))
         (dispatch_good _ _ _ rules.setting (offer_fits rules given old new) (by_name of_method on_scope)
         (on_place operation true (Some x) rest) [] _ h (nothing_below rules given old new s (Some x) h.0)) r
-        (Both (of_marked r) (of_values (y ∷ left))) ends (λ result focus. (result, (focus, rw is (units_fit _ _ (cells_in old) n))))
+        (Both (of_changed r) (of_values (y ∷ left))) ends (λ result focus. (result, (focus, rw is (units_fit _ _ (cells_in old) n))))
 
     -- and one whose arguments are all handed in by value
     pub by_value_again : (on_scope : Bool) → y ≡ unit_value → left ≡ replicate n unit_value →
-        EndsMarked rules (dispatch_core rules.setting (by_name false on_scope) (by_value operation (Some x) rest)) (at_work None old) r
-        (at_work None new) → FitsAgain rules given old (Both (of_marked r) (of_values (y ∷ left))) new
+        EndsChanged rules (dispatch_core rules.setting (by_name false on_scope) (by_value operation (Some x) rest)) (at_work None old) r
+        (at_work None new) → FitsAgain rules given old (Both (of_changed r) (of_values (y ∷ left))) new
     by_value_again on_scope taken is ends =
         let h = given_fits rules given old new in
-        mark_again rules given old new names lawful None None
+        changed_again rules given old new names lawful None None
         (dispatch_core rules.setting (by_name false on_scope) (by_value operation (Some x) rest))
         (dispatch_good _ _ _ rules.setting (offer_fits rules given old new) (by_name false on_scope)
         (by_value operation (Some x) rest) [] _ h (nothing_below rules given old new s None tt)) r
-        (Both (of_marked r) (of_values (y ∷ left))) ends
+        (Both (of_changed r) (of_values (y ∷ left))) ends
         (λ result focus. (result, (rw taken (fit_unit _ _), rw is (units_fit _ _ (cells_in old) n))))
 
   -- ---- indexers
@@ -88,13 +88,13 @@ module _ {S H : Type 0} (rules : Rules S H) (old new : State S H) (names : H →
 
     -- the one that writes, which leaves the new value too
     pub set_again : (guarded : Bool) (value after : Dynamic H) → after ≡ value → (r : Result (Dynamic H × Bool) (EvalAltResult H)) →
-        EndsMarked rules (set_core false (item_by index pos guarded) value) (at_work (Some x) old) r (at_work (Some y) new) →
+        EndsChanged rules (set_core false (item_by index pos guarded) value) (at_work (Some x) old) r (at_work (Some y) new) →
         FitsAgain rules (Both (OneValue x) (Both (OneValue index) (OneValue value))) old
-        (Both (of_marked r) (Both (OneValue y) (Both (OneValue now) (OneValue after)))) new
+        (Both (of_changed r) (Both (OneValue y) (Both (OneValue now) (OneValue after)))) new
     set_again guarded value after stays r ends =
         let given : Contents H = Both (OneValue x) (Both (OneValue index) (OneValue value)) in
         let h = given_fits rules given old new in
-        mark_again rules given old new names lawful (Some x) (Some y) (set_core false (item_by index pos guarded) value)
+        changed_again rules given old new names lawful (Some x) (Some y) (set_core false (item_by index pos guarded) value)
         (set_good _ _ _ false (item_by index pos guarded) value [] _ h.1.0 h.1.1 (nothing_below rules given old new s (Some x) h.0)) r
-        (Both (of_marked r) (Both (OneValue y) (Both (OneValue now) (OneValue after)))) ends
+        (Both (of_changed r) (Both (OneValue y) (Both (OneValue now) (OneValue after)))) ends
         (λ result focus. (result, (focus, (rw same h.1.0, rw stays h.1.1))))

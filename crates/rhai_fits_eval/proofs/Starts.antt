@@ -5,7 +5,7 @@ use Rattle.std.specs.Borrow.{Bor}
 use Rattle.rhai_tree.specs.declared.expr.OpAssignment.{OpAssignment}
 use Rattle.rhai_machine.specs.Types.{Dynamic, EvalAltResult, Expr, Stmt}
 use Rattle.rhai_state.specs.Native.{Lawful}
-use Rattle.rhai_state.specs.Reach.{Reached}
+use Rattle.rhai_state.specs.ValueContents.{Reached}
 use Rattle.rhai_machine.specs.language.Setting.{Rules}
 use Rattle.rhai_machine.specs.language.State.{Local, State}
 use Rattle.rhai_machine.specs.language.Activations.{Entered}
@@ -18,8 +18,8 @@ use Rattle.rhai_fits.specs.Contents.{Contents, Both, Nothing, of_environ, of_new
 use Rattle.rhai_fits.specs.Sealed.{AreSealed, NewSealed}
 use Rattle.rhai_fits.proofs.Values.{fit_unit}
 use Rattle.rhai_fits.proofs.Fitting.{AllFit, FitBelow, FitCore, to, push, values_dropped, values_joined}
-use Rattle.rhai_cycle.specs.Bodies.{args_left}
-use Rattle.rhai_cycle.specs.Calls.{called}
+use Rattle.rhai_eval_core.specs.Bodies.{args_left}
+use Rattle.rhai_eval_core.specs.Calls.{called}
 use Rattle.rhai_eval.specs.Chains.{assigned_in, AssignsNoHandle, whole_chain}
 use Rattle.rhai_eval.specs.Ends.{EndsAs, EndsFrom}
 use Rattle.rhai_fits_eval.specs.InHand.{FitsAgain, cells_in}

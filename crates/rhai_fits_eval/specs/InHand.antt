@@ -2,23 +2,23 @@
 use Rattle.std.specs.Prelude.{◌⊎◌, ◌≤◌, ◌<◌, ℕ, Bool, Result, Ok, Err, Contains, length}
 use Rattle.rhai_values.specs.declared.base.value.Dynamic.{Dynamic}
 use Rattle.rhai_state.specs.declared.error.EvalAltResult.{EvalAltResult}
-use Rattle.rhai_state.specs.Reach.{Reached, Cell}
+use Rattle.rhai_state.specs.ValueContents.{Reached, Cell}
 use Rattle.rhai_places.specs.declared.target.Part.{Part}
 use Rattle.rhai_places.specs.declared.target.Target.{Target}
 use Rattle.rhai_places.specs.Targets.{shown}
 use Rattle.rhai_machine.specs.language.Setting.{Rules}
 use Rattle.rhai_machine.specs.language.State.{State}
-use Rattle.rhai_fits.specs.Contents.{Contents, Nothing, OneValue, OneError, Both, of_maybe, of_scope, of_cells, of_around, of_offer, Holds}
+use Rattle.rhai_fits.specs.Contents.{Contents, Nothing, OneValue, OneError, Both, of_maybe, of_scope, of_cells, of_around, of_offer, Has}
 use Rattle.rhai_fits.specs.Sealed.{AreSealed}
-use Rattle.rhai_methods.specs.Targets.{stands}
+use Rattle.rhai_methods.specs.Targets.{value_walked_on}
 
 module _ {H : Type 0} where
   -- ---- what a caller has in hand
 
-  -- a value that comes with a mark, or an error
-  abbrev pub of_marked : Result (Dynamic H × Bool) (EvalAltResult H) → Contents H
-  of_marked (Ok marked) = OneValue marked.0
-  of_marked (Err e) = OneError e
+  -- a value that comes with whether the call changed its first argument, or an error
+  abbrev pub of_changed : Result (Dynamic H × Bool) (EvalAltResult H) → Contents H
+  of_changed (Ok answer) = OneValue answer.0
+  of_changed (Err e) = OneError e
 
   -- an answer that tells no value, or an error
   abbrev pub of_done : Result (Unit {0}) (EvalAltResult H) → Contents H
@@ -27,7 +27,7 @@ module _ {H : Type 0} where
 
   -- what a chain goes on with behind a target, and what the target shows: a temporary's place is touched by no call
   abbrev pub of_target : Part H → (place : Dynamic H) → Contents H
-  of_target what place = Both (OneValue (stands what place)) (OneValue (shown what place))
+  of_target what place = Both (OneValue (value_walked_on what place)) (OneValue (shown what place))
 
   -- what a target borrows and what it shows, or an error
   abbrev pub of_lent : Result (Target H) (EvalAltResult H) → Contents H
@@ -41,6 +41,7 @@ module _ {H : Type 0} where
   of_state s =
       Both (of_scope s.local.scope) (Both (of_maybe s.local.this) (Both (of_cells s.local.around.cells) (of_around s.local.around)))
 
+  -- how many cells a state has
   abbrev pub cells_in : {S : Type 0} → State S H → ℕ
   cells_in s = length s.local.around.cells
 
@@ -50,20 +51,20 @@ module _ {H : Type 0} where
   IsNew old new _ = ⊥
 
 module _ {S H : Type 0} (rules : Rules S H) where
-  -- what is in hand holds this, or a state does, or a module of the engine, or the table in that state: a cell, a script function, a table
-  -- of constants
-  abbrev pub IsHeld : Contents H → State S H → Reached → Type 0
-  IsHeld hand s r = Holds rules.natives.holds.of_host (Both (Both hand (of_state s)) (of_offer rules.setting.offer)) r
+  -- what is in hand contains this, or a state does, or a module of the engine, or the table in that state: a cell, a script function, a
+  -- table of constants
+  abbrev pub IsInHand : Contents H → State S H → Reached → Type 0
+  IsInHand hand s r = Has rules.natives.holds.of_host (Both (Both hand (of_state s)) (of_offer rules.setting.offer)) r
       ⊎ Contains (rules.natives.holds.of_state s.table) r
 
-  -- each cell that is held is one of the store
+  -- each cell among them is one of the store
   abbrev pub IsWithin : Contents H → State S H → Type 0
-  IsWithin hand s = (n : ℕ) → IsHeld hand s (Cell n) → n < cells_in s
+  IsWithin hand s = (n : ℕ) → IsInHand hand s (Cell n) → n < cells_in s
 
-  -- What a call leaves of what it was given in a state: no cell with a bare handle, and no fewer cells. What is held then was held
-  -- before, or is a cell that was added; and where cells of the store alone were held, it is so again.
+  -- What a call leaves of what it was given in a state: no cell with a bare handle, and no fewer cells. What is in hand then was so before,
+  -- or is a cell that was added; and where cells of the store alone were in hand, it is so again.
   pub record FitsAgain (given : Contents H) (old : State S H) (left : Contents H) (new : State S H) : Type 0 where
     pub sealed : AreSealed new.local.around.cells
     pub grows : cells_in old ≤ cells_in new
-    pub held : (r : Reached) → IsHeld left new r → IsHeld given old r ⊎ IsNew old new r
+    pub only_cells : (r : Reached) → IsInHand left new r → IsInHand given old r ⊎ IsNew old new r
     pub fits : IsWithin given old → IsWithin left new

@@ -1,4 +1,4 @@
-//! Calls on a first argument, an object or a target.
+//! Calls on a first argument, on a value that is indexed, or on a target.
 
 ghost use Rattle.std.specs.Prelude.{◌≡◌, ◌∷◌, ◌||◌, IfSome, Some, false, true};
 ghost use Rattle.rhai_values.specs.Cells.{cells_of, IsNoHandle};
@@ -7,10 +7,10 @@ ghost use Rattle.rhai_machine.specs.language.Setting.{rules_of};
 ghost use Rattle.rhai_machine.specs.language.State.{HasMemory};
 ghost use Rattle.rhai_fits.specs.Contents.{Both, OneError, OneValue, of_result, of_values};
 ghost use Rattle.rhai_fits.specs.Sealed.{AreSealed};
-ghost use Rattle.rhai_methods.specs.Targets.{stands};
+ghost use Rattle.rhai_methods.specs.Targets.{value_walked_on};
 ghost use Rattle.rhai_steps.specs.States.{holding, state_of};
 ghost use Rattle.rhai_eval.specs.States.{under};
-ghost use Rattle.rhai_fits_eval.specs.InHand.{FitsAgain, of_done, of_lent, of_marked, of_target};
+ghost use Rattle.rhai_fits_eval.specs.InHand.{FitsAgain, of_done, of_lent, of_changed, of_target};
 
 use rhai_eval::engine::Engine;
 use rhai_index::indexing;
@@ -28,7 +28,8 @@ use rhai_tree::token::Token;
 use rhai_values::base::value::{Dynamic, Host};
 use std::alloc::Global;
 
-/// Of `Engine::exec_native_fn_call` on a first argument.
+/// Shows that `Engine::exec_native_fn_call` on a first argument adds nothing but cells of the store to what
+/// is in hand.
 pub fn exec_native_fn_call<H: Host, T: NativeTable<H>>(
     engine: &Engine<H>,
     alloc: Global,
@@ -46,7 +47,7 @@ pub fn exec_native_fn_call<H: Host, T: NativeTable<H>>(
     ensures fits { (scope : _) (this : _) → FitsAgain (under H.name_of engine.now T.natives)
         (of_values (first.old ∷ rest.old))
         (state_of (T.state table.old) global.old scope (holding this))
-        (Both (of_marked result) (of_values (first.new ∷ rest.new)))
+        (Both (of_changed result) (of_values (first.new ∷ rest.new)))
         (state_of (T.state table.new) global.new scope (holding this)) }
 {
     engine.exec_native_fn_call(
@@ -63,7 +64,7 @@ pub fn exec_native_fn_call<H: Host, T: NativeTable<H>>(
     )
 }
 
-/// Of `Engine::call_indexer_get`.
+/// Shows that `Engine::call_indexer_get` adds nothing but cells of the store to what is in hand.
 pub fn call_indexer_get<H: Host, T: NativeTable<H>>(
     engine: &Engine<H>,
     alloc: Global,
@@ -84,7 +85,7 @@ pub fn call_indexer_get<H: Host, T: NativeTable<H>>(
     engine.call_indexer_get(alloc, global, caches, table, object, index, pos)
 }
 
-/// Of `Engine::call_indexer_set`.
+/// Shows that `Engine::call_indexer_set` adds nothing but cells of the store to what is in hand.
 pub fn call_indexer_set<H: Host, T: NativeTable<H>>(
     engine: &Engine<H>,
     alloc: Global,
@@ -101,7 +102,7 @@ pub fn call_indexer_set<H: Host, T: NativeTable<H>>(
     ensures fits { (scope : _) (this : _) → FitsAgain (under H.name_of engine.now T.natives)
         (Both (OneValue object.old) (Both (OneValue index.old) (OneValue new_val.old)))
         (state_of (T.state table.old) global.old scope (holding this))
-        (Both (of_marked result) (Both (OneValue object.new) (Both (OneValue index.new)
+        (Both (of_changed result) (Both (OneValue object.new) (Both (OneValue index.new)
         (OneValue new_val.new))))
         (state_of (T.state table.new) global.new scope (holding this)) }
 {
@@ -110,8 +111,9 @@ pub fn call_indexer_set<H: Host, T: NativeTable<H>>(
     )
 }
 
-/// Of `Engine::get_indexed_mut`: of the object what a target borrows and shows is known. What is left of it
-/// where the index is refused is told by `refused_index`.
+/// Shows that `Engine::get_indexed_mut` adds nothing but cells of the store to what is in hand. Of the value
+/// that is indexed, what the target borrows and shows is known. What is left of it where the index is refused
+/// is told by `refused_index`.
 pub fn get_indexed_mut<'t, H: Host, T: NativeTable<H>>(
     engine: &Engine<H>,
     alloc: Global,
@@ -147,8 +149,9 @@ pub fn get_indexed_mut<'t, H: Host, T: NativeTable<H>>(
     )
 }
 
-/// The same where it is refused, of the function of `rhai_index` that the call makes, with what is left of
-/// the object.
+/// Shows that an index that is refused adds nothing but cells of the store to what is in hand. It is told of
+/// the function of `rhai_index` that `Engine::get_indexed_mut` calls, with what is left of the value that is
+/// indexed.
 pub fn refused_index<H: Host, T: NativeTable<H>>(
     alloc: Global,
     limits: &Limits,
@@ -174,8 +177,8 @@ pub fn refused_index<H: Host, T: NativeTable<H>>(
     }
 }
 
-/// Of `Engine::make_method_call`: what is left of a part that the target shows is known where memory was not
-/// wanting.
+/// Shows that `Engine::make_method_call` adds nothing but cells of the store to what is in hand. What is left
+/// of a part that the target shows is known where memory did not run out.
 pub fn make_method_call<H: Host, T: NativeTable<H>>(
     engine: &Engine<H>,
     alloc: Global,
@@ -192,8 +195,8 @@ pub fn make_method_call<H: Host, T: NativeTable<H>>(
     ensures fits { (scope : _) (this : _) → FitsAgain (under H.name_of engine.now T.natives)
         (Both (of_values call_args.old) (of_target target.old.part target.old.at.now))
         (state_of (T.state table.old) global.old scope (holding this))
-        (Both (of_marked result) (Both (of_values call_args.new)
-        (OneValue (stands target.new.part target.new.at.now))))
+        (Both (of_changed result) (Both (of_values call_args.new)
+        (OneValue (value_walked_on target.new.part target.new.at.now))))
         (state_of (T.state table.new) global.new scope (holding this)) }
     ensures shown { (scope : _) (this : _) → HasMemory result →
         FitsAgain (under H.name_of engine.now T.natives)
@@ -215,8 +218,8 @@ pub fn make_method_call<H: Host, T: NativeTable<H>>(
     )
 }
 
-/// Of `Engine::eval_op_assignment`: what is left of a part that the target shows is known where memory was
-/// not wanting.
+/// Shows that `Engine::eval_op_assignment` adds nothing but cells of the store to what is in hand. What is
+/// left of a part that the target shows is known where memory did not run out.
 pub fn eval_op_assignment<H: Host, T: NativeTable<H>>(
     engine: &Engine<H>,
     alloc: Global,
@@ -233,7 +236,7 @@ pub fn eval_op_assignment<H: Host, T: NativeTable<H>>(
     ensures fits { (scope : _) (this : _) → FitsAgain (under H.name_of engine.now T.natives)
         (Both (OneValue new_val) (of_target target.old.part target.old.at.now))
         (state_of (T.state table.old) global.old scope (holding this))
-        (Both (of_done result) (OneValue (stands target.new.part target.new.at.now)))
+        (Both (of_done result) (OneValue (value_walked_on target.new.part target.new.at.now)))
         (state_of (T.state table.new) global.new scope (holding this)) }
     ensures shown { (scope : _) (this : _) → HasMemory result →
         FitsAgain (under H.name_of engine.now T.natives)
@@ -245,8 +248,8 @@ pub fn eval_op_assignment<H: Host, T: NativeTable<H>>(
     engine.eval_op_assignment(alloc, global, caches, table, op_info, root, target, new_val)
 }
 
-/// Of `Engine::exec_fn_call` on a scope and a first argument that is lent: one in a place of the caller, or
-/// the object of a method.
+/// Shows that `Engine::exec_fn_call` adds nothing but cells of the store to what is in hand. It has a scope
+/// and a first argument that is lent: one in a place of the caller, or that of a method.
 pub fn exec_fn_call<H: Host, T: NativeTable<H>>(
     engine: &Engine<H>,
     alloc: Global,
@@ -267,7 +270,7 @@ pub fn exec_fn_call<H: Host, T: NativeTable<H>>(
     ensures fits { (this : _) → FitsAgain (under H.name_of engine.now T.natives)
         (of_values (first.old ∷ rest.old))
         (state_of (T.state table.old) global.old scope.old (holding this))
-        (Both (of_marked result) (of_values (first.new ∷ rest.new)))
+        (Both (of_changed result) (of_values (first.new ∷ rest.new)))
         (state_of (T.state table.new) global.new scope.new (holding this)) }
 {
     engine.exec_fn_call(
@@ -286,7 +289,8 @@ pub fn exec_fn_call<H: Host, T: NativeTable<H>>(
     )
 }
 
-/// Of `Engine::exec_fn_call` on a scope and a first argument that is handed in by value.
+/// Shows that `Engine::exec_fn_call` adds nothing but cells of the store to what is in hand. It has a scope
+/// and a first argument that is handed in by value.
 pub fn exec_fn_call_by_value<H: Host, T: NativeTable<H>>(
     engine: &Engine<H>,
     alloc: Global,
@@ -304,7 +308,7 @@ pub fn exec_fn_call_by_value<H: Host, T: NativeTable<H>>(
     ensures fits { (this : _) → FitsAgain (under H.name_of engine.now T.natives)
         (of_values (first.old ∷ rest.old))
         (state_of (T.state table.old) global.old scope.old (holding this))
-        (Both (of_marked result) (of_values (first.new ∷ rest.new)))
+        (Both (of_changed result) (of_values (first.new ∷ rest.new)))
         (state_of (T.state table.new) global.new scope.new (holding this)) }
 {
     engine.exec_fn_call(

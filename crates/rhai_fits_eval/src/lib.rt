@@ -1,16 +1,16 @@
-//! What the evaluator's public calls keep of what they hold, on every way out, want of memory included: what
-//! is held behind a call was held before it, or is a cell of the store that the call added, and no cell gets
-//! a bare handle. Nothing here is run: a function makes the call that its law is of, and its proof sees the
-//! contract of the call alone.
+//! What the evaluator's public calls keep of what is in hand, on every way out, also where memory runs out:
+//! what is in hand behind a call was so before it, or is a cell of the store that the call added, and no cell
+//! gets a bare handle. Nothing here is run: a function makes the call that its law is of, and its proof sees
+//! the contract of the call alone.
 //!
-//! Of what is around the variables the cells, the libraries, the imports and the tables of constants count, of
-//! the engine all modules: what their constants hold, and the environments of their functions.
+//! Of what is around the variables the cells, the libraries, the imports and the tables of constants count,
+//! of the engine all modules: what their constants contain, and the environments of their functions.
 //!
 //! Asked of a caller: no cell of the store has a bare handle, and what a call assigns is none. An empty store
 //! has no cell, and behind each call the next one may be made.
 //!
 //! Where a call has a `this`, a first argument or a scope that may be missing, its law has one. The lemmas of
-//! proofs/Ends.antt, by which the laws are proved, hold for none too.
+//! proofs/Ends.antt, by which the laws are proved, are of calls without one too.
 #![tactic(auto)]
 
 pub mod calls;

@@ -10,10 +10,10 @@ ghost use Rattle.rhai_values.specs.Cells.{cells_of};
 ghost use Rattle.rhai_machine.specs.language.Links.{first_in};
 ghost use Rattle.rhai_fits.specs.Contents.{Nothing, of_new, of_result};
 ghost use Rattle.rhai_fits.specs.Sealed.{AreSealed};
-ghost use Rattle.rhai_pointers.specs.Leading.{all_args};
+ghost use Rattle.rhai_call_forms.specs.Leading.{all_args};
 ghost use Rattle.rhai_steps.specs.Agreement.{AgreesAt, passes};
 ghost use Rattle.rhai_steps.specs.States.{holding, state_of};
-ghost use Rattle.rhai_eval.specs.Calls.{value_with};
+ghost use Rattle.rhai_eval.specs.ArgumentValues.{value_with};
 ghost use Rattle.rhai_eval.specs.Chains.{assigned_in, AssignsNoHandle, chain_resolves};
 ghost use Rattle.rhai_eval.specs.States.{under};
 ghost use Rattle.rhai_fits_eval.specs.InHand.{FitsAgain};
@@ -30,7 +30,7 @@ use rhai_tree::token::Token;
 use rhai_values::base::value::{Dynamic, Host};
 use std::alloc::Global;
 
-/// Of `Engine::eval_expr`.
+/// Shows that `Engine::eval_expr` adds nothing but cells of the store to what is in hand.
 pub fn eval_expr<H: Host, T: NativeTable<H>>(
     engine: &Engine<H>,
     alloc: Global,
@@ -50,7 +50,7 @@ pub fn eval_expr<H: Host, T: NativeTable<H>>(
     engine.eval_expr(alloc, global, caches, table, scope, Some(this), expr)
 }
 
-/// Of `Engine::eval_stmt`.
+/// Shows that `Engine::eval_stmt` adds nothing but cells of the store to what is in hand.
 pub fn eval_stmt<H: Host, T: NativeTable<H>>(
     engine: &Engine<H>,
     alloc: Global,
@@ -80,7 +80,7 @@ pub fn eval_stmt<H: Host, T: NativeTable<H>>(
     )
 }
 
-/// Of `Engine::eval_stmt_block`.
+/// Shows that `Engine::eval_stmt_block` adds nothing but cells of the store to what is in hand.
 pub fn eval_stmt_block<H: Host, T: NativeTable<H>>(
     engine: &Engine<H>,
     alloc: Global,
@@ -111,7 +111,7 @@ pub fn eval_stmt_block<H: Host, T: NativeTable<H>>(
     )
 }
 
-/// Of `Engine::eval_fn_call_expr`.
+/// Shows that `Engine::eval_fn_call_expr` adds nothing but cells of the store to what is in hand.
 pub fn eval_fn_call_expr<H: Host, T: NativeTable<H>>(
     engine: &Engine<H>,
     alloc: Global,
@@ -132,7 +132,7 @@ pub fn eval_fn_call_expr<H: Host, T: NativeTable<H>>(
     engine.eval_fn_call_expr(alloc, global, caches, table, scope, Some(this), expr, pos)
 }
 
-/// Of `Engine::get_arg_value`.
+/// Shows that `Engine::get_arg_value` adds nothing but cells of the store to what is in hand.
 pub fn get_arg_value<H: Host, T: NativeTable<H>>(
     engine: &Engine<H>,
     alloc: Global,
@@ -153,7 +153,7 @@ pub fn get_arg_value<H: Host, T: NativeTable<H>>(
     engine.get_arg_value(alloc, global, caches, table, scope, Some(this), arg_expr)
 }
 
-/// Of `Engine::make_function_call`.
+/// Shows that `Engine::make_function_call` adds nothing but cells of the store to what is in hand.
 pub fn make_function_call<H: Host, T: NativeTable<H>>(
     engine: &Engine<H>,
     alloc: Global,
@@ -192,7 +192,7 @@ pub fn make_function_call<H: Host, T: NativeTable<H>>(
     )
 }
 
-/// Of `Engine::make_qualified_function_call`.
+/// Shows that `Engine::make_qualified_function_call` adds nothing but cells of the store to what is in hand.
 pub fn make_qualified_function_call<H: Host, T: NativeTable<H>>(
     engine: &Engine<H>,
     alloc: Global,
@@ -227,7 +227,8 @@ pub fn make_qualified_function_call<H: Host, T: NativeTable<H>>(
     )
 }
 
-/// Of `Engine::eval_dot_index_chain`, with a value to assign or without.
+/// Shows that `Engine::eval_dot_index_chain` adds nothing but cells of the store to what is in hand. It has a
+/// value to assign, or none.
 pub fn eval_dot_index_chain<H: Host, T: NativeTable<H>>(
     engine: &Engine<H>,
     alloc: Global,

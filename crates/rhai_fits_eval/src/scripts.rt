@@ -20,7 +20,7 @@ use rhai_tree::position::Position;
 use rhai_values::base::value::{Dynamic, EncapsulatedEnviron, Host};
 use std::alloc::Global;
 
-/// Of `Engine::eval_global_statements`.
+/// Shows that `Engine::eval_global_statements` adds nothing but cells of the store to what is in hand.
 pub fn eval_global_statements<H: Host, T: NativeTable<H>>(
     engine: &Engine<H>,
     alloc: Global,
@@ -47,7 +47,8 @@ pub fn eval_global_statements<H: Host, T: NativeTable<H>>(
     )
 }
 
-/// Of `Engine::call_script_fn` on a `this`, and of what it leaves of the arguments.
+/// Shows that `Engine::call_script_fn` on a `this` adds nothing but cells of the store to what is in hand.
+/// What it leaves of the arguments counts as in hand.
 pub fn call_script_fn<H: Host, T: NativeTable<H>>(
     engine: &Engine<H>,
     alloc: Global,

@@ -11,12 +11,12 @@ use Rattle.rhai_functions.specs.Functions.{FunctionKey, def_of, first_given, in_
 
 module _ {H : Type 0} where
   -- an import's module, where it is of the name
-  abbrev pub named_so : List ℕ → Import H → Option (Module H)
-  named_so name i = if bytes_eq (out-Import H i).name name then Some (out-Import H i).«module» else None
+  abbrev pub module_if_named : List ℕ → Import H → Option (Module H)
+  module_if_named name i = if bytes_eq (out-Import H i).name name then Some (out-Import H i).«module» else None
 
   -- the module that a name was last imported for
   abbrev pub imported : List ℕ → List (Import H) → Option (Module H)
-  imported name imports = last_given (named_so name) imports
+  imported name imports = last_given (module_if_named name) imports
 
   -- the root of a path: what was imported under the name, or else the module that is found by it
   abbrev pub root_in : List ℕ → List (Import H) → (named : List (List ℕ) × List (Module H)) → Option (Module H)
@@ -35,11 +35,11 @@ module _ {H : Type 0} where
   abbrev pub constant_in : List ℕ → Module H → Option (Dynamic H)
   constant_in name m = value_of name (out-Module H m).constants
 
-  -- and in the first of some modules that has one
+  -- the constant of a name in the first of some modules that has one
   abbrev pub constant_among : List ℕ → List (Module H) → Option (Dynamic H)
   constant_among name modules = first_given (constant_in name) modules
 
-  -- a function that anybody may call
+  -- a function that anybody may call, None for any other
   abbrev pub if_public : Option (ModuleFn H) → Option (ModuleFn H)
   if_public (Some f) = if is_public (def_of f).access then Some f else None
   if_public None = None

@@ -1,5 +1,5 @@
--- What a name behind a path means, as a value: a constant of the module that the path leads to. Where nothing has the path's first name and the path is
--- `global` alone, it is one of the state's constants.
+-- What a name behind a path means, as a value: a constant of the module that the path leads to. Where nothing has the path's first name
+-- and the path is `global` alone, it is one of the state's constants.
 use Rattle.std.specs.Prelude.{ℕ, Bool, true, false, List, [], ◌∷◌, ◌++◌, Option, Some, None, Result, Ok, Err, codes}
 use Rattle.std.specs.Option.{option_and_then}
 use Rattle.std.specs.Str.{bytes_eq}
@@ -16,14 +16,14 @@ use Rattle.rhai_state.specs.declared.error.EvalAltResult.TheVariants as error
 use Rattle.rhai_functions.specs.Namespaces.{constant_in, down, root_in}
 
 -- names behind a text, each after `::`
-abbrev pub behind : List (List ℕ) → List ℕ
-behind [] = []
-behind (name ∷ names) = codes "::" ++ (name ++ behind names)
+abbrev pub text_behind : List (List ℕ) → List ℕ
+text_behind [] = []
+text_behind (name ∷ names) = codes "::" ++ (name ++ text_behind names)
 
 -- a path as it is written
 abbrev pub path_text : List (List ℕ) → List ℕ
 path_text [] = []
-path_text (root ∷ path) = root ++ behind path
+path_text (root ∷ path) = root ++ text_behind path
 
 -- a path is that of the state's own constants
 abbrev pub is_global : List (List ℕ) → Bool
@@ -46,13 +46,14 @@ module _ {H : Type 0} where
   without_root true own path text at = found_or_missing own text at
   without_root false own path text at = Err (error.ErrorModuleNotFound (path_text path) at)
 
-  -- from the root on
+  -- what a name means from the root of its path on, if there is a root
   abbrev pub from_root : Option (Module H) → (own : Option (Dynamic H)) → (path rest : List (List ℕ)) → (name : List ℕ) → Position →
       Result (Dynamic H) (EvalAltResult H)
   from_root (Some root) own path rest name at =
-      found_or_missing (option_and_then (constant_in name) (down rest (Some root))) (path_text path ++ behind (name ∷ [])) at
-  from_root None own path rest name at = without_root (is_global path) own path (path_text path ++ behind (name ∷ [])) at
+      found_or_missing (option_and_then (constant_in name) (down rest (Some root))) (path_text path ++ text_behind (name ∷ [])) at
+  from_root None own path rest name at = without_root (is_global path) own path (path_text path ++ text_behind (name ∷ [])) at
 
+  -- what a name behind a path means: `constants` are the state's own, and `named` the engine's modules under names
   abbrev pub qualified : (imports : List (Import H)) → (named : List (List ℕ) × List (Module H)) →
       (constants : List (List ℕ) × List (Dynamic H)) → (path : List (List ℕ)) → (name : List ℕ) → Position →
       Result (Dynamic H) (EvalAltResult H)

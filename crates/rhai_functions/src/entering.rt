@@ -11,8 +11,8 @@ use rhai_values::base::value::{AccessMode, Dynamic, Host, Union};
 use std::alloc::AllocError;
 use std::mem::replace;
 
-/// Takes an argument, and leaves `()` in its place; `()` itself where there is none.
-fn taken<H: Host>(args: &mut [Dynamic<H>], at: usize) -> Dynamic<H>
+/// Takes an argument, and leaves `()` there; where there is no argument it takes `()`.
+fn take_argument<H: Host>(args: &mut [Dynamic<H>], at: usize) -> Dynamic<H>
     ensures taken { result ≡ unwrap_or (slice_get args.old at) unit }
     ensures others { drop (suc at) args.new ≡ drop (suc at) args.old }
     ensures length { length args.new ≡ length args.old }
@@ -25,9 +25,9 @@ fn taken<H: Host>(args: &mut [Dynamic<H>], at: usize) -> Dynamic<H>
     }
 }
 
-/// Pushes the parameters of a function as variables that may be written, each with its argument, which is
-/// taken: `()` is left of it. A parameter without an argument is `()`. Where there is no memory some of them
-/// may be there.
+/// Pushes the parameters of a function as variables that may be written, each with its argument. The
+/// argument is taken: `()` is left of it. A parameter without an argument is `()`. Where there is no
+/// memory some of them may be there.
 pub fn push_parameters<H: Host>(
     scope: &mut Scope<H>,
     params: &[Shared<Text>],
@@ -42,7 +42,7 @@ pub fn push_parameters<H: Host>(
 {
     let mut at = 0;
     'params: while at < params.len() {
-        let value = taken(args, at);
+        let value = take_argument(args, at);
         scope.push_shared(params[at].share()?, AccessMode::ReadWrite, value)?;
         at += 1;
     }

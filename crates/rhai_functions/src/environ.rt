@@ -7,8 +7,8 @@ use rhai_state::state::GlobalRuntimeState;
 use rhai_values::base::value::EncapsulatedEnviron;
 use std::alloc::{AllocError, Global};
 
-/// What a function finds around it: the libraries, the imports and the current table of constants of a
-/// state. Ports upstream's `EncapsulatedEnviron::from`.
+/// Builds a function's environment from a state: of its libraries, its imports and its current table of
+/// constants. Ports upstream's `EncapsulatedEnviron::from`.
 pub fn environ_of<H: Drop>(
     alloc: Global,
     global: &GlobalRuntimeState<H>,

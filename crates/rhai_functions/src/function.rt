@@ -4,7 +4,7 @@ ghost use Rattle.std.specs.Prelude.{◌≡◌, IfOk};
 ghost use Rattle.std.specs.Option.{option_map};
 ghost use Rattle.rhai_functions.specs.Called.{function_of};
 ghost use Rattle.rhai_functions.specs.Functions.{found_in};
-ghost use Rattle.rhai_functions.specs.Keys.{key_seen};
+ghost use Rattle.rhai_functions.specs.Keys.{function_key_of};
 
 use crate::key::FnKey;
 use crate::lookup::find_function;
@@ -28,8 +28,8 @@ pub struct Offered<'e, H> {
     pub global_sub_modules: &'e Table<Shared<Module<H>>>,
 }
 
-/// A module's function with an owner of its own, so that it can run while its module may change. It copies
-/// nothing, and fails only where a function has too many owners to count.
+/// Shares a module's function, with an owner of its own, so that it can run while its module may change.
+/// It copies nothing, and fails only where a function has too many owners to count.
 pub fn share_function<H: Drop>(function: &ModuleFn<H>) -> Result<Function<H>, AllocError>
     ensures { IfOk result (λ shared. shared ≡ function_of function.now) }
 {
@@ -43,15 +43,15 @@ pub fn share_function<H: Drop>(function: &ModuleFn<H>) -> Result<Function<H>, Al
     })
 }
 
-/// The function of a key, where a run looks for it: in the libraries and imports of its state, and in the
-/// modules of its engine. It is shared, as `share_function` does it.
+/// Finds the function of a key, where a run looks for it. It looks in the libraries and imports of its
+/// state, and in the modules of its engine. The function is shared, as `share_function` does it.
 pub fn called_function<H: Drop>(
     key: FnKey<'_>,
     offered: &Offered<'_, H>,
     lib: &[Shared<Module<H>>],
     imports: &[Import<H>],
 ) -> Result<Option<Function<H>>, AllocError>
-    ensures { IfOk result (λ found. found ≡ option_map function_of (found_in (key_seen key.entry) lib.now
+    ensures { IfOk result (λ found. found ≡ option_map function_of (found_in (function_key_of key.entry) lib.now
         offered.now.global_modules.now imports.now offered.now.global_sub_modules.now.1)) }
 {
     let found = find_function(

@@ -3,7 +3,7 @@
 ghost use Rattle.std.specs.Prelude.{◌≡◌};
 ghost use Rattle.std.specs.Option.{option_copied};
 ghost use Rattle.rhai_functions.specs.Functions.{has_key as has_key_in, is_type as is_type_in};
-ghost use Rattle.rhai_functions.specs.Keys.{key_seen};
+ghost use Rattle.rhai_functions.specs.Keys.{function_key_of};
 
 use rhai_tree::function::ScriptFuncDef;
 use rhai_tree::{Shared, Text};
@@ -17,7 +17,7 @@ pub struct FnKey<'a> {
     pub this_type: Option<&'a str>,
 }
 
-/// Whether a function's type of `this` is the one that is looked for.
+/// Tells whether a function's type of `this` is the one that is looked for.
 fn is_type(own: &Option<Shared<Text>>, wanted: Option<&str>) -> bool
     ensures { result ≡ is_type_in own.now (option_copied wanted.entry) }
 {
@@ -28,10 +28,10 @@ fn is_type(own: &Option<Shared<Text>>, wanted: Option<&str>) -> bool
     }
 }
 
-/// Whether a function has a key.
+/// Tells whether a function has a key.
 #[inline(always)]
 pub fn has_key(def: &ScriptFuncDef, key: FnKey<'_>) -> bool
-    ensures { result ≡ has_key_in (key_seen key.entry) def.now }
+    ensures { result ≡ has_key_in (function_key_of key.entry) def.now }
 {
     def.params.len() == key.arity
         && def.name.get().as_str() == key.name

@@ -4,17 +4,17 @@ ghost use Rattle.std.specs.Prelude.{◌≡◌};
 ghost use Rattle.std.specs.Option.{option_copied};
 ghost use Rattle.rhai_functions.specs.Functions.{found_in, if_shown, in_imports, in_module, in_modules, in_named};
 ghost use Rattle.rhai_functions.specs.Functions.{is_public as is_public_in, is_shown as is_shown_in, last_of};
-ghost use Rattle.rhai_functions.specs.Keys.{key_seen};
+ghost use Rattle.rhai_functions.specs.Keys.{function_key_of};
 
 use crate::key::{FnKey, has_key};
 use rhai_tree::Shared;
 use rhai_tree::function::FnAccess;
 use rhai_values::base::value::{Import, Module, ModuleFn};
 
-/// The last of some functions that has a key.
+/// Finds the last of some functions that has a key.
 #[inline(always)]
 fn last_with_key<'m, H>(functions: &'m [ModuleFn<H>], key: FnKey<'_>) -> Option<&'m ModuleFn<H>>
-    ensures { option_copied result ≡ last_of (key_seen key.entry) functions.now }
+    ensures { option_copied result ≡ last_of (function_key_of key.entry) functions.now }
 {
     let mut at = functions.len();
     'functions: while at > 0 {
@@ -28,30 +28,30 @@ fn last_with_key<'m, H>(functions: &'m [ModuleFn<H>], key: FnKey<'_>) -> Option<
     None
 }
 
-/// A module's function of a key.
+/// Finds a module's function of a key.
 #[inline(always)]
 pub fn find_in_module<'m, H>(within: &'m Module<H>, key: FnKey<'_>) -> Option<&'m ModuleFn<H>>
-    ensures { option_copied result ≡ in_module (key_seen key.entry) within.now }
+    ensures { option_copied result ≡ in_module (function_key_of key.entry) within.now }
 {
     last_with_key(within.functions.as_slice(), key)
 }
 
-/// Whether anybody may call a function.
+/// Tells whether anybody may call a function.
 fn is_public(access: FnAccess) -> bool
     ensures { result ≡ is_public_in access }
 {
     matches!(access, FnAccess::Public)
 }
 
-/// Whether a function is found without its module's name.
+/// Tells whether a function is found without its module's name.
 fn is_shown<H>(function: &ModuleFn<H>) -> bool
     ensures { result ≡ is_shown_in function.now }
 {
     is_public(function.def.get().def().access) && function.is_global
 }
 
-/// A function, where it is found without its module's name.
-fn shown<H>(found: Option<&ModuleFn<H>>) -> Option<&ModuleFn<H>>
+/// Keeps a function that is found without its module's name, and no other.
+fn only_shown<H>(found: Option<&ModuleFn<H>>) -> Option<&ModuleFn<H>>
     ensures { option_copied result ≡ if_shown (option_copied found.entry) }
 {
     let function = found?;
@@ -59,13 +59,13 @@ fn shown<H>(found: Option<&ModuleFn<H>>) -> Option<&ModuleFn<H>>
     if shows { Some(function) } else { None }
 }
 
-/// The function of a key in the first of some modules that has one.
+/// Finds the function of a key in the first of some modules that has one.
 #[inline(always)]
 pub fn find_in_modules<'m, H>(
     modules: &'m [Shared<Module<H>>],
     key: FnKey<'_>,
 ) -> Option<&'m ModuleFn<H>>
-    ensures { option_copied result ≡ in_modules (key_seen key.entry) modules.now }
+    ensures { option_copied result ≡ in_modules (function_key_of key.entry) modules.now }
 {
     let mut at = 0;
     'modules: while at < modules.len() {
@@ -77,13 +77,13 @@ pub fn find_in_modules<'m, H>(
     None
 }
 
-/// The same of some modules under names, where only what is shown is found.
+/// Finds the function of a key in the first of some modules under names that shows one.
 fn find_in_named<'m, H>(modules: &'m [Shared<Module<H>>], key: FnKey<'_>) -> Option<&'m ModuleFn<H>>
-    ensures { option_copied result ≡ in_named (key_seen key.entry) modules.now }
+    ensures { option_copied result ≡ in_named (function_key_of key.entry) modules.now }
 {
     let mut at = 0;
     'modules: while at < modules.len() {
-        if let Some(function) = shown(find_in_module(modules[at].get(), key)) {
+        if let Some(function) = only_shown(find_in_module(modules[at].get(), key)) {
             return Some(function);
         }
         at += 1;
@@ -91,24 +91,24 @@ fn find_in_named<'m, H>(modules: &'m [Shared<Module<H>>], key: FnKey<'_>) -> Opt
     None
 }
 
-/// The function of a key in the newest of some imports that shows one.
+/// Finds the function of a key in the newest of some imports that shows one.
 fn find_in_imports<'m, H>(imports: &'m [Import<H>], key: FnKey<'_>) -> Option<&'m ModuleFn<H>>
-    ensures { option_copied result ≡ in_imports (key_seen key.entry) imports.now }
+    ensures { option_copied result ≡ in_imports (function_key_of key.entry) imports.now }
 {
     let mut at = imports.len();
     'imports: while at > 0 {
         at -= 1;
-        if let Some(function) = shown(find_in_module(imports[at].module.get(), key)) {
+        if let Some(function) = only_shown(find_in_module(imports[at].module.get(), key)) {
             return Some(function);
         }
     }
     None
 }
 
-/// The function of a key: in the libraries, first to last; in the engine's global modules, in order; in the
-/// imports, from the newest, and in the engine's global modules under names, where only a public function
-/// that is marked so is found. Of two functions of one key in a module the later stands. It takes no memory.
-/// Ports the search of upstream's `resolve_fn`.
+/// Finds the function of a key, where a run looks for it. It looks in the libraries, first to last; in
+/// the engine's global modules, in order; in the imports, from the newest, and in the engine's global
+/// modules under names, where only a public function that is global is found. Of two functions of one key
+/// in a module the later stands. It takes no memory. Ports the search of upstream's `resolve_fn`.
 pub fn find_function<'m, H>(
     key: FnKey<'_>,
     lib: &'m [Shared<Module<H>>],
@@ -116,7 +116,7 @@ pub fn find_function<'m, H>(
     imports: &'m [Import<H>],
     global_sub_modules: &'m [Shared<Module<H>>],
 ) -> Option<&'m ModuleFn<H>>
-    ensures { option_copied result ≡ found_in (key_seen key.entry) lib.now global_modules.now imports.now
+    ensures { option_copied result ≡ found_in (function_key_of key.entry) lib.now global_modules.now imports.now
         global_sub_modules.now }
 {
     match find_in_modules(lib, key) {

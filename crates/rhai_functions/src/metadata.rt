@@ -21,7 +21,8 @@ pub struct ScriptFnMetadata<'a> {
 }
 
 impl<'a> ScriptFnMetadata<'a> {
-    /// The same again. It names the same texts, and takes memory for the list of parameters alone.
+    /// Copies what is told of a function. The copy names the texts that the original names, and takes
+    /// memory for the list of parameters alone.
     pub fn try_clone(&self) -> Result<ScriptFnMetadata<'a>, AllocError>
         ensures name { IfOk result (λ copy. copy.name ≡ self.now.name) }
         ensures params { IfOk result (λ copy. copy.params.items ≡ self.now.params.items) }
@@ -54,7 +55,7 @@ impl Display for ScriptFnMetadata<'_> {
     }
 }
 
-/// The names of a function's parameters.
+/// Lists the names of a function's parameters.
 fn params_of<'a>(alloc: Global, def: &'a ScriptFuncDef) -> Result<Vec<&'a str>, AllocError>
     ensures { IfOk result (λ params. map (λ p. p.now) params.items ≡ def.now.params) }
 {
@@ -67,7 +68,7 @@ fn params_of<'a>(alloc: Global, def: &'a ScriptFuncDef) -> Result<Vec<&'a str>, 
     Ok(params)
 }
 
-/// What is told of a function. Ports upstream's `ScriptFnMetadata::from`.
+/// Collects what is told of a function. Ports upstream's `ScriptFnMetadata::from`.
 pub fn metadata_of(alloc: Global, def: &ScriptFuncDef) -> Result<ScriptFnMetadata<'_>, AllocError>
     ensures name { IfOk result (λ told. told.name.now ≡ def.now.name) }
     ensures params { IfOk result (λ told. map (λ p. p.now) told.params.items ≡ def.now.params) }

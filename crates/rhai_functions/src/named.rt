@@ -1,12 +1,12 @@
 //! What a name means that is no variable's: a function of the libraries.
 
 ghost use Rattle.std.specs.Prelude.{◌≡◌};
-ghost use Rattle.rhai_functions.specs.Functions.{arity_by as arity_by_in, first_named as first_named_in, named_in};
+ghost use Rattle.rhai_functions.specs.Functions.{arity_by as arity_by_in, first_named as first_named_in, arity_in_modules};
 
 use rhai_tree::Shared;
 use rhai_values::base::value::{Module, ModuleFn};
 
-/// How many parameters a function has, where it is of the name.
+/// Counts the parameters of a function, where it is of the name.
 fn arity_by<H>(function: &ModuleFn<H>, name: &str) -> Option<usize>
     ensures { result ≡ arity_by_in name.now function.now }
 {
@@ -19,7 +19,7 @@ fn arity_by<H>(function: &ModuleFn<H>, name: &str) -> Option<usize>
     }
 }
 
-/// How many parameters the first function of a name has.
+/// Counts the parameters of the first function of a name.
 fn first_named<H>(functions: &[ModuleFn<H>], name: &str) -> Option<usize>
     ensures { result ≡ first_named_in name.now functions.now }
 {
@@ -33,9 +33,9 @@ fn first_named<H>(functions: &[ModuleFn<H>], name: &str) -> Option<usize>
     None
 }
 
-/// How many parameters the first function of a name has in the first library that has one.
+/// Counts the parameters of the first function of a name in the first library that has one.
 pub fn arity_named<H>(lib: &[Shared<Module<H>>], name: &str) -> Option<usize>
-    ensures { result ≡ named_in name.now lib.now }
+    ensures { result ≡ arity_in_modules name.now lib.now }
 {
     let mut at = 0;
     'modules: while at < lib.len() {

@@ -1,9 +1,10 @@
-//! Where a path leads: to its root, which is an import or a module that the engine has under the name, and from there down.
-//! Ports what upstream's `search_imports` and `search_namespace` look through. Nothing is copied, and no memory is taken.
+//! Where a path leads: to its root, which is an import or a module that the engine has under the name,
+//! and from there down. Ports what upstream's `search_imports` and `search_namespace` look through.
+//! Nothing is copied, and no memory is taken.
 
 ghost use Rattle.std.specs.Prelude.{◌≡◌, Some};
 ghost use Rattle.std.specs.Option.{option_copied};
-ghost use Rattle.rhai_functions.specs.Keys.{key_seen};
+ghost use Rattle.rhai_functions.specs.Keys.{function_key_of};
 ghost use Rattle.rhai_functions.specs.Namespaces.{constant_among, constant_in, down, if_public, imported, public_in, root_in};
 
 use crate::key::FnKey;
@@ -12,7 +13,7 @@ use rhai_tree::function::FnAccess;
 use rhai_tree::{Shared, Table, Text};
 use rhai_values::base::value::{Dynamic, Import, Module, ModuleFn};
 
-/// The module of the newest import of a name.
+/// Finds the module of the newest import of a name.
 pub fn find_import<'m, H>(imports: &'m [Import<H>], name: &str) -> Option<&'m Module<H>>
     ensures { option_copied result ≡ imported name.now imports.now }
 {
@@ -27,7 +28,7 @@ pub fn find_import<'m, H>(imports: &'m [Import<H>], name: &str) -> Option<&'m Mo
     None
 }
 
-/// The root of a path: the module of the newest import of a name, or else the engine's under the name.
+/// Finds the root of a path: the module of a name's newest import, or else the engine's under the name.
 pub fn find_root<'m, H>(
     imports: &'m [Import<H>],
     named: &'m Table<Shared<Module<H>>>,
@@ -41,7 +42,7 @@ pub fn find_root<'m, H>(
     }
 }
 
-/// The module that a path leads to, from one on.
+/// Finds the module that a path leads to, from one on.
 pub fn find_down<'m, H>(from: &'m Module<H>, path: &[Shared<Text>]) -> Option<&'m Module<H>>
     ensures { option_copied result ≡ down path.now (Some from.now) }
 {
@@ -52,14 +53,14 @@ pub fn find_down<'m, H>(from: &'m Module<H>, path: &[Shared<Text>]) -> Option<&'
     Some(within)
 }
 
-/// The constant of a name in a module.
+/// Finds the constant of a name in a module.
 pub fn find_constant<'m, H>(within: &'m Module<H>, name: &str) -> Option<&'m Dynamic<H>>
     ensures { option_copied result ≡ constant_in name.now within.now }
 {
     within.constants.get(name)
 }
 
-/// The constant of a name in the first of some modules that has one.
+/// Finds the constant of a name in the first of some modules that has one.
 pub fn find_global_constant<'m, H>(
     modules: &'m [Shared<Module<H>>],
     name: &str,
@@ -76,8 +77,8 @@ pub fn find_global_constant<'m, H>(
     None
 }
 
-/// A function, where anybody may call it.
-fn public<H>(found: Option<&ModuleFn<H>>) -> Option<&ModuleFn<H>>
+/// Keeps a function that anybody may call, and no other.
+fn only_public<H>(found: Option<&ModuleFn<H>>) -> Option<&ModuleFn<H>>
     ensures { option_copied result ≡ if_public (option_copied found.entry) }
 {
     let function = found?;
@@ -87,10 +88,10 @@ fn public<H>(found: Option<&ModuleFn<H>>) -> Option<&ModuleFn<H>>
     }
 }
 
-/// The function of a key in a module, where anybody may call it. Of two of one key the later stands, and the earlier is
-/// not looked at.
+/// Finds the function of a key in a module, where anybody may call it. Of two of one key the later
+/// stands, and the earlier is not looked at.
 pub fn find_public<'m, H>(within: &'m Module<H>, key: FnKey<'_>) -> Option<&'m ModuleFn<H>>
-    ensures { option_copied result ≡ public_in (key_seen key.entry) within.now }
+    ensures { option_copied result ≡ public_in (function_key_of key.entry) within.now }
 {
-    public(find_in_module(within, key))
+    only_public(find_in_module(within, key))
 }

@@ -1,4 +1,4 @@
--- Where no indexer is called the object stays.
+-- Where no indexer is called the focus stays.
 use Rattle.std.proofs.Common.{◌≡◌, ◌≤◌, ◌+◌, ℕ, Bool, true, false, refl}
 use Rattle.std.proofs.lemmas.Bool.{le-ltb}
 use Rattle.std.specs.Prelude.{◌&&◌, nat_lt, Option, Result, Ok, Err, OnErr}

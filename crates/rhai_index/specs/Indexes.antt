@@ -11,17 +11,18 @@ use Rattle.rhai_places.specs.declared.spot.Access.{Access}
 use Rattle.rhai_places.specs.Found.{found as found_by, takes_memory, through, IsFound, IsMissed}
 use Rattle.rhai_places.specs.Targets.{IsFit}
 use Rattle.rhai_machine.specs.language.State.{HasMemory}
-use Rattle.rhai_index.specs.Indexers.{IndexerCall, as_temporary, asks_indexer, effect_of, outcome_of, reading, request_of}
+use Rattle.rhai_index.specs.Indexers.{IndexerCall, as_temporary, asks_indexer, effect_of, outcome_of, read_call, request_of}
 
--- the arguments are what is fixed; how the object is indexed; the state, the table, the object and the index before; the state,
+-- the arguments are what is fixed; how the focus is indexed; the state, the table, the focus and the index before; the state,
 -- the table and the index after; and the result
 module _ {S H T : Type 0} (limits : Limits) (host : H → List ℕ) (natives : Natives S H) (state_of : T → S)
     (how : Access) (use_indexers : Bool) (g : GlobalRuntimeState H) (t : T) (x i : Dynamic H)
     (g' : GlobalRuntimeState H) (t' : T) (i' : Dynamic H) (r : Result (Target H) (EvalAltResult H)) where
+  -- the limit of operations
   abbrev limit : ℕ
   limit = limits.max_operations
 
-  -- the host's indexer is asked
+  -- whether the host's indexer is asked
   abbrev asked : Bool
   asked = asks_indexer use_indexers (layer_of x)
 
@@ -29,16 +30,19 @@ module _ {S H T : Type 0} (limits : Limits) (host : H → List ℕ) (natives : N
   abbrev found_here : Result (Dynamic H × Spot) (EvalAltResult H)
   found_here = found_by how host (cells_of g.cells) x i
 
+  -- the call of the indexer that reads, at the operator
   abbrev call : IndexerCall H
-  call = reading i how.op_pos
+  call = read_call i how.op_pos
 
-  -- what the indexer leaves, and its value as a temporary
+  -- what the indexer leaves, and what it replies
   abbrev left : Effect S H
   left = effect_of natives host (cells_of g.cells) (state_of t) call x
 
+  -- the indexer's value as a temporary, or the error that its call comes to
   abbrev given : Result (Part H) (EvalAltResult H)
   given = as_temporary (outcome_of limits host natives (cells_of g.cells) (state_of t) call x)
 
+  -- what following an index ends as
   pub record Indexes : Type 0 where
     -- where the count has reached the limit nothing is done
     pub refused : limit ≤ g.num_operations → r ≡ Err (error.ErrorTooManyOperations none)
@@ -62,6 +66,6 @@ module _ {S H T : Type 0} (limits : Limits) (host : H → List ℕ) (natives : N
     -- on every way
     pub fit : IfOk r (λ target. IsFit target.part target.at.now)
     pub index : i' ≡ i
-    -- on every way, want of memory too: what the table's state holds then was held before, by the state, the object or the index, or by
-    -- what stands in a cell that those reach
+    -- on every way, where memory ran out too: what the table's state has then, the state, the focus or the index had before, or what
+    -- stands in a cell that those reach
     pub reached : AreReached natives.holds (state_of t) (request_of (cells_of g.cells) call x) (natives.holds.of_state (state_of t'))

@@ -1,4 +1,4 @@
--- The types that the definitions here speak of, from one place.
+-- The types that the definitions here speak of, in one file.
 pub use Rattle.rhai_places.specs.declared.spot.Spot.{Spot}
 pub use Rattle.rhai_places.specs.declared.target.Part.{Part}
 pub use Rattle.rhai_places.specs.declared.target.Target.{Target}

@@ -1,5 +1,5 @@
-//! The indexer of a host that reads: the native `index$get$`. The contracts cite specs/Indexers.antt and
-//! specs/Calls.antt.
+//! The indexer of a host that reads: the native `index$get$`. It is called on the focus, which is `object`
+//! here. The contracts cite specs/Indexers.antt and specs/Calls.antt.
 
 ghost use Rattle.std.specs.Prelude.{◌≡◌, ◌<◌, length, slice_get, Some, true, false, IfSome, is_some};
 ghost use Rattle.rhai_values.specs.Cells.{cells_of, IsNoHandle};
@@ -9,7 +9,7 @@ ghost use Rattle.rhai_state.specs.Native.{MayLeave, reply_of};
 ghost use Rattle.rhai_state.specs.declared.error.EvalAltResult.TheVariants as error;
 ghost use Rattle.rhai_machine.specs.language.State.{Answers, HasMemory};
 ghost use Rattle.rhai_index.specs.Calls.{Asked, Leaves};
-ghost use Rattle.rhai_index.specs.Indexers.{by_itself, called, indexer_request, indexer_result, reading};
+ghost use Rattle.rhai_index.specs.Indexers.{by_itself, call_effect, indexer_request, indexer_result, read_call};
 ghost use Rattle.rhai_index.specs.Indexers.{request_of};
 ghost use Rattle.rhai_index.specs.Indexers.{is_barred as is_barred_from, is_pure_on as is_pure_at};
 
@@ -20,7 +20,7 @@ use rhai_state::error::EvalAltResult;
 use rhai_state::limits::Limits;
 use rhai_state::table::{Answer, NativeTable};
 use rhai_steps::errors::non_pure;
-use rhai_steps::replies::{placed, sized};
+use rhai_steps::replies::{position_if_none, sized};
 use rhai_steps::values::{let_go, list_of, unit_value};
 use rhai_tree::position::Position;
 use rhai_values::base::value::{AccessMode, Dynamic, Host};
@@ -28,7 +28,7 @@ use rhai_values::cells::CellStore;
 use std::alloc::Global;
 use std::mem::replace;
 
-/// The first value of a list.
+/// Takes the first value off a list.
 fn first_of<H: Host>(items: &mut Few<Dynamic<H>>) -> Dynamic<H>
     requires { 0 < length items.old }
     ensures { slice_get items.old 0 ≡ Some result }
@@ -36,7 +36,7 @@ fn first_of<H: Host>(items: &mut Few<Dynamic<H>>) -> Dynamic<H>
     items.remove(0)
 }
 
-/// Whether an indexer changes nothing of an object, asked of the table.
+/// Asks the table whether an indexer changes nothing of the focus.
 fn is_pure_on<H: Host, T: NativeTable<H>>(
     cells: &CellStore<H>,
     table: &T,
@@ -50,14 +50,14 @@ fn is_pure_on<H: Host, T: NativeTable<H>>(
     table.is_pure(name, object.type_name(cells), count)
 }
 
-/// Whether an object is a constant that is lent to an indexer that is not pure.
+/// Tells whether the focus is a constant that is lent to an indexer that is not pure.
 fn is_barred<H: Host>(is_lent: bool, is_pure: bool, object: &Dynamic<H>) -> bool
     ensures { result ≡ is_barred_from is_lent is_pure object.now }
 {
     is_lent && matches!(object.mode, AccessMode::ReadOnly) && !is_pure
 }
 
-/// The error of an object and an index that do not go together.
+/// Builds the error of a focus and an index that do not go together.
 fn not_indexed<H: Host>(
     alloc: Global,
     cells: &CellStore<H>,
@@ -78,7 +78,7 @@ fn not_indexed<H: Host>(
     indexing_error(alloc, cells, object, index, how, Refusal::NotIndexed)
 }
 
-/// What an indexer answered, at the call.
+/// Makes the result of a call of what the indexer answered, at the call's position.
 fn indexer_answer<H: Host>(
     alloc: Global,
     limits: &Limits,
@@ -95,12 +95,12 @@ fn indexer_answer<H: Host>(
     match answer {
         Answer::Missing => Err(not_indexed(alloc, cells, object, index, pos)),
         Answer::Value(value) => sized(alloc, limits, value, pos),
-        Answer::Fault(error) => Err(placed(error, pos)),
+        Answer::Fault(error) => Err(position_if_none(error, pos)),
         Answer::NoMemory => Err(EvalAltResult::ErrorOutOfMemory(pos)),
     }
 }
 
-/// Calls an indexer on an object, unless the object is barred from it.
+/// Calls an indexer on the focus, unless the focus is barred from it.
 fn call_indexer<H: Host, T: NativeTable<H>>(
     alloc: Global,
     limits: &Limits,
@@ -114,7 +114,7 @@ fn call_indexer<H: Host, T: NativeTable<H>>(
     pos: Position,
 ) -> Result<Dynamic<H>, EvalAltResult<H>>
     requires { IsNoHandle object.old.value }
-    ensures leaves { Leaves (called T.natives (cells_of cells.now) pos barred (T.state table.old)
+    ensures leaves { Leaves (call_effect T.natives (cells_of cells.now) pos barred (T.state table.old)
         name.now object.old others.now)
         (indexer_result limits.now H.name_of (cells_of cells.now) object.old index.now pos)
         object.new (T.state table.new) result }
@@ -129,7 +129,7 @@ fn call_indexer<H: Host, T: NativeTable<H>>(
     indexer_answer(alloc, limits, cells, answer, object, index, pos)
 }
 
-/// Calls the indexer that reads on an object that is no handle.
+/// Calls the indexer that reads on a focus that is no handle.
 pub(crate) fn ask_get<H: Host, T: NativeTable<H>>(
     alloc: Global,
     limits: &Limits,
@@ -141,10 +141,10 @@ pub(crate) fn ask_get<H: Host, T: NativeTable<H>>(
 ) -> Result<Dynamic<H>, EvalAltResult<H>>
     requires { IsNoHandle object.old.value }
     ensures asked { Asked limits.now H.name_of T.natives (cells_of cells.now)
-        (reading index.old pos) by_itself
+        (read_call index.old pos) by_itself
         (T.state table.old) object.old (T.state table.new) object.new result }
     ensures reached { MayLeave H.name_of T.natives (T.state table.old)
-        (request_of (cells_of cells.now) (reading index.old pos) object.old)
+        (request_of (cells_of cells.now) (read_call index.old pos) object.old)
         (Some object.new) (T.state table.new) }
     ensures index { index.new ≡ index.old }
 {

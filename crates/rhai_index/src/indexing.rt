@@ -1,6 +1,6 @@
-//! What an index leads to, with the charge and the host's indexers. Ports upstream's
-//! `get_indexed_mut`. The contracts cite specs/Indexers.antt, specs/Indexes.antt and
-//! specs/Lends.antt.
+//! What an index leads to in the focus, with the charge and the host's indexers. Ports upstream's
+//! `get_indexed_mut`, where the focus is `target`. The contracts cite specs/Indexers.antt,
+//! specs/Indexes.antt and specs/Lends.antt.
 
 ghost use Rattle.std.specs.Prelude.{◌≡◌};
 ghost use Rattle.std.specs.Borrow.{sem};
@@ -8,7 +8,7 @@ ghost use Rattle.rhai_values.specs.Cells.{cells_of};
 ghost use Rattle.rhai_values.specs.Layers.{layer_of};
 ghost use Rattle.rhai_values.specs.Cells.{IsNoHandle};
 ghost use Rattle.rhai_places.specs.Found.{found};
-ghost use Rattle.rhai_index.specs.Indexers.{asks_indexer as is_asked, effect_of, is_called, reading};
+ghost use Rattle.rhai_index.specs.Indexers.{asks_indexer as is_asked, effect_of, is_called, read_call};
 ghost use Rattle.rhai_index.specs.Indexers.{request_of};
 ghost use Rattle.rhai_index.specs.Indexes.{Indexes};
 ghost use Rattle.rhai_index.specs.Lends.{lends_indexed, MayEndAs};
@@ -26,8 +26,8 @@ use rhai_tree::position::Position;
 use rhai_values::base::value::{Dynamic, Host, Union};
 use std::alloc::Global;
 
-/// Whether the host's indexer is asked: it may be, and the value is of no kind that is indexed
-/// without it.
+/// Tells whether the host's indexer is asked. It is where it may be, and the focus is of no kind that is
+/// indexed without it.
 fn asks_indexer<H: Host>(object: &Dynamic<H>, use_indexers: bool) -> bool
     ensures { result ≡ is_asked use_indexers (layer_of object.now) }
 {
@@ -37,24 +37,22 @@ fn asks_indexer<H: Host>(object: &Dynamic<H>, use_indexers: bool) -> bool
     }
 }
 
-/// The target that an index leads to, charged first without a position. Where the object is of a
-/// kind that is not indexed here and indexers are allowed, the host's indexer is charged at the
-/// operator and called with the object and the index, and its value is a temporary; what the target
-/// borrows then is the object as the indexer left it. Ports upstream's `get_indexed_mut`. Asked: the
-/// object is no handle of a cell.
+/// Finds the target that an index leads to in the focus, charged first without a position. Where the focus is
+/// of a kind that is not indexed here and indexers are allowed, the host's indexer is charged at the operator
+/// and called with the focus and the index, and its value is a temporary; what the target borrows then is the
+/// focus as the indexer left it. Ports upstream's `get_indexed_mut`. Asked: the focus is no handle of a cell.
 ///
-/// The object comes first, so that a clause can tell what becomes of it: when the target's borrow
-/// ends, what was written through it stands in the object at the place where the index leads, beside
-/// a missing key that was inserted. The place of a part or a temporary is the whole object. At an
-/// error the object stays, and where an indexer was called it is as that left it, want of memory aside; it
-/// is no handle then either, and holds only what that call reached.
+/// The focus comes first, so that a clause can tell what becomes of it: when the target's borrow ends, what
+/// was written through it stands in the focus at the place where the index leads, beside a missing key that
+/// was inserted. The place of a part or a temporary is the whole focus. At an error the focus stays, and
+/// where an indexer was called it is as that left it, unless memory ran out; it is no handle then either, and
+/// has only what that call reached.
 ///
 /// # Errors
-/// `ErrorTooManyOperations` where the count has reached the limit: without a position, and nothing
-/// is changed; or at the operator, before the indexer is called. At the operator too:
-/// `ErrorIndexingType` where there is no indexer, its own fault where that says no position, and
-/// `ErrorDataTooLarge` for a value of it above a limit. All others are those of
-/// `rhai_places::indexing::get_indexed_mut`.
+/// `ErrorTooManyOperations` where the count has reached the limit: without a position, and nothing is
+/// changed; or at the operator, before the indexer is called. At the operator too: `ErrorIndexingType` where
+/// there is no indexer, its own fault where that says no position, and `ErrorDataTooLarge` for a value of it
+/// above a limit. All others are those of `rhai_places::indexing::get_indexed_mut`.
 pub fn get_indexed_mut<'t, H: Host, T: NativeTable<H>>(
     target: &'t mut Dynamic<H>,
     alloc: Global,
@@ -70,9 +68,9 @@ pub fn get_indexed_mut<'t, H: Host, T: NativeTable<H>>(
         (is_asked use_indexers (layer_of target.entry.now))
         (is_called limits.now global.entry.now use_indexers (layer_of target.entry.now))
         (effect_of T.natives H.name_of (cells_of global.entry.now.cells) (T.state table.entry.now)
-        (reading idx.entry.now how.op_pos) target.entry.now).first
+        (read_call idx.entry.now how.op_pos) target.entry.now).first
         (MayEndAs T.natives (T.state table.entry.now) (request_of (cells_of global.entry.now.cells)
-        (reading idx.entry.now how.op_pos) target.entry.now)) target.entry
+        (read_call idx.entry.now how.op_pos) target.entry.now)) target.entry
         (found how H.name_of (cells_of global.entry.now.cells) target.entry.now idx.entry.now) result) }
     ensures indexes { Indexes limits.now H.name_of T.natives T.state how use_indexers
         global.old table.old target.old idx.old global.new table.new idx.new result }

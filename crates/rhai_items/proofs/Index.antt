@@ -23,7 +23,8 @@ use Rattle.rhai_machine.specs.machine.Memory.{here, ◌⨾◌}
 use Rattle.rhai_machine.specs.language.Setting.{Rules, limit_under}
 use Rattle.rhai_machine.specs.language.State.{Held, Local, State}
 use Rattle.rhai_machine.specs.language.Links.{AtIndex, Link, breaks, first_in, index_link, link_of, link_with}
-use Rattle.rhai_machine.specs.language.Frames.{Argument, CallArgument, Chain, ChainArguments, ChainRoot, Control, Core, Frame, NewValue, OpenChain}
+use Rattle.rhai_machine.specs.language.Frames.{Argument, CallArgument, Chain, ChainArguments, ChainRoot, Control, Core, Frame, NewValue}
+use Rattle.rhai_machine.specs.language.Frames.{OpenChain}
 use Rattle.rhai_machine.specs.language.Frames.{ToChain, chain_on, core, on_value}
 use Rattle.rhai_machine.specs.language.Arguments.{arguments_core}
 use Rattle.rhai_machine.specs.language.Chains.{asked_move, open_move, opened_core}
@@ -35,10 +36,11 @@ use Rattle.rhai_steps.proofs.Pieces.{step_by}
 use Rattle.rhai_operands.specs.Standing.{integer_of, standing}
 use Rattle.rhai_operands.proofs.InPlace.{flat_copy}
 use Rattle.rhai_operands.proofs.Standing.{argument_goes, standing_plain}
-use Rattle.rhai_items.specs.Items.{charges_of, index_alone}
+use Rattle.rhai_items.specs.Items.{charges_of, index_is_simple}
 
 -- a charge that leads to another stack
-pub charged_on : {S H : Type 0} (rules : Rules S H) (t : S) (old new : GlobalRuntimeState H) (scope : Scope H) (held : Held H) (c : Control H)
+pub charged_on : {S H : Type 0} (rules : Rules S H) (t : S) (old new : GlobalRuntimeState H) (scope : Scope H) (held : Held
+    H) (c : Control H)
     (pos : Position) (k : List (Frame H)) (d : Local H → Core H) →
     move rules.setting (core c k (local_of old scope held)) ≡ Charge pos (d (local_of old scope held)) →
     old.num_operations < limit_under rules → new ≡ record old { num_operations = old.num_operations + 1 } →
@@ -66,7 +68,7 @@ charges_are (layer.IntegerConstant n pos) = refl
 charges_are _ = refl
 
 -- such an index is no chain
-no_chain : (l : ExprLayer) → index_alone l ≡ true → first_in l ≡ None
+no_chain : (l : ExprLayer) → index_is_simple l ≡ true → first_in l ≡ None
 no_chain (layer.IntegerConstant n pos) is = refl
 no_chain (layer.Variable offset name namespace pos) is = refl
 no_chain _ is = cc
@@ -90,10 +92,10 @@ module _ {H : Type 0} (root index : Expr) (options : ASTFlags) (pos : Position) 
   link_by false (Some e) is = cc
   link_by true first is = refl
 
-  pub link_is : index_alone (out-Expr index) ≡ true → link_of item ≡ Some link
+  pub link_is : index_is_simple (out-Expr index) ≡ true → link_of item ≡ Some link
   link_is alone = ap (λ (l : Link). Some l) (link_by (breaks options) (first_in (out-Expr index)) (no_chain (out-Expr index) alone))
 
-  module _ {S : Type 0} (rules : Rules S H) (alone : index_alone (out-Expr index) ≡ true) where
+  module _ {S : Type 0} (rules : Rules S H) (alone : index_is_simple (out-Expr index) ≡ true) where
     opens_by : (k : List (Frame H)) (l : Local H) (form : ExprLayer) → out-Expr index ≡ form →
         move rules.setting (core (OpenChain begun) k l)
         ≡ Go (opened_core None (option_map (λ v. v ∷ []) (literal_of form)) begun k l)
@@ -118,12 +120,15 @@ module _ {H : Type 0} (root index : Expr) (options : ASTFlags) (pos : Position) 
       variable_comes : (old mid new_state : GlobalRuntimeState H) → old.num_operations < limit_under rules →
           mid ≡ record old { num_operations = old.num_operations + 1 } → mid.num_operations < limit_under rules →
           new_state ≡ record mid { num_operations = mid.num_operations + 1 } → literal_of {H = H} (out-Expr index) ≡ None →
-          Goes rules (at (OpenChain begun) k (state_of t old scope held)) (at (ChainRoot (indexed_by z)) k (state_of t new_state scope held))
+          Goes rules (at (OpenChain begun) k (state_of t old scope held)) (at (ChainRoot (indexed_by z)) k
+          (state_of t new_state scope held))
       variable_comes old mid new_state room is more last no_literal =
           step_by rules _ _ (Go (core (ChainArguments begun item []) k (local_of old scope held)))
           (opens_by k (local_of old scope held) (out-Expr index) refl
-          ∙ ap (λ (o : Option (Dynamic H)). Go (opened_core None (option_map (λ v. v ∷ []) o) begun k (local_of old scope held))) no_literal)
-          (charged_on rules t old mid scope held (ChainArguments begun item []) (position_of index) k (λ l. core (Argument index) on_index l)
+          ∙ ap (λ (o : Option (Dynamic H)). Go (opened_core None (option_map (λ v. v ∷ []) o) begun k (local_of old scope
+          held))) no_literal)
+          (charged_on rules t old mid scope held (ChainArguments begun item []) (position_of index) k (λ l. core
+          (Argument index) on_index l)
           (ap (λ (o : Option Link). asked_move rules.setting o begun [] k (local_of old scope held)) (link_is alone)) room is)
           ⨾ argument_goes rules index x t mid new_state scope held stands more last on_index
           ⨾ step_by rules _ _ (Go (core (ChainRoot (indexed_by z)) k (local_of new_state scope held)))
@@ -137,7 +142,8 @@ module _ {H : Type 0} (root index : Expr) (options : ASTFlags) (pos : Position) 
       abbrev index_goes : (extra : ℕ) → GlobalRuntimeState H → GlobalRuntimeState H → Type 0
       index_goes extra old new_state = old.num_operations + extra ≤ limit_under rules →
           new_state ≡ record old { num_operations = old.num_operations + extra } →
-          Goes rules (at (OpenChain begun) k (state_of t old scope held)) (at (ChainRoot (indexed_by z)) k (state_of t new_state scope held))
+          Goes rules (at (OpenChain begun) k (state_of t old scope held)) (at (ChainRoot (indexed_by z)) k
+          (state_of t new_state scope held))
 
       literal_goes : (n : ℤ) (where_it_is : Position) → out-Expr index ≡ layer.IntegerConstant n where_it_is →
           (old new_state : GlobalRuntimeState H) → index_goes 0 old new_state
@@ -155,10 +161,11 @@ module _ {H : Type 0} (root index : Expr) (options : ASTFlags) (pos : Position) 
 
       variable_goes : literal_of {H = H} (out-Expr index) ≡ None → (old new_state : GlobalRuntimeState H) → index_goes 2 old new_state
       variable_goes no_literal old new_state room is =
-          variable_comes old (record old { num_operations = old.num_operations + 1 }) new_state (omega (arith, room)) refl (omega (arith, room))
+          variable_comes old (record old { num_operations = old.num_operations + 1 }) new_state (omega (arith, room)) refl
+          (omega (arith, room))
           (is ∙ ap (λ (m : ℕ). record old { num_operations = m }) (omega arith)) no_literal
 
-      index_by : (form : ExprLayer) → out-Expr index ≡ form → index_alone form ≡ true → (old new_state : GlobalRuntimeState H) →
+      index_by : (form : ExprLayer) → out-Expr index ≡ form → index_is_simple form ≡ true → (old new_state : GlobalRuntimeState H) →
           index_goes (extra_of form) old new_state
       index_by (layer.IntegerConstant n where_it_is) form is_alone old new_state room is =
           literal_goes n where_it_is form old new_state room is

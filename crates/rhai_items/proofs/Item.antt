@@ -1,4 +1,4 @@
--- How a chain of one link assigns an integer to an item of an array that a variable holds.
+-- How a chain of one link assigns an integer to an item of an array that a variable has.
 use Rattle.std.proofs.Common.{◌≡◌, ◌<◌, ◌+◌, ℕ, ℤ, Bool, true, false, ◌&&◌, List, ◌∷◌, length, slice_get, Option, Some, Result, Ok}
 use Rattle.std.proofs.Common.{refl, sym, ap, ◌∙◌, ok_or, rules}
 use Rattle.std.specs.Option.{option_map}
@@ -28,7 +28,7 @@ use Rattle.rhai_places.specs.declared.spot.Spot.TheVariants as spot
 use Rattle.rhai_places.specs.declared.spot.Refusal.{Refusal}
 use Rattle.rhai_places.specs.declared.spot.Refusal.TheVariants as refusal
 use Rattle.rhai_places.specs.Indexing.{bounds, index_in, located}
-use Rattle.rhai_places.specs.Found.{found_by, settled, through_layer}
+use Rattle.rhai_places.specs.Found.{found_by, spot_or_error, through_layer}
 use Rattle.rhai_places.specs.Parts.{value_at, with_value}
 use Rattle.rhai_places.specs.Paths.{ToPlace}
 use Rattle.rhai_operators.specs.Answers.{Answer, op_assign_of}
@@ -42,7 +42,8 @@ use Rattle.rhai_machine.specs.language.Names.{Meaning, entry_named, looked_up, o
 use Rattle.rhai_machine.specs.language.Variables.{Variable, no_path, variable_named}
 use Rattle.rhai_machine.specs.language.Links.{Link, name_in}
 use Rattle.rhai_machine.specs.language.Places.{InFocus, focus_at, is_constant, target, unless_constant}
-use Rattle.rhai_machine.specs.language.Frames.{Assignment, AssignedChain, Back, Chain, ChainEnd, ChainRoot, Changed, Core, Frame, FromEntry, InPlace}
+use Rattle.rhai_machine.specs.language.Frames.{Assignment, AssignedChain, Back, Chain, ChainEnd, ChainRoot, Changed, Core, Frame, FromEntry}
+use Rattle.rhai_machine.specs.language.Frames.{InPlace}
 use Rattle.rhai_machine.specs.language.Frames.{Locate, Measured, NewValue, ReadRoot, StepDown, Update, Walk, core, on_value}
 use Rattle.rhai_machine.specs.language.Assignment.{assign_core, if_fast, update_core, written_core}
 use Rattle.rhai_machine.specs.language.Chains.{assign_focus, assign_spot, begun_core, entered, entered_by, indexed_core, locate_core}
@@ -56,7 +57,7 @@ use Rattle.rhai_steps.specs.States.{local_of, state_of}
 use Rattle.rhai_steps.proofs.Pieces.{charged, step_by}
 use Rattle.rhai_operands.proofs.InPlace.{integer_sized}
 use Rattle.rhai_items.proofs.Index.{indexed_by, link, link_is}
-use Rattle.rhai_items.specs.Items.{index_alone}
+use Rattle.rhai_items.specs.Items.{index_is_simple}
 
 and_false : (a b : Bool) → b ≡ false → (a && b) ≡ false
 and_false true b is = is
@@ -98,7 +99,7 @@ module _ {H : Type 0} where
   no_key _ index items is = refl
 
 module _ {S H : Type 0} (rules : Rules S H) (root index : Expr) (options : ASTFlags) (pos : Position) (new : NewValue H)
-    (alone : index_alone (out-Expr index) ≡ true) (z : ℤ) where
+    (alone : index_is_simple (out-Expr index) ≡ true) (z : ℤ) where
   abbrev asked : Chain H
   asked = indexed_by root index options pos new z
 
@@ -164,7 +165,7 @@ module _ {S H : Type 0} (rules : Rules S H) (root index : Expr) (options : ASTFl
 
         -- where the index leads
         abbrev settles : Result Spot Refusal → Result (Dynamic H × Spot) (EvalAltResult H)
-        settles r = settled (access_by rules.setting true the_link) rules.setting.host_type l.around.cells v number r
+        settles r = spot_or_error (access_by rules.setting true the_link) rules.setting.host_type l.around.cells v number r
 
         finds : spot_of rules.setting true the_link l.around.cells v number ≡ Ok (v, spot.Item n)
         finds = ap (λ (kind : UnionLayer H). found_by (access_by rules.setting true the_link) rules.setting.host_type l.around.cells v
@@ -175,7 +176,8 @@ module _ {S H : Type 0} (rules : Rules S H) (root index : Expr) (options : ASTFl
             (refusal.ArrayBounds (bounds (length items) z)))) leads
 
         abbrev goes_on : Result (Dynamic H × Spot) (EvalAltResult H) → Core H
-        goes_on r = on_value r (λ it. assign_spot rules.setting (is_place_spot it.1) it.1 the_link root new it.0 k (in_focus l)) k (in_focus l)
+        goes_on r = on_value r (λ it. assign_spot rules.setting (is_place_spot it.1) it.1 the_link root new it.0 k
+            (in_focus l)) k (in_focus l)
 
         abbrev index_core : Dynamic H → List (Frame H) → Local H → Core H
         index_core inner k m = indexed_core rules.setting (is_indexed (layer_of inner)) the_link number walked inner k m
@@ -191,7 +193,8 @@ module _ {S H : Type 0} (rules : Rules S H) (root index : Expr) (options : ASTFl
             ∙ ap (λ (o : Option (Dynamic H)). assign_focus rules.setting root new below (focused_on o l)) there
 
     -- the link is charged, and what is assigned to is the item
-    pub item_comes : (t : S) (old reached : GlobalRuntimeState H) (scope : Scope H) (held : Held H) → old.num_operations < limit_under rules →
+    pub item_comes : (t : S) (old reached : GlobalRuntimeState H) (scope : Scope H) (held : Held H) →
+        old.num_operations < limit_under rules →
         reached ≡ record old { num_operations = old.num_operations + 1 } → (k : List (Frame H)) (n : ℕ) →
         index_in (length items) z ≡ Some n → (x : Dynamic H) → value_at v (spot.Item n) ≡ Some x →
         Goes rules (at (Walk walked) k (state_of t old scope (lent held)))
@@ -250,7 +253,8 @@ module _ {S H : Type 0} (rules : Rules S H) (t : S) (g : GlobalRuntimeState H) (
     (put_there : entries_of later ≡ revalued (entries_of scope) i (slice_get (entries_of scope) i)
     (with_value v (spot.Item n) (plain (value.Int r)))) (k : List (Frame H)) where
   -- the item is measured, and goes back into the array, and that into its variable
-  pub goes_up : Goes rules (at (Back unit_value) (Measured pos ∷ StepDown v (ToPlace (spot.Item n)) ∷ ChainEnd (Some (FromEntry i)) held.focus
+  pub goes_up : Goes rules (at (Back unit_value) (Measured pos ∷ StepDown v (ToPlace (spot.Item n)) ∷ ChainEnd (Some
+      (FromEntry i)) held.focus
       ∷ AssignedChain ∷ k) (state_of t g scope (record held { focus = Some (plain (value.Int r)) })))
       (at (Back unit_value) k (state_of t g later held))
   unfolding after

@@ -14,14 +14,14 @@ use Rattle.rhai_tree.specs.Reading as walk
 use Rattle.rhai_tree.specs.Reading.{sound}
 use Rattle.rhai_tree.proofs.Walk.{expr_tests, resolves-expr}
 use Rattle.rhai_operands.proofs.Names.{both}
-use Rattle.rhai_items.specs.Items.{index_alone, parts_if, parts_in}
+use Rattle.rhai_items.specs.Items.{index_is_simple, parts_if, parts_in}
 
 -- what is seen of one level
 abbrev level : ExprLayer → walk.Seen sound
 level l = walk.expr_step sound (expr_tests l)
 
 -- behind a bracket with such an index stands nothing else
-index_resolves : (ends : Bool) (l : ExprLayer) (value : walk.Finds sound) (frame : Frame) → index_alone l ≡ true →
+index_resolves : (ends : Bool) (l : ExprLayer) (value : walk.Finds sound) (frame : Frame) → index_is_simple l ≡ true →
     IsTrue (walk.found_behind_bracket sound ends (level l).link value frame) → IsTrue (value frame)
 index_resolves true (layer.IntegerConstant n pos) value frame is h = h
 index_resolves false (layer.IntegerConstant n pos) value frame is h = h
@@ -39,17 +39,17 @@ parts_are false lhs rhs root index is = cc
 
 -- and what it is of
 pub parts_shown : (l : ExprLayer) (root index : Expr) → parts_in l ≡ Some (root, index) →
-    (options : ASTFlags) × (pos : Position) × (l ≡ layer.Index root index options pos) × (index_alone (out-Expr index) ≡ true)
+    (options : ASTFlags) × (pos : Position) × (l ≡ layer.Index root index options pos) × (index_is_simple (out-Expr index) ≡ true)
 parts_shown (layer.Index lhs rhs options pos) root index is =
-    let same = parts_are (index_alone (out-Expr rhs)) lhs rhs root index is in (
+    let same = parts_are (index_is_simple (out-Expr rhs)) lhs rhs root index is in (
       options,
       pos,
       ap (λ (e : Expr). layer.Index e rhs options pos) same.1 ∙ ap (λ (e : Expr). layer.Index root e options pos) same.2,
-      subst (λ (e : Expr). index_alone (out-Expr e) ≡ true) same.2 same.0,
+      subst (λ (e : Expr). index_is_simple (out-Expr e) ≡ true) same.2 same.0,
     )
 parts_shown _ root index is = cc
 
-parts_resolve : (lhs rhs : Expr) (ends : Bool) (frame : Frame) → index_alone (out-Expr rhs) ≡ true →
+parts_resolve : (lhs rhs : Expr) (ends : Bool) (frame : Frame) → index_is_simple (out-Expr rhs) ≡ true →
     IsTrue (resolves_expr lhs frame && walk.found_behind_bracket sound ends (tests_of rhs).link (tests_of rhs).value frame) →
     IsTrue (resolves_expr lhs frame) × IsTrue (resolves_expr rhs frame)
 parts_resolve lhs rhs ends frame alone h =
@@ -63,7 +63,7 @@ parts_resolve lhs rhs ends frame alone h =
 parts_at : (l : ExprLayer) (root index : Expr) (frame : Frame) → parts_in l ≡ Some (root, index) →
     IsTrue ((level l).value frame) → IsTrue (resolves_expr root frame) × IsTrue (resolves_expr index frame)
 parts_at (layer.Index lhs rhs options pos) root index frame is h =
-    let same = parts_are (index_alone (out-Expr rhs)) lhs rhs root index is in
+    let same = parts_are (index_is_simple (out-Expr rhs)) lhs rhs root index is in
     let found = parts_resolve lhs rhs (ends_chain options) frame same.0
     (both (is_counted (level (layer.Index lhs rhs options pos)).links)
     (resolves_expr lhs frame && walk.found_behind_bracket sound (ends_chain options) (tests_of rhs).link (tests_of rhs).value frame)

@@ -49,7 +49,7 @@ use Rattle.rhai_assign.specs.Keeps.{Keeps}
 use Rattle.rhai_assign.proofs.Places.{names_put}
 use Rattle.rhai_items.proofs.Index.{begun, charges_are, extra_of, index_comes, integer_from, integer_stands}
 use Rattle.rhai_items.proofs.Item.{assigns_item, goes_up, item_comes, root_comes}
-use Rattle.rhai_items.specs.Items.{charges_of, index_alone, place_in_array, writable_at}
+use Rattle.rhai_items.specs.Items.{charges_of, index_is_simple, place_in_array, writable_at}
 use Rattle.rhai_assign.specs.InPlace.{writable_in}
 
 module _ {H : Type 0} where
@@ -136,7 +136,7 @@ module _ {H : Type 0} where
 
 module _ {S H : Type 0} (rules : Rules S H) (t : S) (scope : Scope H) (held : Held H) (op : OpAssignment) (lhs root index rhs : Expr)
     (options : ASTFlags) (pos : Position) (restoring : Bool) (form : out-Expr lhs ≡ layer.Index root index options pos)
-    (alone : index_alone (out-Expr index) ≡ true) (offset : Option NonZeroUsize) (name : Name) (namespace : Namespace) (root_pos : Position)
+    (alone : index_is_simple (out-Expr index) ≡ true) (offset : Option NonZeroUsize) (name : Name) (namespace : Namespace) (root_pos : Position)
     (root_form : out-Expr root ≡ layer.Variable offset name namespace root_pos)
     (token : Token) (is_token : op.op ≡ Some token) (fast : rules.setting.offer.fast_operators ≡ true) (i : ℕ) (v : Dynamic H)
     (found_at : entry_named namespace.path name (entries_of scope) ≡ Some i) (stands : value_in (entries_of scope) (Some i) ≡ Some v) where
@@ -144,7 +144,8 @@ module _ {S H : Type 0} (rules : Rules S H) (t : S) (scope : Scope H) (held : He
   value_comes : (y : Dynamic H) → standing (out-Expr rhs) (entries_of scope) ≡ Some y → (old mid : GlobalRuntimeState H) →
       old.num_operations < limit_under rules → mid ≡ record old { num_operations = old.num_operations + 1 } → (k : List (Frame H)) →
       Goes rules (at (OpenStmt (layer.Assignment op lhs rhs) restoring) k (state_of t old scope held))
-      (at (OpenChain (begun root index options pos (record { op = op; value = copy_of y }))) (AssignedChain ∷ k) (state_of t mid scope held))
+      (at (OpenChain (begun root index options pos (record { op = op; value = copy_of y }))) (AssignedChain ∷ k) (state_of t
+      mid scope held))
   value_comes y given old mid room is k =
       step_by rules _ _ (Go (core (Eval rhs) (AssignChain root (layer.Index root index options pos) op (position_of rhs) ∷ k)
       (local_of old scope held))) (ap (λ (l : ExprLayer). assignment_move l op rhs k (local_of old scope held)) form) here
@@ -177,7 +178,8 @@ module _ {S H : Type 0} (rules : Rules S H) (t : S) (scope : Scope H) (held : He
         value_comes knows.y knows.given old (counted 1) (omega (arith, room, all)) refl k
         ⨾ index_comes root index options pos new rules alone t scope held to.x to.z to.number to.given (AssignedChain ∷ k)
         (counted 1) (counted (1 + extra)) (omega (arith, room, all)) (ap (λ (m : ℕ). record old { num_operations = m }) (omega arith))
-        ⨾ root_comes rules root index options pos new alone to.z v to.items to.holds t (counted (1 + extra)) (counted (2 + extra)) scope held
+        ⨾ root_comes rules root index options pos new alone to.z v to.items to.holds t (counted (1 + extra)) (counted
+        (2 + extra)) scope held
         offset name namespace root_pos root_form i found_at stands (omega (arith, room, all))
         (ap (λ (m : ℕ). record old { num_operations = m }) (omega arith)) (AssignedChain ∷ k)
         ⨾ item_comes rules root index options pos new alone to.z v to.items to.holds t (counted (2 + extra)) last scope held

@@ -10,28 +10,28 @@ use Rattle.rhai_places.specs.Indexing.{index_in}
 use Rattle.rhai_assign.specs.InPlace.{writable_in}
 
 -- an index that is a literal integer or a variable
-abbrev pub index_alone : ExprLayer → Bool
-index_alone (layer.IntegerConstant n pos) = true
-index_alone (layer.Variable offset name namespace pos) = true
-index_alone _ = false
+abbrev pub index_is_simple : ExprLayer → Bool
+index_is_simple (layer.IntegerConstant n pos) = true
+index_is_simple (layer.Variable offset name namespace pos) = true
+index_is_simple _ = false
 
+-- a root and an index, None where the condition is false
 abbrev pub parts_if : Bool → (root index : Expr) → Option (Expr × Expr)
 parts_if true root index = Some (root, index)
 parts_if false root index = None
 
--- the root and the index of an item with such an index
+-- the root and the index of an item whose index is a literal integer or a variable
 abbrev pub parts_in : ExprLayer → Option (Expr × Expr)
-parts_in (layer.Index root index options pos) = parts_if (index_alone (out-Expr index)) root index
+parts_in (layer.Index root index options pos) = parts_if (index_is_simple (out-Expr index)) root index
 parts_in _ = None
 
--- The charges: the value, the root and the item; an index that is a variable is charged too, and before it what stands behind the
--- bracket.
+-- how much is charged: value, root and item; an index that is a variable is charged too, and before it what is behind the bracket
 abbrev pub charges_of : ExprLayer → ℕ
 charges_of (layer.IntegerConstant n pos) = 3
 charges_of _ = 5
 
 module _ {H : Type 0} where
-  -- the place of an index in an array
+  -- where an index leads in an array
   abbrev pub place_in_array : UnionLayer H → Option ℤ → Option ℕ
   place_in_array (union.Array items) (Some index) = index_in (length items) index
   place_in_array _ _ = None

@@ -1,7 +1,7 @@
-//! An assignment by an operator to an item of an array that a variable holds, where the item, the index and the
+//! An assignment by an operator to an item of an array that a variable has, where the item, the index and the
 //! value are integers as they stand: the item is changed where it stands. Ports a part of upstream's
-//! `eval_dot_index_chain_raw`. The contracts cite the machine's specs/language/Chains.antt and the crate's own
-//! specs/.
+//! `eval_dot_index_chain_raw`. The contracts cite the machine's specs/language/Chains.antt and the crate's
+//! own specs/.
 #![tactic(auto)]
 
 ghost use Rattle.std.specs.Prelude.{◌≡◌, ◌<◌, IsTrue, IfSome, Some, Ok, length, slice_get, true, false};
@@ -22,12 +22,12 @@ ghost use Rattle.rhai_machine.specs.language.Values.{unit_value as unit};
 ghost use Rattle.rhai_steps.specs.Agreement.{AgreesAt, KeepsSight};
 ghost use Rattle.rhai_steps.specs.States.{state_of};
 ghost use Rattle.rhai_assign.specs.Keeps.{Keeps};
-ghost use Rattle.rhai_items.specs.Items.{charges_of, index_alone, parts_in, place_in_array, writable_at};
+ghost use Rattle.rhai_items.specs.Items.{charges_of, index_is_simple, parts_in, place_in_array, writable_at};
 ghost use Rattle.rhai_assign.specs.InPlace.{writable_in};
 
 use rhai_context::ends::put_number;
 use rhai_operands::operands::{integer_at, integer_in_place};
-use rhai_operands::operators::assign_known;
+use rhai_operands::operators::compute_known;
 use rhai_places::place::place_mut;
 use rhai_places::spot::Spot;
 use rhai_state::limits::Limits;
@@ -39,15 +39,15 @@ use rhai_steps::variables::entry_of_variable;
 use rhai_tree::expr::{Expr, OpAssignment};
 use rhai_values::base::value::{AccessMode, Dynamic, Host, Union};
 
-/// Whether an index is a literal integer or a variable.
+/// Tells whether an index is a literal integer or a variable.
 fn is_alone(index: &Expr) -> bool
-    ensures { result ≡ index_alone (out-Expr index.now) }
+    ensures { result ≡ index_is_simple (out-Expr index.now) }
 {
     matches!(index, Expr::IntegerConstant(..) | Expr::Variable { .. })
 }
 
-/// The root and the index of an expression that is an item, where the index is a literal integer or a variable, and
-/// nothing stands behind it.
+/// Returns the root and the index of an expression that is an item. The index is a literal integer or a
+/// variable, and nothing stands behind it. None for any other expression.
 fn item_parts(lhs: &Expr) -> Option<(&Expr, &Expr)>
     ensures { option_map (λ pair. (pair.0.now, pair.1.now)) result ≡ parts_in (out-Expr lhs.now) }
 {
@@ -61,8 +61,8 @@ fn item_parts(lhs: &Expr) -> Option<(&Expr, &Expr)>
     Some((root.get(), index))
 }
 
-/// How many operations an assignment to an item charges: the value, the root and the item, and for an index that is a
-/// variable what stands behind the bracket and the index.
+/// Counts the operations that an assignment to an item charges. They are those of the value, the root and the
+/// item, and for an index that is a variable those of what stands behind the bracket and of the index.
 fn charges(index: &Expr) -> u64
     ensures { result ≡ charges_of (out-Expr index.now) }
 {
@@ -72,14 +72,15 @@ fn charges(index: &Expr) -> u64
     }
 }
 
-/// How far an index stands from zero.
+/// Returns how far an index is from zero.
 fn distance(index: i64) -> usize
     ensures { result ≡ unsigned_abs index }
 {
     index.unsigned_abs() as usize
 }
 
-/// The place of an index in a sequence, counted from the end where it is negative.
+/// Finds where an index leads in a sequence, counted from the end where it is negative. None where it leads
+/// nowhere.
 #[inline(always)]
 fn place_of_index(length: usize, index: i64) -> Option<usize>
     ensures at { result ≡ index_in length index }
@@ -99,7 +100,8 @@ fn place_of_index(length: usize, index: i64) -> Option<usize>
     }
 }
 
-/// The place of an item in a value that is an array, None where it is no array or the index leads nowhere.
+/// Finds where an index leads in a value that is an array. None where it is no array or the index leads
+/// nowhere.
 #[inline(always)]
 fn place_in_value<H>(source: &Dynamic<H>, index: Option<i64>) -> Option<usize>
     ensures at { result ≡ place_in_array (layer_of source.now) index }
@@ -111,7 +113,7 @@ fn place_in_value<H>(source: &Dynamic<H>, index: Option<i64>) -> Option<usize>
     }
 }
 
-/// The integer that a value is, None where it is a constant or of another type.
+/// Returns the integer that a value is, None where it is a constant or of another type.
 #[inline(always)]
 fn writable_integer<H>(value: &Dynamic<H>) -> Option<i64>
     ensures { result ≡ writable_in value.now }
@@ -122,7 +124,8 @@ fn writable_integer<H>(value: &Dynamic<H>) -> Option<i64>
     }
 }
 
-/// The integer at a place of a value that is an array, None where it is a constant or of another type.
+/// Reads the integer that an item of an array is. None where the value is no array or has no such item, or
+/// where that is a constant or of another type.
 #[inline(always)]
 fn integer_of_item<H>(source: &Dynamic<H>, at: usize) -> Option<i64>
     ensures { result ≡ writable_at (value_at source.now (spot.Item at)) }
@@ -133,7 +136,7 @@ fn integer_of_item<H>(source: &Dynamic<H>, at: usize) -> Option<i64>
     }
 }
 
-/// Writes a value to an item of an array that a variable holds.
+/// Writes a value to an item of an array that a variable has.
 #[inline(always)]
 fn write_item<H: Host>(scope: &mut Scope<H>, entry: usize, at: usize, value: Dynamic<H>)
     requires known { entry < length (entries_of scope.old) }
@@ -147,9 +150,9 @@ fn write_item<H: Host>(scope: &mut Scope<H>, entry: usize, at: usize, value: Dyn
     put_number(place_mut(&mut source.value, Spot::Item(at)), value);
 }
 
-/// Assigns to an item of an array that a variable holds, by an operator on two integers, and makes all its charges at
-/// once. False where that is not so, or the limit has no room for all charges: then nothing is changed. The table is
-/// not called.
+/// Assigns to an item of an array that a variable has, by an operator on two integers. It makes all its
+/// charges at once. False where that is not so, or the limit has no room for all charges: then nothing is
+/// changed. The table is not called.
 #[inline(never)]
 pub fn assign_item<H: Host, T: NativeTable<H>>(
     limits: &Limits,
@@ -206,7 +209,7 @@ pub fn assign_item<H: Host, T: NativeTable<H>>(
     if operand.is_none() {
         return false;
     }
-    let Some(value) = assign_known(token, target, operand) else {
+    let Some(value) = compute_known(token, target, operand) else {
         return false;
     };
     let count = charges(index);

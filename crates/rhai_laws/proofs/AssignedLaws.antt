@@ -65,7 +65,8 @@ module _ {H : Type 0} where
 
   -- an entry with another value has its name
   newest_set : (name : List ℕ) (entries : List (ScopeEntry H)) (i : ℕ) (entry : ScopeEntry H) (v : Dynamic H) →
-      slice_get entries i ≡ Some entry → newest name_of name (slice_set entries i (record entry { value = v })) ≡ newest name_of name entries
+      slice_get entries i ≡ Some entry → newest name_of name (slice_set entries i (record entry { value = v })) ≡ newest
+      name_of name entries
   newest_set name [] i entry v is = refl
   newest_set name (first ∷ entries) zero entry v is =
       let same : first ≡ entry = cc in
@@ -194,7 +195,8 @@ module _ {S H : Type 0} (rules : Rules S H) (allows : ℕ → Bool) (variable : 
 
   -- ---- what is known of the end
 
-  assigned : (whole : Dynamic H) (n : ℕ) → Writes path w given.root whole → AssignedAt name path w mid (left (working rules allows whole n mid))
+  assigned : (whole : Dynamic H) (n : ℕ) → Writes path w given.root whole →
+      AssignedAt name path w mid (left (working rules allows whole n mid))
   assigned whole n writes =
       let now : found name (after_put name scope there whole) ≡ Some whole = found_after name scope there whole in
       record {

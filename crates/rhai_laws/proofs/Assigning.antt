@@ -30,10 +30,12 @@ use Rattle.rhai_machine.specs.language.Frames.{Assignment, StepDown, Measured}
 use Rattle.rhai_machine.specs.language.Members.{focus_of, focused_on}
 use Rattle.rhai_machine.specs.language.Calls.{sized}
 use Rattle.rhai_machine.specs.language.Assignment.{assign_core}
-use Rattle.rhai_machine.specs.language.Chains.{assign_focus, assign_spot, behind_link, descend, entered, entered_by, form_move, indexed_core}
-use Rattle.rhai_machine.specs.language.Chains.{locate_core, measured_place, property_move, seen_move, spot_core, stop_move, unless_barred_by}
+use Rattle.rhai_machine.specs.language.Chains.{assign_focus, assign_spot, behind_link, descend, entered, entered_by, form_move}
+use Rattle.rhai_machine.specs.language.Chains.{indexed_core}
+use Rattle.rhai_machine.specs.language.Chains.{locate_core, measured_place, property_move, seen_move, spot_core, stop_move}
+use Rattle.rhai_machine.specs.language.Chains.{unless_barred_by}
 use Rattle.rhai_machine.specs.language.Chains.{walk_move}
-use Rattle.rhai_machine.specs.language.Unwinding.{looked_at}
+use Rattle.rhai_machine.specs.language.Unwinding.{as_measured}
 use Rattle.rhai_machine.specs.language.Language.{machine, move}
 use Rattle.rhai_machine.specs.language.Runs.{at, with_core}
 use Rattle.rhai_laws.specs.Assigned.{IsIndexing, LeadsDown, last, further, Means, meant}
@@ -158,16 +160,16 @@ module _ {S H : Type 0} (rules : Rules S H) (allows : ℕ → Bool) where
             (Go (core (Fail fails.error) k up.local)) refl here;
       }
 
-  -- and a mark does, with what stands at the place
-  marked_up : (source w : Dynamic H) (spot : Spot) (n : ℕ) (k : List (Frame H)) (s : State S H) →
+  -- and a value that comes back as `Changed` does, with what stands at the place
+  changed_up : (source w : Dynamic H) (spot : Spot) (n : ℕ) (k : List (Frame H)) (s : State S H) →
       Comes (at (Changed unit_value) (StepDown source (ToPlace spot) ∷ k) (working w n s))
       (at (Changed unit_value) k (working (with_value source spot w) n s))
-  marked_up source w spot n k s =
+  changed_up source w spot n k s =
       step_by _ _ (Go (core (Changed unit_value) k (working (with_value source spot w) n s).local)) refl here
 
   -- what was assigned to is measured
   measured : (v : Dynamic H) (n : ℕ) (op_at : Position) (k : List (Frame H)) (s : State S H) (r : Result (Dynamic H) (EvalAltResult H)) →
-      sized rules.setting.limits (looked_at s.local.around.cells v) op_at ≡ r →
+      sized rules.setting.limits (as_measured s.local.around.cells v) op_at ≡ r →
       Comes (at (Back unit_value) (Measured op_at ∷ k) (working v n s))
       (with_core (on_value r (λ x. core (Changed unit_value) k (working v n s).local) k (working v n s).local) (working v n s))
   measured v n op_at k s r is = step_by _ _
@@ -181,7 +183,7 @@ module _ {S H : Type 0} (rules : Rules S H) (allows : ℕ → Bool) where
 
   property_up : (source w : Dynamic H) (spot : Spot) (op_at : Position) (n : ℕ) (k : List (Frame H)) (s : State S H)
       (r : Result (Dynamic H) (EvalAltResult H)) →
-      sized rules.setting.limits (looked_at s.local.around.cells (with_value source spot w)) op_at ≡ r →
+      sized rules.setting.limits (as_measured s.local.around.cells (with_value source spot w)) op_at ≡ r →
       GoesUp (at (Back unit_value) (StepDown source (ToPlace spot) ∷ Measured op_at ∷ k) (working w n s)) source w spot n k s
   property_up source w spot op_at n k s (Ok x) is =
       let up : State S H = working (with_value source spot w) n s in
@@ -197,10 +199,10 @@ module _ {S H : Type 0} (rules : Rules S H) (allows : ℕ → Bool) where
       })
 
   item_up : (source w : Dynamic H) (spot : Spot) (op_at : Position) (n : ℕ) (k : List (Frame H)) (s : State S H)
-      (r : Result (Dynamic H) (EvalAltResult H)) → sized rules.setting.limits (looked_at s.local.around.cells w) op_at ≡ r →
+      (r : Result (Dynamic H) (EvalAltResult H)) → sized rules.setting.limits (as_measured s.local.around.cells w) op_at ≡ r →
       GoesUp (at (Back unit_value) (Measured op_at ∷ StepDown source (ToPlace spot) ∷ k) (working w n s)) source w spot n k s
   item_up source w spot op_at n k s (Ok x) is =
-      inr (measured w n op_at (StepDown source (ToPlace spot) ∷ k) s (Ok x) is ⨾ marked_up source w spot n k s)
+      inr (measured w n op_at (StepDown source (ToPlace spot) ∷ k) s (Ok x) is ⨾ changed_up source w spot n k s)
   item_up source w spot op_at n k s (Err e) is =
       let behind : List (Frame H) = StepDown source (ToPlace spot) ∷ k in
       inl (fails_up source spot (at (Back unit_value) (Measured op_at ∷ behind) (working w n s)) k
@@ -367,7 +369,7 @@ module _ {S H : Type 0} (rules : Rules S H) (allows : ℕ → Bool) where
         whole = with_value v leading.at done.whole;
         count = done.count;
         writes = further_writes v u done.whole w s path leading.at leading.stands is done.writes;
-        steps = goes_down n ⨾ done.steps ⨾ marked_up v done.whole leading.at done.count k state;
+        steps = goes_down n ⨾ done.steps ⨾ changed_up v done.whole leading.at done.count k state;
       })
 
   -- ---- all links
@@ -386,7 +388,8 @@ module _ {S H : Type 0} (rules : Rules S H) (allows : ℕ → Bool) where
         opens (access_by rules.setting true link) rules.setting.host_type state.local.around.cells v index s means.step refl unshared in
         charged (Walk chain) (Locate link chain) none k (working v n state) state (s ∷ []) (with_mode ReadWrite new.value) v
         (walk_is link chain v s means k state first)
-        (λ m. last_ends link chain v s means k state new refl plain ends opened m (bars_key v index) (is_constant opened.old.mode) refl refl)
+        (λ m. last_ends link chain v s means k state new refl plain ends opened m (bars_key v index) (is_constant
+        opened.old.mode) refl refl)
         (allows n) refl
     walk_ends (further {rest = rest} {args = args} {v = v} {s = s} {path = path} link behind below first follows means is lower) in_place k
         state n =

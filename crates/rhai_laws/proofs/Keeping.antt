@@ -5,7 +5,8 @@ use Rattle.std.proofs.Math.Seq.{take-append_seam, take-length}
 use Rattle.std.proofs.lemmas.List.{take-map, drop-map, length-map, length-append, length-take, append-nil, map-append}
 use Rattle.std.proofs.Common.{append_assoc}
 use Rattle.std.specs.Option.{option_flatten, unwrap_or}
-use Rattle.std.specs.Prelude.{◌≡◌, ◌≤◌, ◌+◌, ◌-◌, ℕ, zero, suc, min, Bool, true, false, not, ◌&&◌, List, [], ◌∷◌, ◌++◌, map, take, drop, length}
+use Rattle.std.specs.Prelude.{◌≡◌, ◌≤◌, ◌+◌, ◌-◌, ℕ, zero, suc, min, Bool, true, false, not, ◌&&◌, List, [], ◌∷◌, ◌++◌, map, take, drop}
+use Rattle.std.specs.Prelude.{length}
 use Rattle.std.specs.Prelude.{Option, Some, None, Result, Ok, Err, is_some, replicate, slice_get, slice_set}
 use Rattle.rhai_tree.specs.Names.{Name, Begins}
 use Rattle.rhai_tree.specs.declared.expr.Ident.{Ident}
@@ -23,13 +24,14 @@ use Rattle.rhai_state.specs.Scope.{name_of}
 use Rattle.rhai_machine.specs.language.State.{Surroundings, Local}
 use Rattle.rhai_machine.specs.language.Values.{Cells, unit_value}
 use Rattle.rhai_machine.specs.language.Places.{Place, InEntry, InCell, InThis, InFocus, rebound, put}
-use Rattle.rhai_machine.specs.language.Activations.{Object, NoObject, OwnThis, TheFocus, Entered, Variables, Caller, UpTo, Without}
+use Rattle.rhai_machine.specs.language.Activations.{ThisFrom, NoThis, OwnThis, TheFocus, Entered, Variables, Caller, UpTo, Without}
 use Rattle.rhai_machine.specs.language.Activations.{CallExit}
 use Rattle.rhai_machine.specs.language.Turns.{ForLoop}
 use Rattle.rhai_machine.specs.language.Frames.{Saved, Control, Frame, Core, core, ended, Exec, OpenStmt, Enter, Run, Back, DefineValue}
-use Rattle.rhai_machine.specs.language.Frames.{RestOfList, RestoreList, StepDown, EnterFunction, CallEnd, ForItems, ImportPath, RestoreScope}
+use Rattle.rhai_machine.specs.language.Frames.{RestOfList, RestoreList, StepDown, EnterFunction, CallEnd, ForItems, ImportPath}
+use Rattle.rhai_machine.specs.language.Frames.{RestoreScope}
 use Rattle.rhai_functions.specs.Entering.{parameters}
-use Rattle.rhai_machine.specs.language.Bodies.{back_by, variables_before, this_by, with_environ, entered_local}
+use Rattle.rhai_machine.specs.language.Bodies.{this_back, variables_before, this_by, with_environ, entered_local}
 use Rattle.rhai_machine.specs.language.Bodies.{variables_after, exit_of, variables_back, called_back}
 use Rattle.rhai_machine.specs.language.Statements.{saved_by, restored_by, deeper, with_constant, with_entry_at}
 use Rattle.rhai_machine.specs.language.Unwinding.{restored}
@@ -76,7 +78,7 @@ abbrev pub loop_names : ForLoop → List Name
 loop_names loop = counter_names loop.counter ++ loop.variable.name ∷ []
 
 module _ {H : Type 0} where
-  -- a table of constants without what it holds
+  -- a table of constants without its names and values
   abbrev pub forgotten_table : List (List ℕ) × List (Dynamic H) → List (List ℕ) × List (Dynamic H)
   forgotten_table table = ([], [])
 
@@ -114,7 +116,7 @@ module _ {H : Type 0} where
       level = exit.level;
     };
     scope_level = o.scope_level;
-    bound = back_by exit.object (is_some exit.this) o.bound;
+    bound = this_back exit.object (is_some exit.this) o.bound;
   }
 
   -- what is left of it once the whole stack has been unwound
@@ -178,7 +180,8 @@ module _ {H : Type 0} where
   onto_through o p q f g = (both f.0 g.0, g.1 ∙ ap (more g.0) f.1 ∙ more_and_more f.0 g.0 o)
 
   -- a free cell that is freed stays so, and so do new ones
-  free_cells : (count n : ℕ) → slice_set (replicate count (Some unit_value)) n (Some unit_value) ≡ replicate count (Some (unit_value {H = H}))
+  free_cells : (count n : ℕ) → slice_set (replicate count (Some unit_value)) n (Some unit_value) ≡ replicate count (Some
+      (unit_value {H = H}))
   free_cells zero n = refl
   free_cells (suc count) zero = refl
   free_cells (suc count) (suc n) = ap (λ rest. Some unit_value ∷ rest) (free_cells count n)
@@ -288,14 +291,14 @@ module _ {H : Type 0} where
   put_outline InFocus v l is = refl
 
   -- whether `this` is bound comes back as `this` does
-  bound_back : (object : Object) (before now : Option (Dynamic H)) →
-      is_some (back_by object before now) ≡ back_by object (is_some before) (is_some now)
-  bound_back NoObject before now = refl
+  bound_back : (object : ThisFrom) (before now : Option (Dynamic H)) →
+      is_some (this_back object before now) ≡ this_back object (is_some before) (is_some now)
+  bound_back NoThis before now = refl
   bound_back OwnThis before now = refl
   bound_back TheFocus before now = refl
 
-  bound_again : (object : Object) (l : Local H) → back_by object (is_some l.this) (is_some (this_by object l)) ≡ is_some l.this
-  bound_again NoObject l = refl
+  bound_again : (object : ThisFrom) (l : Local H) → this_back object (is_some l.this) (is_some (this_by object l)) ≡ is_some l.this
+  bound_again NoThis l = refl
   bound_again OwnThis l = refl
   bound_again TheFocus l = refl
 
@@ -443,8 +446,8 @@ module _ {H : Type 0} where
     ImportsAt _ k n = Imports k n
 
     -- what is asked holds of a core
-    abbrev pub Held : Core H → Type 0
-    Held c =
+    abbrev pub MeetsAsked : Core H → Type 0
+    MeetsAsked c =
         a.along (names_of c.local) × TightAt c.control c.stack (names_of c.local)
         × ImportsAt c.control c.stack (length c.local.around.imports)
 
@@ -452,12 +455,17 @@ module _ {H : Type 0} where
     pub record Keeps (c d : Core H) : Type 0 where
       pub sound : Sound d.control d.local
       pub around : Onto (unwound c.stack (outline c.local)) (unwound d.stack (outline d.local))
-      pub names : Held c → Held d
+      pub names : MeetsAsked c → MeetsAsked d
 
     -- the same outline, names that will do
     pub quiet : {c d : Core H} → Sound d.control d.local → unwound d.stack (outline d.local) ≡ unwound c.stack (outline c.local) →
-        (Held c → Held d) → Keeps c d
-    quiet {c} {d} s o n = record { sound = s; around = onto_same (unwound c.stack (outline c.local)) (unwound d.stack (outline d.local)) o; names = n }
+        (MeetsAsked c → MeetsAsked d) → Keeps c d
+    quiet {c} {d} s o n = record {
+      sound = s;
+      around = onto_same (unwound c.stack (outline c.local)) (unwound d.stack
+          (outline d.local)) o;
+      names = n;
+    }
 
     -- one move after another
     pub through : {b c d : Core H} → Keeps b c → Keeps c d → Keeps b d
@@ -469,7 +477,7 @@ module _ {H : Type 0} where
     }
 
     -- a move by way of another core
-    pub after : {b d : Core H} (c : Core H) → unwound c.stack (outline c.local) ≡ unwound b.stack (outline b.local) → (Held b → Held c) →
+    pub after : {b d : Core H} (c : Core H) → unwound c.stack (outline c.local) ≡ unwound b.stack (outline b.local) → (MeetsAsked b → MeetsAsked c) →
         Keeps c d → Keeps b d
     after c o n q = record {
       sound = q.sound;
@@ -482,8 +490,8 @@ module _ {H : Type 0} where
     as_many k n any = any n (omega arith)
 
     -- what may add names and imports may add none
-    pub held : (k : List (Frame H)) (l : Local H) → Held (eager k l) → Held (calm k l)
-    held k l t = (t.0, t.1 (names_of l) (begins_self (names_of l)) t.0, as_many k (length l.around.imports) t.2)
+    pub calm_meets : (k : List (Frame H)) (l : Local H) → MeetsAsked (eager k l) → MeetsAsked (calm k l)
+    calm_meets k l t = (t.0, t.1 (names_of l) (begins_self (names_of l)) t.0, as_many k (length l.around.imports) t.2)
 
     -- a result comes back
     pub ended_keeps : (r : Result (Dynamic H) (EvalAltResult H)) (k : List (Frame H)) (l : Local H) → Keeps (calm k l) (core (ended r) k l)
@@ -491,7 +499,7 @@ module _ {H : Type 0} where
     ended_keeps (Err e) k l = quiet tt refl (λ t. t)
 
     -- a restoring list is entered
-    pub entered_names : (k : List (Frame H)) (l : Local H) → Held (calm k l) → Held (eager (RestoreList (saved_by l) ∷ k) l)
+    pub entered_names : (k : List (Frame H)) (l : Local H) → MeetsAsked (calm k l) → MeetsAsked (eager (RestoreList (saved_by l) ∷ k) l)
     entered_names k l t = (
       t.0,
       λ m b q. rw (taken l m b) (t.0, t.1),
@@ -499,21 +507,21 @@ module _ {H : Type 0} where
     )
 
     -- a restoring list is left
-    pub left_names : (saved : Saved) (k : List (Frame H)) (l : Local H) → Held (calm (RestoreList saved ∷ k) l) →
-        Held (calm k (restored_by saved l))
+    pub left_names : (saved : Saved) (k : List (Frame H)) (l : Local H) → MeetsAsked (calm (RestoreList saved ∷ k) l) →
+        MeetsAsked (calm k (restored_by saved l))
     left_names saved k l t = rw
         (← take-map name_of saved.scope_length l.scope, length-take saved.imports_length l.around.imports) (t.1.0, t.1.1, t.2)
 
     -- the variables that are newer than so many are gone
-    pub scope_left : (length : ℕ) (k : List (Frame H)) (l : Local H) → Held (calm (RestoreScope length ∷ k) l) →
-        Held (calm k (record l { scope = take length l.scope }))
+    pub scope_left : (length : ℕ) (k : List (Frame H)) (l : Local H) → MeetsAsked (calm (RestoreScope length ∷ k) l) →
+        MeetsAsked (calm k (record l { scope = take length l.scope }))
     scope_left length k l t = rw (← take-map name_of length l.scope) (t.1.0, t.1.1, t.2)
 
     -- variables that are newer than those that are there, over the frame that takes them back
-    pub newer_held : (entries : List (ScopeEntry H)) (k : List (Frame H)) (l : Local H) →
-        a.along (names_of l ++ map name_of entries) → Held (calm k l) →
-        Held (calm (RestoreScope (length l.scope) ∷ k) (record l { scope = l.scope ++ entries }))
-    newer_held entries k l w t = rw
+    pub newer_meets : (entries : List (ScopeEntry H)) (k : List (Frame H)) (l : Local H) →
+        a.along (names_of l ++ map name_of entries) → MeetsAsked (calm k l) →
+        MeetsAsked (calm (RestoreScope (length l.scope) ∷ k) (record l { scope = l.scope ++ entries }))
+    newer_meets entries k l w t = rw
         (map-append name_of l.scope entries, taken l (names_of l ++ map name_of entries) (map name_of entries, refl)) (w, (t.0, t.1), t.2)
 
     -- a control that may add imports, or may not, adds none
@@ -608,9 +616,9 @@ module _ {H : Type 0} where
     step_left above (ToCell n) k l = quiet tt (ap (unwound k) (left_cell above n l)) (λ t. t)
 
     -- a value is written to a place
-    put_names_held : (place : Place) (v : Dynamic H) (k : List (Frame H)) (l : Local H) → Held (calm k l) → Held (calm k (put place v l))
-    put_names_held place v k l t = rw (put_names place v l, put_imports place v l) t
+    put_names_meet : (place : Place) (v : Dynamic H) (k : List (Frame H)) (l : Local H) → MeetsAsked (calm k l) → MeetsAsked (calm k (put place v l))
+    put_names_meet place v k l t = rw (put_names place v l, put_imports place v l) t
 
     pub put_keeps : (place : Place) (v : Dynamic H) (k : List (Frame H)) (l : Local H) → Stands place l →
         Keeps (calm k l) (calm k (put place v l))
-    put_keeps place v k l is = quiet tt (ap (unwound k) (put_outline place v l is)) (put_names_held place v k l)
+    put_keeps place v k l is = quiet tt (ap (unwound k) (put_outline place v l is)) (put_names_meet place v k l)

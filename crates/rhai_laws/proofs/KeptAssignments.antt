@@ -27,10 +27,10 @@ use Rattle.rhai_machine.specs.language.Places.{focus_target, this_at, this_targe
 use Rattle.rhai_machine.specs.language.Frames.{Attempt, InPlace, AsValue, Assignment, Update, Frame}
 use Rattle.rhai_machine.specs.language.Frames.{Core, core, where_there, QuestionUpdate}
 use Rattle.rhai_machine.specs.language.Frames.{FireUpdate}
-use Rattle.rhai_machine.specs.language.Calls.{sized, applied, replied, placed_if_none}
+use Rattle.rhai_machine.specs.language.Calls.{sized, applied, replied, with_position}
 use Rattle.rhai_machine.specs.language.Assignment.{store_this, to_this, variable_of_assignment}
 use Rattle.rhai_machine.specs.language.Assignment.{assignment_move, written_core, done, if_fast, says_missing, operation_of}
-use Rattle.rhai_machine.specs.language.Assignment.{native_of, left_in, update_core, assign_core, store_core, changed_core, fault_core}
+use Rattle.rhai_machine.specs.language.Assignment.{native_of, target_left, update_core, assign_core, store_core, changed_core, fault_core}
 use Rattle.rhai_machine.specs.language.Assignment.{value_core, answered_core, lent_core, barred_core, fire_update}
 use Rattle.rhai_laws.specs.Kept.{Stands}
 use Rattle.rhai_laws.specs.Steady.{Moves}
@@ -188,7 +188,7 @@ module _ {H : Type 0} (a : Asked) where
         update_keeps (op_assign_of u.operator u.target u.operand) (record u { attempt = AsValue }) k l stands
     answered_keeps InPlace (Gives v) u k l stands = changed_keeps (sized s.limits v u.at) u k l
     answered_keeps InPlace (Faults e) u k l stands =
-        fault_keeps (says_missing (native_of InPlace u.operator) e) (placed_if_none u.at e) u k l stands
+        fault_keeps (says_missing (native_of InPlace u.operator) e) (with_position u.at e) u k l stands
     answered_keeps AsValue reply u k l stands =
         value_keeps (replied s.limits s.host_type reply (Some u.target) (u.operand ∷ []) (operation_of u) false l.around.cells) u k l
         stands
@@ -207,4 +207,4 @@ module _ {H : Type 0} (a : Asked) where
     pub fire_update_keeps : (there : Union H) (u : Update H) (k : List (Frame H)) (l : Local H) → Stands u.place l →
         Moves (Keeps a) (core (FireUpdate u) k l) (fire_update s there u k l)
     fire_update_keeps (value.Cell id) u k l stands = quiet a tt refl (λ t. t)
-    fire_update_keeps _ u k l stands = λ reply left. after a (calm k l) refl (λ t. t) (lent_keeps reply (left_in u left) u k l stands)
+    fire_update_keeps _ u k l stands = λ reply left. after a (calm k l) refl (λ t. t) (lent_keeps reply (target_left u left) u k l stands)

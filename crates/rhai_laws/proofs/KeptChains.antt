@@ -76,7 +76,8 @@ module _ {H : Type 0} (a : Asked) where
       Moves (Keeps a) (core (ChainRoot chain) k l) (root_move form chain k l)
   root_keeps (layer.Variable offset name namespace pos) chain k l = quiet a tt refl (λ t. t)
   root_keeps (layer.ThisPtr pos) chain k l = after a (calm k l) refl (λ t. t)
-      (on_keeps a (bound_this pos l.this) _ k l (λ v. on_keeps a (seen_through l.around.cells v pos) _ k l (λ inner. quiet a tt refl (λ t. t))))
+      (on_keeps a (bound_this pos l.this) _ k l (λ v. on_keeps a (seen_through l.around.cells v pos) _ k l (λ inner. quiet a tt
+      refl (λ t. t))))
   root_keeps _ chain k l = there_keeps a (is_none chain.new) (core (ChainRoot chain) k l) _ (quiet a tt refl (λ t. t))
 
   meant_keeps : (meaning : Meaning H) (chain : Chain H) (k : List (Frame H)) (l : Local H) →

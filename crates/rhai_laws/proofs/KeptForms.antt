@@ -5,7 +5,8 @@ use Rattle.std.proofs.Math.Seq.{map-set_same}
 use Rattle.std.proofs.lemmas.Bool.Decides.{nat_tests}
 use Rattle.std.proofs.lemmas.List.{append-nil, length-append, length-map, map-append}
 use Rattle.std.specs.Option.{option_map}
-use Rattle.std.specs.Prelude.{◌≡◌, ◌≤◌, ◌<◌, ◌+◌, ◌-◌, ◌^◌, ℕ, min, pos, nat_le, length, Bool, true, false, List, [], ◌∷◌, ◌++◌, map, Option, Some, None}
+use Rattle.std.specs.Prelude.{◌≡◌, ◌≤◌, ◌<◌, ◌+◌, ◌-◌, ◌^◌, ℕ, min, pos, nat_le, length, Bool, true, false, List, [], ◌∷◌, ◌++◌, map}
+use Rattle.std.specs.Prelude.{Option, Some, None}
 use Rattle.std.specs.Prelude.{Result, Ok, Err}
 use Rattle.rhai_tree.specs.Names.{Name}
 use Rattle.rhai_tree.specs.declared.position.Position.{Position}
@@ -38,7 +39,8 @@ use Rattle.rhai_machine.specs.language.Frames.{Frame, Core, core, on_value, Open
 use Rattle.rhai_machine.specs.language.Frames.{ImportPath}
 use Rattle.rhai_machine.specs.language.Imports.{import_core, importing, name_asked}
 use Rattle.rhai_machine.specs.language.Choices.{truth_literal, met_core, tested_core, choose_core}
-use Rattle.rhai_machine.specs.language.Walks.{counters, has_no_room, for_core, counter_entry, loop_entries, started_core, shared_place, place_by}
+use Rattle.rhai_machine.specs.language.Walks.{counters, has_no_room, for_core, counter_entry, loop_entries, started_core, shared_place}
+use Rattle.rhai_machine.specs.language.Walks.{place_by}
 use Rattle.rhai_machine.specs.language.Walks.{place_of_entry, counted_core, turn_core, for_move, entered_core, item_core}
 use Rattle.rhai_machine.specs.language.Caught.{caught_value, thrown}
 use Rattle.rhai_machine.specs.language.Tries.{branch_with, branch_core, tried_core}
@@ -47,8 +49,9 @@ use Rattle.rhai_machine.specs.language.Sharing.{handle_of, with_cell, shared, sh
 use Rattle.rhai_machine.proofs.Places.{put_names}
 use Rattle.rhai_laws.specs.Kept.{forgotten_cell, Stands, names_of}
 use Rattle.rhai_laws.specs.Steady.{Moves}
-use Rattle.rhai_laws.proofs.Keeping.{Asked, Grows, counter_names, loop_names, outline, Growth, more, new_cells, adds, Tight, AnyImports, as_many}
-use Rattle.rhai_laws.proofs.Keeping.{Held, Keeps, quiet, through, after, calm, newer_held, put_keeps}
+use Rattle.rhai_laws.proofs.Keeping.{Asked, Grows, counter_names, loop_names, outline, Growth, more, new_cells, adds, Tight, AnyImports}
+use Rattle.rhai_laws.proofs.Keeping.{as_many}
+use Rattle.rhai_laws.proofs.Keeping.{MeetsAsked, Keeps, quiet, through, after, calm, newer_meets, put_keeps}
 use Rattle.rhai_laws.proofs.KeptCalls.{on_keeps}
 
 -- a `for` has a name for its variable and one for its counter
@@ -98,7 +101,7 @@ module _ {H : Type 0} (a : Asked) where
 
   started_keeps : (turns : Option (Turns H)) (loop : ForLoop) (v : Dynamic H) (k : List (Frame H)) (l : Local H) →
       Keeps a (core (Back v) (ForItems loop ∷ k) l) (started_core turns loop k l)
-  started_keeps (Some turns) loop v k l = quiet a tt refl (λ t. newer_held a (loop_entries loop) k l
+  started_keeps (Some turns) loop v k l = quiet a tt refl (λ t. newer_meets a (loop_entries loop) k l
       (rw (entry_names loop.counter (new_entry loop.variable.name ReadWrite unit_value)) t.1.0) (t.0, t.1.1, t.2))
   started_keeps None loop v k l = quiet a tt refl (λ t. (t.0, t.1.1, t.2))
 
@@ -171,8 +174,8 @@ module _ {H : Type 0} (a : Asked) where
       let same : l.around.num_modules_loaded + 0 ≡ l.around.num_modules_loaded = omega arith in
       rw (map-append forgotten_cell l.around.cells (Some v ∷ []), append-nil l.around.imports, same) refl
 
-  names_shared : (index : ℕ) (v : Dynamic H) (k : List (Frame H)) (l : Local H) → Held a (calm k l) →
-      Held a (calm k (put (InEntry index) v l))
+  names_shared : (index : ℕ) (v : Dynamic H) (k : List (Frame H)) (l : Local H) → MeetsAsked a (calm k l) →
+      MeetsAsked a (calm k (put (InEntry index) v l))
   names_shared index v k l t = rw (put_names (InEntry index) v l) t
 
   shared_keeps : (index : ℕ) (u : Union H) (v : Dynamic H) (k : List (Frame H)) (l : Local H) →
@@ -212,11 +215,12 @@ module _ {H : Type 0} (a : Asked) where
       t.2,
     ))
 
-    branch_with_keeps : (full : Bool) (variable : Ident) (v : Dynamic H) (caught : EvalAltResult H) (branch : StmtBlock) (k : List (Frame H))
+    branch_with_keeps : (full : Bool) (variable : Ident) (v : Dynamic H) (caught : EvalAltResult H) (branch : StmtBlock) (k
+        : List (Frame H))
         (l : Local H) → nat_le s.limits.max_variables (length l.scope) ≡ full →
         Keeps a (calm k l) (branch_with full variable v caught branch k l)
     branch_with_keeps true variable v caught branch k l is = quiet a tt refl (λ t. t)
-    branch_with_keeps false variable v caught branch k l is = quiet a tt refl (λ t. newer_held a
+    branch_with_keeps false variable v caught branch k l is = quiet a tt refl (λ t. newer_meets a
         (new_entry variable.name ReadWrite v ∷ []) k l
         (grows.fits _ (room s.limits.max_variables (length l.scope) (names_of l) variable.name (length-map l.scope name_of) is)) t)
 
@@ -263,7 +267,7 @@ module _ {H : Type 0} (a : Asked) where
 
   -- a path that did not come imports none
   pub not_imported : (k : List (Frame H)) (l : Local H) →
-      a.along (names_of l) × Tight a k (names_of l) × AnyImports a k (length l.around.imports) → Held a (calm k l)
+      a.along (names_of l) × Tight a k (names_of l) × AnyImports a k (length l.around.imports) → MeetsAsked a (calm k l)
   not_imported k l t = (t.0, t.1, as_many a k (length l.around.imports) t.2)
 
   pub imported_keeps : (r : Result (Module H) (EvalAltResult H)) (alias : Option Ident) (path_at starts_at : Position) (v : Dynamic H)

@@ -1,4 +1,4 @@
--- What every run of the language keeps, whatever its end, want of memory included.
+-- What every run of the language keeps, whatever its end, also where memory runs out.
 use Rattle.std.proofs.Common.{refl, sym, ap, ◌∙◌, arith}
 use Rattle.std.proofs.lemmas.List.{append-nil, length-append, length-drop, length-map, length-take}
 use Rattle.std.specs.Prelude.{◌≡◌, ◌≤◌, ◌+◌, Bool, ℕ, zero, ⊤, length, map, take, drop, true, false, List, [], ◌∷◌, ◌++◌}
@@ -17,7 +17,7 @@ use Rattle.rhai_laws.specs.Kept.{declares, forgotten_cell, is_import, Around, So
 use Rattle.rhai_laws.specs.Steady.{Moves, Steady}
 use Rattle.rhai_laws.proofs.MemoryLaws.{keeps, counts, within}
 use Rattle.rhai_laws.proofs.Keeping.{Outline, Onto, outline, forgotten_table, Asked, Grows, begins_self, calm, Tight, Free, TightAt}
-use Rattle.rhai_laws.proofs.Keeping.{Imports, AnyImports, ImportsAt, as_many, any_by, no_more_by, Held, Keeps, quiet, through}
+use Rattle.rhai_laws.proofs.Keeping.{Imports, AnyImports, ImportsAt, as_many, any_by, no_more_by, MeetsAsked, Keeps, quiet, through}
 use Rattle.rhai_laws.proofs.Keeping.{started_by, stopped_by}
 use Rattle.rhai_laws.proofs.KeptRules.{move_keeps}
 
@@ -54,7 +54,7 @@ module _ {H : Type 0} (a : Asked) where
   no_more _ k n t = t
 
   -- an error adds no names, and no imports
-  failed : (c : Core H) (e : EvalAltResult H) → Held a c → Held a (core (Fail e) c.stack c.local)
+  failed : (c : Core H) (e : EvalAltResult H) → MeetsAsked a c → MeetsAsked a (core (Fail e) c.stack c.local)
   failed c e t = (
     t.0,
     stopped c.control c.stack (names_of c.local) t.0 t.1,
@@ -151,7 +151,7 @@ module _ {S H : Type 0} (rules : Rules S H) where
       through = λ p q h. through a (p h) (q (p h).sound);
       moves = λ c. from_sound a c _ (move_keeps a rules.setting grows c.control c.stack c.local);
       refuses = λ at c h. quiet a tt refl (failed a c (error.ErrorTooManyOperations at));
-      wants = λ at c h. quiet a tt refl (failed a c (error.ErrorOutOfMemory at));
+      is_out = λ at c h. quiet a tt refl (failed a c (error.ErrorOutOfMemory at));
     }
 
     -- and so does a run
@@ -166,7 +166,7 @@ module _ {S H : Type 0} (rules : Rules S H) where
     goes_keep b c d old new led goes = through a led (keeps (machine rules) (cut rules) (Stays a) steady goes led.sound)
 
     -- what is asked at the end
-    ends_so : (d : Control H) (new : State S H) → Held a (core d [] new.local) →
+    ends_so : (d : Control H) (new : State S H) → MeetsAsked a (core d [] new.local) →
         a.along (names_of new.local) × a.last (names_of new.local) × a.imports (length new.local.around.imports)
     ends_so d new t = (
       t.0,
@@ -204,7 +204,7 @@ module _ {S H : Type 0} (rules : Rules S H) where
   unfolding Steps
   counted_within c d old new steps = within (machine rules) (limit_under rules) (steps [])
 
-  -- what every run leaves, want of memory included
+  -- what every run leaves, also where memory runs out
   pub grown : (c d : Control H) (old new : State S H) → Sound c old.local → Steps rules c old d new → Grown rules old new
   grown c d old new h steps =
       let onto = (run_keeps nothing (any_names _ _ _) c d old new h steps).around in

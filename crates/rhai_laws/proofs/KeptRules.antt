@@ -35,13 +35,17 @@ use Rattle.rhai_machine.specs.language.Names.{bound_this, read}
 use Rattle.rhai_machine.specs.language.Activations.{Entered}
 use Rattle.rhai_machine.specs.language.Frames.{on_value}
 use Rattle.rhai_machine.specs.language.Frames.{Operation, Control, Frame, Core, core, Eval, Exec, Ask, Assign, AskUpdate, Argument}
-use Rattle.rhai_machine.specs.language.Frames.{Question, Fire, QuestionUpdate, FireUpdate, OpenExpr, OpenStmt, Enter, Run, Store, StoreThis, WhileTurn}
+use Rattle.rhai_machine.specs.language.Frames.{Question, Fire, QuestionUpdate, FireUpdate, OpenExpr, OpenStmt, Enter, Run, Store, StoreThis}
+use Rattle.rhai_machine.specs.language.Frames.{WhileTurn}
 use Rattle.rhai_machine.specs.language.Frames.{DoTurn, Back, Changed, Fail, StatementValue, DefineValue, IfCondition, RestOfList}
-use Rattle.rhai_machine.specs.language.Frames.{RestoreList, Top, UnaryOperand, LeftOperand, RightOperand, AndPart, OrPart, CoalescePart, AssignValue}
+use Rattle.rhai_machine.specs.language.Frames.{RestoreList, Top, UnaryOperand, LeftOperand, RightOperand, AndPart, OrPart, CoalescePart}
+use Rattle.rhai_machine.specs.language.Frames.{AssignValue}
 use Rattle.rhai_machine.specs.language.Frames.{WhileCondition, WhileBody, DoCondition, DoBody, BreakValue, ReturnValue}
 use Rattle.rhai_machine.specs.language.Frames.{ArrayItem, EntryValue, TextPart, PrintedPart, CallNamed, CallArgument, KeywordArgument}
-use Rattle.rhai_machine.specs.language.Frames.{EnterFunction, EnterOnFocus, AssignThis, AssignThisValue, CallEnd, Choose, ForTurn, ForItem, Share}
-use Rattle.rhai_machine.specs.language.Frames.{SwitchValue, SwitchCondition, ForItems, ForBody, ImportPath, RestoreScope, TryBody, ThrowValue}
+use Rattle.rhai_machine.specs.language.Frames.{EnterFunction, EnterOnFocus, AssignThis, AssignThisValue, CallEnd, Choose, ForTurn, ForItem}
+use Rattle.rhai_machine.specs.language.Frames.{Share}
+use Rattle.rhai_machine.specs.language.Frames.{SwitchValue, SwitchCondition, ForItems, ForBody, ImportPath, RestoreScope, TryBody}
+use Rattle.rhai_machine.specs.language.Frames.{ThrowValue}
 use Rattle.rhai_machine.specs.language.Bodies.{statements_of, variables_before, body_core, unless_deep, called_back, returned}
 use Rattle.rhai_machine.specs.language.Data.{with_item, with_value, with_part, items_core, entries_core, parts_core, part_core}
 use Rattle.rhai_machine.specs.language.Data.{joined_core, printed, unprinted_core}
@@ -64,19 +68,21 @@ use Rattle.rhai_machine.specs.language.Frames.{AssignChain, AssignedChain, OpenC
 use Rattle.rhai_machine.specs.language.Frames.{RootValue, ChainEnd, StepDown, Temporary, PartMethod, PartAssigned, Measured, MethodLink}
 use Rattle.rhai_machine.specs.language.Frames.{MemberLink, MemberGot, MemberOperated, GetterTried, SetterTried, IndexerTried, MemberSet}
 use Rattle.rhai_machine.specs.language.Members.{focus_of, focused_on, lacks_property, lacks_indexer}
-use Rattle.rhai_machine.specs.language.Unwinding.{up_core, down_core, marked_core, topped, operated, looked_at}
+use Rattle.rhai_machine.specs.language.Unwinding.{up_core, down_core, changed_up_core, script_ended, operands_there, as_measured}
 use Rattle.rhai_machine.specs.language.Language.{move_at}
 use Rattle.rhai_laws.specs.Kept.{declares, is_import, Sound, names_of, adds_names}
 use Rattle.rhai_laws.specs.Steady.{Moves}
-use Rattle.rhai_laws.proofs.Keeping.{Asked, Grows, Free, Imports, Held, begins_self, begins_through, unwound, Keeps, quiet, through, after, calm}
-use Rattle.rhai_laws.proofs.Keeping.{any_by, held}
+use Rattle.rhai_laws.proofs.Keeping.{Asked, Grows, Free, Imports, MeetsAsked, begins_self, begins_through, unwound, Keeps, quiet, through, after}
+use Rattle.rhai_laws.proofs.Keeping.{calm}
+use Rattle.rhai_laws.proofs.Keeping.{any_by, calm_meets}
 use Rattle.rhai_laws.proofs.Keeping.{ended_keeps, step_left, call_left, constant_outline, function_entered, started_by, stopped_by}
 use Rattle.rhai_laws.proofs.Keeping.{entered_around, entered_names, left_names, scope_left, put_keeps}
 use Rattle.rhai_laws.proofs.KeptAssignments.{assignment_keeps, store_keeps, store_this_keeps, barred_keeps}
 use Rattle.rhai_laws.proofs.KeptAssignments.{fire_update_keeps}
 use Rattle.rhai_laws.proofs.KeptCalls.{on_keeps, call_keeps, fire_keeps, question_keeps, operator_keeps, arguments_keep, named_keeps}
 use Rattle.rhai_laws.proofs.KeptCalls.{keyword_keeps}
-use Rattle.rhai_laws.proofs.KeptForms.{choose_keeps, met_keeps, walked_keeps, for_keeps, for_turn_keeps, item_keeps, tried_keeps, export_keeps, share_keeps}
+use Rattle.rhai_laws.proofs.KeptForms.{choose_keeps, met_keeps, walked_keeps, for_keeps, for_turn_keeps, item_keeps, tried_keeps}
+use Rattle.rhai_laws.proofs.KeptForms.{export_keeps, share_keeps}
 use Rattle.rhai_laws.proofs.KeptForms.{imported_keeps, import_keeps, not_imported, room}
 use Rattle.rhai_laws.proofs.KeptMethods.{focus_keeps}
 use Rattle.rhai_laws.proofs.KeptChains.{open_keeps, asked_keeps, root_keeps, read_root_keeps, walk_keeps, locate_keeps, chain_left}
@@ -88,13 +94,13 @@ module _ {H : Type 0} (a : Asked) where
   enter_keeps : (stmts : List Stmt) (restoring : Bool) (k : List (Frame H)) (l : Local H) →
       Keeps a (core (Enter stmts restoring) k l) (enter_core stmts restoring k l)
   enter_keeps [] true k l = quiet a tt refl (λ t. t)
-  enter_keeps [] false k l = quiet a tt refl (held a k l)
+  enter_keeps [] false k l = quiet a tt refl (calm_meets a k l)
   enter_keeps (stmt ∷ stmts) true k l = quiet a tt (ap (unwound k) (entered_around l)) (entered_names a k l)
   enter_keeps (stmt ∷ stmts) false k l = quiet a tt refl (λ t. t)
 
   run_keeps : (stmts : List Stmt) (restoring : Bool) (last : Dynamic H) (k : List (Frame H)) (l : Local H) →
       Keeps a (core (Run stmts restoring last) k l) (run_core stmts restoring last k l)
-  run_keeps [] restoring last k l = quiet a tt refl (held a k l)
+  run_keeps [] restoring last k l = quiet a tt refl (calm_meets a k l)
   run_keeps (stmt ∷ stmts) restoring last k l =
       quiet a tt refl (λ t. (
         t.0,
@@ -233,7 +239,7 @@ module _ {H : Type 0} (a : Asked) where
   added_names : (ident : Ident) (mode : AccessMode) (w : Dynamic H) (k : List (Frame H)) (l : Local H) →
       a.along (names_of l) × (a.along (names_of l ++ ident.name ∷ []) × Free a k (names_of l))
       × Imports a k (length l.around.imports) →
-      Held a (calm k (record l { scope = l.scope ++ new_entry ident.name mode w ∷ [] }))
+      MeetsAsked a (calm k (record l { scope = l.scope ++ new_entry ident.name mode w ∷ [] }))
   added_names ident mode w k l t =
       rw (map-append name_of l.scope (new_entry ident.name mode w ∷ []))
       (t.1.0, t.1.1 (names_of l ++ ident.name ∷ []) (ident.name ∷ [], refl) t.1.0, t.2)
@@ -265,7 +271,7 @@ module _ {H : Type 0} (a : Asked) where
 
   -- a value that did not come adds none
   undefined_names : (index : Option NonZeroUsize) (ident : Ident) (options : ASTFlags) (restoring : Bool) (value_at : Position)
-      (k : List (Frame H)) (l : Local H) → Held a (calm (DefineValue ident index options restoring value_at ∷ k) l) → Held a (calm k l)
+      (k : List (Frame H)) (l : Local H) → MeetsAsked a (calm (DefineValue ident index options restoring value_at ∷ k) l) → MeetsAsked a (calm k l)
   undefined_names None ident options restoring value_at k l t =
       (t.0, t.1.1 (names_of l) (begins_self (names_of l)) t.0, t.2)
   undefined_names (Some offset) ident options restoring value_at k l t = t
@@ -285,7 +291,7 @@ module _ {H : Type 0} (a : Asked) where
   module _ (s : Setting H) where
     -- the operands of an operator
     operated_keeps : (operation : Operation) (args : List (Dynamic H)) (k : List (Frame H)) (l : Local H) →
-        Keeps a (calm k l) (operated s operation args k l)
+        Keeps a (calm k l) (operands_there s operation args k l)
     operated_keeps operation args k l = operator_keeps a s (builtin_of operation.token args) (call_of operation args) k l
 
     -- arrays and texts
@@ -389,7 +395,7 @@ module _ {H : Type 0} (a : Asked) where
     up_keeps (PartAssigned above at op_at) v k l =
         after a (calm k l) refl (λ t. t) (part_assigned_keeps a s (put_back above at (focus_of l)) above at op_at k l)
     up_keeps (Measured op_at) v k l = after a (calm k l) refl (λ t. t)
-        (on_keeps a (sized s.limits (looked_at l.around.cells (focus_of l)) op_at) _ k l (λ x. quiet a tt refl (λ t. t)))
+        (on_keeps a (sized s.limits (as_measured l.around.cells (focus_of l)) op_at) _ k l (λ x. quiet a tt refl (λ t. t)))
     up_keeps (MethodLink chain) v k l = quiet a tt refl (λ t. t)
     up_keeps (MemberLink access chain) v k l = quiet a tt refl (λ t. t)
     up_keeps (MemberGot access root new) v k l =
@@ -400,25 +406,25 @@ module _ {H : Type 0} (a : Asked) where
     up_keeps (MemberSet value) v k l = quiet a tt refl (λ t. t)
     up_keeps _ v k l = quiet a tt refl (λ t. t)
 
-    -- a value comes up that is marked
-    marked_keeps : (frame : Frame H) (v : Dynamic H) (k : List (Frame H)) (l : Local H) →
-        Keeps a (core (Changed v) (frame ∷ k) l) (marked_core s frame v k l)
-    marked_keeps (StepDown above step) v k l = after a (calm (StepDown above step ∷ k) l) refl (λ t. t)
+    -- a value comes up as `Changed`
+    comes_changed_keeps : (frame : Frame H) (v : Dynamic H) (k : List (Frame H)) (l : Local H) →
+        Keeps a (core (Changed v) (frame ∷ k) l) (changed_up_core s frame v k l)
+    comes_changed_keeps (StepDown above step) v k l = after a (calm (StepDown above step ∷ k) l) refl (λ t. t)
         (through a (step_left a above step k l) (quiet a tt refl (λ t. t)))
-    marked_keeps (Temporary above back) v k l = after a (calm k (focused_on above l)) refl (λ t. t)
+    comes_changed_keeps (Temporary above back) v k l = after a (calm k (focused_on above l)) refl (λ t. t)
         (temporary_keeps a s back (focus_of l) v k (focused_on above l))
-    marked_keeps (PartMethod above at pos) v k l =
+    comes_changed_keeps (PartMethod above at pos) v k l =
         after a (calm k l) refl (λ t. t) (part_changed_keeps a s (put_back above at (focus_of l)) above at pos v k l)
-    marked_keeps (GetterTried access name) v k l = quiet a tt refl (λ t. t)
-    marked_keeps (SetterTried access name value ignores) v k l = quiet a tt refl (λ t. t)
-    marked_keeps (IndexerTried otherwise) v k l = quiet a tt refl (λ t. t)
-    marked_keeps _ v k l = quiet a tt refl (λ t. t)
+    comes_changed_keeps (GetterTried access name) v k l = quiet a tt refl (λ t. t)
+    comes_changed_keeps (SetterTried access name value ignores) v k l = quiet a tt refl (λ t. t)
+    comes_changed_keeps (IndexerTried otherwise) v k l = quiet a tt refl (λ t. t)
+    comes_changed_keeps _ v k l = quiet a tt refl (λ t. t)
 
     module _ (grows : Grows a s.limits.max_variables) where
       -- an error comes down; only where there is room a `catch` gets its variable
       down_keeps : (frame : Frame H) (e : EvalAltResult H) (k : List (Frame H)) (l : Local H) →
           Keeps a (core (Fail e) (frame ∷ k) l) (down_core s frame e k l)
-      down_keeps (Top map_exit) e k l = after a (calm k l) refl (λ t. t) (ended_keeps a (topped map_exit e) k l)
+      down_keeps (Top map_exit) e k l = after a (calm k l) refl (λ t. t) (ended_keeps a (script_ended map_exit e) k l)
       down_keeps (WhileBody test body) e k l =
           after a (calm k l) refl (λ t. t) (caught_keeps (WhileTurn test body) e k l (quiet a tt refl (λ t. t)))
       down_keeps (DoBody test body options) e k l =
@@ -431,7 +437,7 @@ module _ {H : Type 0} (a : Asked) where
           after a (calm k l) refl (λ t. t) (tried_keeps a s grows (is_catchable e) (catch_variable (out-Expr variable)) e branch k l)
       down_keeps (PrintedPart text type part_at rest) e k l =
           after a (calm k l) refl (λ t. t) (unprinted_keeps (is_system e) e text type part_at rest k l)
-      down_keeps (RestOfList rest restoring) e k l = quiet a tt refl (held a k l)
+      down_keeps (RestOfList rest restoring) e k l = quiet a tt refl (calm_meets a k l)
       down_keeps (CallEnd exit) e k l = after a (calm (CallEnd exit ∷ k) l) refl (λ t. t)
           (through a (call_left a exit k l) (ended_keeps a (returned exit e) k (called_back exit l)))
       down_keeps (DefineValue ident index options restoring value_at) e k l =
@@ -454,7 +460,7 @@ module _ {H : Type 0} (a : Asked) where
 
       -- a `let` that is refused adds no name
       no_name : (k : List (Frame H)) (l : Local H) →
-          a.along (names_of l) × Free a k (names_of l) × Imports a k (length l.around.imports) → Held a (calm k l)
+          a.along (names_of l) × Free a k (names_of l) × Imports a k (length l.around.imports) → MeetsAsked a (calm k l)
       no_name k l t = (t.0, t.1 (names_of l) (begins_self (names_of l)) t.0, t.2)
 
       -- a `let` that overwrites none is tried only where there is room for one more variable
@@ -514,7 +520,8 @@ module _ {H : Type 0} (a : Asked) where
       stmt_keeps (layer.If test body branch pos) restoring k l = quiet a tt refl (λ t. t)
       stmt_keeps (layer.Switch value results cases ranges default pos) restoring k l = quiet a tt refl (λ t. t)
       stmt_keeps (layer.For variable counter items body pos) restoring k l = after a (calm k l) refl (λ t. t)
-          (for_keeps a s grows (has_no_room s.limits (loop_of variable counter items body) l) (loop_of variable counter items body) k l refl)
+          (for_keeps a s grows (has_no_room s.limits (loop_of variable counter items body) l) (loop_of variable counter
+          items body) k l refl)
       stmt_keeps (layer.TryCatch body variable branch pos) restoring k l = quiet a tt refl (λ t. t)
       stmt_keeps (layer.Export ident alias pos) restoring k l = after a (calm k l) refl (λ t. t)
           (export_keeps a (index_of ident.name l.scope) ident alias k l)
@@ -568,7 +575,7 @@ module _ {H : Type 0} (a : Asked) where
       move_keeps (Walk chain) k l h = walk_keeps a s (link_of chain.rest) chain k l
       move_keeps (Locate link chain) k l h = locate_keeps a s link chain k l
       move_keeps (Changed v) [] l h = quiet a tt refl (λ t. t)
-      move_keeps (Changed v) (frame ∷ k) l h = marked_keeps frame v k l
+      move_keeps (Changed v) (frame ∷ k) l h = comes_changed_keeps frame v k l
       move_keeps (Back v) [] l h = tt
       move_keeps (Back v) (frame ∷ k) l h = up_keeps frame v k l
       move_keeps (Fail e) [] l h = tt

@@ -46,7 +46,8 @@ module _ {T : Type 0} where
   shifted : (x : T) (xs : List T) (n m : ℕ) →
       option_and_then (λ at. slice_get (x ∷ xs) at) (cond (nat_lt (suc n) (suc m)) (Some (suc n)) None)
       ≡ option_and_then (λ at. slice_get xs at) (cond (nat_lt n m) (Some n) None)
-  shifted x xs n m = elim (cases_lt n m) as (λ _. option_and_then (λ at. slice_get (x ∷ xs) at) (cond (nat_lt (suc n) (suc m)) (Some (suc n)) None)
+  shifted x xs n m = elim (cases_lt n m) as (λ _. option_and_then (λ at. slice_get (x ∷ xs) at) (cond (nat_lt (suc n) (suc m))
+      (Some (suc n)) None)
       ≡ option_and_then (λ at. slice_get xs at) (cond (nat_lt n m) (Some n) None)) [
         | inl lt ↦ rw (lt-ltb n m lt, lt-ltb (suc n) (suc m) (omega arith)) refl
         | inr le ↦ rw (le-ltb n m le, le-ltb (suc n) (suc m) (omega arith)) refl

@@ -1,5 +1,5 @@
 pub mod MemoryLaws
-pub mod WantLaws
+pub mod ScriptMemory
 pub mod Keeping
 pub mod KeptAssignments
 pub mod KeptCalls

@@ -8,13 +8,13 @@ use Rattle.rhai_state.specs.Native.{Request, Reply, Faults}
 use Rattle.rhai_machine.specs.machine.Machine.{Move, Halt, Go, Charge, Native, AskPure, Machine, below}
 use Rattle.rhai_machine.specs.machine.Unwinding.{Passes}
 use Rattle.rhai_machine.specs.machine.Point.{Point, Reaches, here as stop, next as step, paid, moved, after}
-use Rattle.rhai_machine.specs.machine.Memory.{Leads, here, next, wanting, starved, out_of_memory, starved_at}
-use Rattle.rhai_machine.specs.machine.Memory.{before_step, in_native, RunsOut, Wants}
+use Rattle.rhai_machine.specs.machine.Memory.{Leads, here, next, out_before_step, out_in_native, out_of_memory, out_of_memory_in_native}
+use Rattle.rhai_machine.specs.machine.Memory.{before_step, in_native, RunsOut, MemoryUnwinds}
 use Rattle.rhai_laws.specs.Steady.{Moves, Steady}
 use Rattle.rhai_laws.specs.Memory.{IsStraight, IsUpTo, IsLeft, LeavesAll, Counts, CountsWithin, IsKept}
 
 module _ {S H Core : Type 0} (M : Machine S H Core) (allows : ℕ → Bool) where
-  module _ (W : Core → Type 0) (w : Wants M W) where
+  module _ (W : Core → Type 0) (w : MemoryUnwinds M W) where
     passed : (v : Move H Core) (p : Point S Core) → W p.core → Passes W v → W (moved M allows v p).core
     passed Halt p h s = h
     passed (Go d) p h s = s
@@ -22,20 +22,20 @@ module _ {S H Core : Type 0} (M : Machine S H Core) (allows : ℕ → Bool) wher
     passed (Native q f) p h s = absurd s
     passed (AskPure q f) p h s = absurd s
 
-    -- what wants memory goes on wanting it
-    pub wants_on : {p q : Point S Core} → Leads M allows p q → W p.core → W q.core
+    -- where memory has run out it stays so
+    pub stays_out : {p q : Point S Core} → Leads M allows p q → W p.core → W q.core
     unfolding after
-    wants_on here h = h
-    wants_on (next {p = p} r) h = wants_on r (passed (M.move p.core) p h (w.stays p.core h))
-    wants_on (wanting {p = p} {at = at} r) h = wants_on r (w.begins at p.core)
-    wants_on (starved {f = f} {at = at} is e first state may r) h = wants_on r (w.begins at (f (Faults e) first))
+    stays_out here h = h
+    stays_out (next {p = p} r) h = stays_out r (passed (M.move p.core) p h (w.stays p.core h))
+    stays_out (out_before_step {p = p} {at = at} r) h = stays_out r (w.begins at p.core)
+    stays_out (out_in_native {f = f} {at = at} is e first state may r) h = stays_out r (w.begins at (f (Faults e) first))
 
-    -- steps that do not end in want of memory are the machine's own
+    -- steps that do not end out of memory are the machine's own
     pub straight : {p q : Point S Core} → Leads M allows p q → (W q.core → ⊥) → Reaches M allows p q
     straight here has = stop
     straight (next r) has = step (straight r has)
-    straight (wanting {p = p} {at = at} r) has = absurd (has (wants_on r (w.begins at p.core)))
-    straight (starved {f = f} {at = at} is e first state may r) has = absurd (has (wants_on r (w.begins at (f (Faults e) first))))
+    straight (out_before_step {p = p} {at = at} r) has = absurd (has (stays_out r (w.begins at p.core)))
+    straight (out_in_native {f = f} {at = at} is e first state may r) has = absurd (has (stays_out r (w.begins at (f (Faults e) first))))
 
     later : {p q : Point S Core} → Reaches M allows (after M allows p) q ⊎ RunsOut M allows W (after M allows p) q →
         Reaches M allows p q ⊎ RunsOut M allows W p q
@@ -46,7 +46,7 @@ module _ {S H Core : Type 0} (M : Machine S H Core) (allows : ℕ → Bool) wher
           since = o.since;
           steps = step o.steps;
           runs_out = o.runs_out;
-          wants = o.wants;
+          is_out = o.is_out;
           unwinds = o.unwinds;
         })
 
@@ -54,22 +54,22 @@ module _ {S H Core : Type 0} (M : Machine S H Core) (allows : ℕ → Bool) wher
     pub up_to : {p q : Point S Core} → Leads M allows p q → Reaches M allows p q ⊎ RunsOut M allows W p q
     up_to here = inl stop
     up_to (next r) = later (up_to r)
-    up_to (wanting {p = p} {at = at} r) =
+    up_to (out_before_step {p = p} {at = at} r) =
         inr (record {
           before = p;
           since = out_of_memory M at p;
           steps = stop;
           runs_out = before_step at;
-          wants = w.begins at p.core;
+          is_out = w.begins at p.core;
           unwinds = r;
         })
-    up_to (starved {p = p} {f = f} {at = at} is e first state may r) =
+    up_to (out_in_native {p = p} {f = f} {at = at} is e first state may r) =
         inr (record {
           before = p;
-          since = starved_at M at f e first state p;
+          since = out_of_memory_in_native M at f e first state p;
           steps = stop;
           runs_out = in_native is at e first state may;
-          wants = w.begins at (f (Faults e) first);
+          is_out = w.begins at (f (Faults e) first);
           unwinds = r;
         })
 
@@ -86,15 +86,15 @@ module _ {S H Core : Type 0} (M : Machine S H Core) (allows : ℕ → Bool) wher
     left_through : {p m q : Point S Core} → IsLeft p m → IsLeft m q → IsLeft p q
     left_through a b = record { count = b.count ∙ a.count; table = b.table ∙ a.table }
 
-    -- want of memory charges nothing and calls nothing on its way down
+    -- the out-of-memory error charges nothing and calls nothing on its way down
     pub left : {p q : Point S Core} → Leads M allows p q → W p.core → IsLeft p q
     unfolding after
     left here h = record { count = refl; table = refl }
     left (next {p = p} r) h = left_through (left_moved (M.move p.core) p (w.stays p.core h))
         (left r (passed (M.move p.core) p h (w.stays p.core h)))
-    left (wanting {p = p} {at = at} r) h =
+    left (out_before_step {p = p} {at = at} r) h =
         let on = left r (w.begins at p.core) in record { count = on.count; table = on.table }
-    left (starved {p = p} {call = call} {f = f} is e first state may r) h =
+    left (out_in_native {p = p} {call = call} {f = f} is e first state may r) h =
         absurd (no_native (M.move p.core) call f is (w.stays p.core h))
 
   charge_counts : (b : Bool) (at : Position) (d : Core) (p : Point S Core) → p.count ≤ (paid M b at d p).count
@@ -113,8 +113,8 @@ module _ {S H Core : Type 0} (M : Machine S H Core) (allows : ℕ → Bool) wher
   unfolding after
   counts here = omega arith
   counts (next {p = p} r) = omega (arith, move_counts (M.move p.core) p, counts r)
-  counts (wanting r) = counts r
-  counts (starved is e first state may r) = counts r
+  counts (out_before_step r) = counts r
+  counts (out_in_native is e first state may r) = counts r
 
 module _ {S H Core : Type 0} (M : Machine S H Core) (limit : ℕ) where
   charge_within : (b : Bool) (at : Position) (d : Core) (p : Point S Core) → nat_lt p.count limit ≡ b → p.count ≤ limit →
@@ -134,8 +134,8 @@ module _ {S H Core : Type 0} (M : Machine S H Core) (limit : ℕ) where
   unfolding after
   within here le = le
   within (next {p = p} r) le = within r (move_within (M.move p.core) p le)
-  within (wanting r) le = within r le
-  within (starved is e first state may r) le = within r le
+  within (out_before_step r) le = within r le
+  within (out_in_native is e first state may r) le = within r le
 
 module _ {S H Core : Type 0} (M : Machine S H Core) (allows : ℕ → Bool) (R : Core → Core → Type 0) (kept : Steady M R) where
   kept_charge : (b : Bool) (at : Position) (d : Core) (p : Point S Core) → R p.core d → R p.core (paid M b at d p).core
@@ -154,15 +154,15 @@ module _ {S H Core : Type 0} (M : Machine S H Core) (allows : ℕ → Bool) (R :
       v ≡ Native q f → Moves R c v → R c (f reply first)
   kept_reply v c q f reply first is h = (rw is at h) reply first
 
-  -- such a relation is kept by all steps, want of memory included
+  -- such a relation is kept by all steps, also where memory runs out
   pub keeps : {p q : Point S Core} → Leads M allows p q → R p.core q.core
   unfolding after
   keeps (here {p = p}) = kept.same p.core
   keeps (next {p = p} r) = kept.through (kept_move (M.move p.core) p (kept.moves p.core)) (keeps r)
-  keeps (wanting {p = p} {at = at} r) = kept.through (kept.wants at p.core) (keeps r)
-  keeps (starved {p = p} {call = call} {f = f} {at = at} is e first state may r) =
+  keeps (out_before_step {p = p} {at = at} r) = kept.through (kept.is_out at p.core) (keeps r)
+  keeps (out_in_native {p = p} {call = call} {f = f} {at = at} is e first state may r) =
       kept.through (kept_reply (M.move p.core) p.core call f (Faults e) first is (kept.moves p.core))
-      (kept.through (kept.wants at (f (Faults e) first)) (keeps r))
+      (kept.through (kept.is_out at (f (Faults e) first)) (keeps r))
 
 module _ {S H Core : Type 0} (M : Machine S H Core) where
   pub straight_law : (W : Core → Type 0) → IsStraight M W
@@ -172,7 +172,7 @@ module _ {S H Core : Type 0} (M : Machine S H Core) where
   up_to_law W w allows p q steps = up_to M allows W w steps
 
   pub leaves_law : (W : Core → Type 0) → LeavesAll M W
-  leaves_law W w allows p q o = left M allows W w o.unwinds o.wants
+  leaves_law W w allows p q o = left M allows W w o.unwinds o.is_out
 
   pub counts_law : Counts M
   counts_law allows p q steps = counts M allows steps

@@ -18,7 +18,8 @@ use Rattle.rhai_machine.specs.language.Values.{through, unit_value}
 use Rattle.rhai_machine.specs.language.Variables.{Variable, variable_named}
 use Rattle.rhai_machine.specs.language.Names.{bound_this, entry_named}
 use Rattle.rhai_machine.specs.language.Places.{rebound}
-use Rattle.rhai_machine.specs.language.Frames.{FromThis, NewValue, Chain, Frame, Core, core, on_value, ChainRoot, ReadRoot, Walk, Back, Changed}
+use Rattle.rhai_machine.specs.language.Frames.{FromThis, NewValue, Chain, Frame, Core, core, on_value, ChainRoot, ReadRoot, Walk, Back}
+use Rattle.rhai_machine.specs.language.Frames.{Changed}
 use Rattle.rhai_machine.specs.language.Frames.{ChainEnd, Fail}
 use Rattle.rhai_machine.specs.language.Members.{focused_on}
 use Rattle.rhai_machine.specs.language.Chains.{root_move, this_begun, this_root_core}
@@ -169,7 +170,8 @@ module _ {S H : Type 0} (rules : Rules S H) (allows : ℕ → Bool) where
             (passes pos (this_root_core pos chain [] mid.local) (ap (λ f. root_move f chain [] mid.local) is) steps))
             (walk_ends rules allows chain.root new given.plain given.leads true ends mid (mid.count + 1))
 
-      from_root : (root : ExprLayer) → out-Expr chain.root ≡ root → AssignsFrom root chain new path mid → ToValue (at (ChainRoot chain) [] mid) →
+      from_root : (root : ExprLayer) → out-Expr chain.root ≡ root → AssignsFrom root chain new path mid →
+          ToValue (at (ChainRoot chain) [] mid) →
           AssignedFrom root path w mid end
       from_root (form.Variable offset name namespace pos) is given steps =
           from_variable offset name namespace pos namespace.path refl is given steps

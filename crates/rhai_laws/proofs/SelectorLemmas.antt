@@ -18,14 +18,15 @@ use Rattle.rhai_places.specs.declared.spot.Refusal.{Refusal}
 use Rattle.rhai_places.specs.declared.spot.Refusal.TheVariants as refusal
 use Rattle.rhai_places.specs.declared.spot.Spot.{Spot}
 use Rattle.rhai_places.specs.declared.spot.Spot.TheVariants as spot
-use Rattle.rhai_places.specs.Found.{found, found_by, settled, through_layer, with_key, without_key}
+use Rattle.rhai_places.specs.Found.{found, found_by, spot_or_error, through_layer, with_key, without_key}
 use Rattle.rhai_places.specs.Indexing.{bounds, index_in, key_spot, located}
 use Rattle.rhai_places.specs.Parts.{value_at, value_in, with_value, with_value_in}
 use Rattle.rhai_machine.specs.language.Located.{is_map, is_place_spot, is_unit}
 use Rattle.rhai_machine.specs.language.Values.{Cells, is_handle, unit_value}
 use Rattle.rhai_laws.specs.Assigned.{meant, IsUnshared}
 use Rattle.rhai_laws.specs.Selectors.{Selector, ToItem, ToKey, Part, read, selected, selected_in}
-use Rattle.rhai_laws.proofs.KeyLemmas.{absent, added_there, added_written, key_written, other_key_stays, others_stay, set_elsewhere, set_there}
+use Rattle.rhai_laws.proofs.KeyLemmas.{absent, added_there, added_written, key_written, other_key_stays, others_stay, set_elsewhere}
+use Rattle.rhai_laws.proofs.KeyLemmas.{set_there}
 
 module _ {H : Type 0} where
   -- ---- what an index means something in
@@ -146,16 +147,16 @@ module _ {H : Type 0} where
   -- ---- what is found there
 
   module _ (how : Access) (host : H → List ℕ) (cells : Cells H) where
-    settles : (v index : Dynamic H) (at : Spot) → is_place_spot at ≡ true → settled how host cells v index (Ok at) ≡ Ok (v, at)
+    settles : (v index : Dynamic H) (at : Spot) → is_place_spot at ≡ true → spot_or_error how host cells v index (Ok at) ≡ Ok (v, at)
     settles v index (spot.Item i) is = refl
     settles v index (spot.Value i) is = refl
     settles v index at is = cc
 
     found_so : (v index : Dynamic H) (s : Selector) (r : Result Spot Refusal) → meant (layer_of v) (layer_of index) ≡ Some s →
-        located (layer_of v) (layer_of index) ≡ r → found how host cells v index ≡ settled how host cells v index r
+        located (layer_of v) (layer_of index) ≡ r → found how host cells v index ≡ spot_or_error how host cells v index r
     found_so v index s r means leads =
         ap (λ o. found_by how host cells v o) (seen_itself cells index (layer_of v) (layer_of index) s means)
-        ∙ ap (λ r. settled how host cells v index r) leads
+        ∙ ap (λ r. spot_or_error how host cells v index r) leads
 
   -- a step that leads somewhere leads to this spot
   pub record Leads (v u : Dynamic H) (index : UnionLayer H) (s : Selector) : Type 0 where

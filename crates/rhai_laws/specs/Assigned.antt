@@ -30,7 +30,7 @@ IsIndexing (AtMethod name args at) = ⊥
 IsIndexing _ = ⊤
 
 module _ {H : Type 0} where
-  -- the step that an index means: an integer one to an item of an array, from its end where it is negative, and a text one to a key of a map
+  -- the step that an index means: an integer to an item of an array, from its end where it is negative, and a text to a key of a map
   abbrev pub meant : (source index : UnionLayer H) → Option Selector
   meant (layer.Array items) (layer.Int i) = option_map (λ at. ToItem at) (index_in (length items) i)
   meant (layer.Map entries) (layer.Str key) = Some (ToKey key)

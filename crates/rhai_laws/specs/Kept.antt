@@ -1,4 +1,4 @@
--- What every run of the language keeps, whatever its end, want of memory included.
+-- What every run of the language keeps, whatever its end, also where memory runs out.
 use Rattle.std.specs.Prelude.{◌≡◌, ◌≤◌, ⊤, ℕ, Bool, true, false, not, ◌&&◌, List, ◌++◌, length, map, replicate, Option, Some, None, is_some}
 use Rattle.rhai_tree.specs.Names.{Name}
 use Rattle.rhai_tree.specs.declared.expr.Expr.TheOpen as layer

@@ -22,6 +22,7 @@ module _ {H : Type 0} where
   selected_in (layer.Map entries) (ToKey name) = value_of name entries
   selected_in _ _ = None
 
+  -- what a step leads to from a value: an item of an array, or the value of a key of a map
   abbrev pub selected : Dynamic H → Selector → Option (Dynamic H)
   selected v s = selected_in (layer_of v) s
 

@@ -5,8 +5,8 @@ use Rattle.rhai_values.specs.declared.base.value.Dynamic.{Dynamic}
 use Rattle.rhai_state.specs.Native.{Reply}
 use Rattle.rhai_machine.specs.machine.Machine.{Move, Halt, Go, Charge, Native, AskPure, Machine}
 
--- a relation holds between a core and each to which a move may lead
 module _ {H Core : Type 0} (R : Core → Core → Type 0) where
+  -- a relation holds between a core and each to which a move may lead
   abbrev pub Moves : Core → Move H Core → Type 0
   Moves c Halt = ⊤
   Moves c (Go d) = R c d
@@ -15,10 +15,10 @@ module _ {H Core : Type 0} (R : Core → Core → Type 0) where
   Moves c (AskPure q f) = (pure : Bool) → R c (f pure)
 
 module _ {S H Core : Type 0} (M : Machine S H Core) (R : Core → Core → Type 0) where
-  -- a relation that each move, refusal and want of memory keeps
+  -- a relation that each move, each refusal and each step that finds no memory keeps
   pub record Steady : Type 0 where
     pub same : (c : Core) → R c c
     pub through : {a b c : Core} → R a b → R b c → R a c
     pub moves : (c : Core) → Moves R c (M.move c)
     pub refuses : (at : Position) (c : Core) → R c (M.refuse at c)
-    pub wants : (at : Position) (c : Core) → R c (M.want at c)
+    pub is_out : (at : Position) (c : Core) → R c (M.without_memory at c)

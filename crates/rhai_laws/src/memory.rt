@@ -7,15 +7,15 @@ ghost use Rattle.rhai_laws.specs.Memory.{IsStraight, IsUpTo, LeavesAll, Counts, 
 use std::marker::PhantomData;
 
 /// A language over a table of natives, as a machine that may run out of memory.
-pub trait Starving<H> {
+pub trait MayRunOut<H> {
     /// The states of the table.
     ghost State: { Type 0 };
 
     /// All that the language works on.
     ghost Core: { Type 0 };
 
-    /// The cores in which the error of want of memory is on its way down.
-    ghost Wanting: { Core → Type 0 };
+    /// The cores in which the out-of-memory error is on its way down.
+    ghost HasRunOut: { Core → Type 0 };
 
     /// What may hold between two cores.
     ghost Relation: { Core → Core → Type 0 };
@@ -23,32 +23,34 @@ pub trait Starving<H> {
     ghost machine: { Machine State H Core };
 }
 
-/// Steps that do not end in want of memory are the machine's own.
-pub fn steps_are_straight<H, L: Starving<H>>(of: PhantomData<(H, L)>)
-    ensures { IsStraight L.machine L.Wanting }
+/// Shows that steps that do not end out of memory are the machine's own.
+pub fn steps_are_straight<H, L: MayRunOut<H>>(of: PhantomData<(H, L)>)
+    ensures { IsStraight L.machine L.HasRunOut }
 {}
 
-/// The machine takes the steps by itself, or up to where memory runs out.
-pub fn steps_up_to_memory<H, L: Starving<H>>(of: PhantomData<(H, L)>)
-    ensures { IsUpTo L.machine L.Wanting }
+/// Shows that the machine takes the steps by itself, or up to where memory runs out.
+pub fn steps_up_to_memory<H, L: MayRunOut<H>>(of: PhantomData<(H, L)>)
+    ensures { IsUpTo L.machine L.HasRunOut }
 {}
 
-/// Where memory ran out, count and table's state stay from there as they are at that point.
-pub fn want_of_memory_leaves_all<H, L: Starving<H>>(of: PhantomData<(H, L)>)
-    ensures { LeavesAll L.machine L.Wanting }
+/// Shows that the count and the table's state stay once memory has run out. They are what they were at the
+/// point where it did.
+pub fn out_of_memory_leaves_all<H, L: MayRunOut<H>>(of: PhantomData<(H, L)>)
+    ensures { LeavesAll L.machine L.HasRunOut }
 {}
 
-/// The count never falls.
-pub fn steps_count<H, L: Starving<H>>(of: PhantomData<(H, L)>)
+/// Shows that the count never falls.
+pub fn steps_count<H, L: MayRunOut<H>>(of: PhantomData<(H, L)>)
     ensures { Counts L.machine }
 {}
 
-/// A count within the limit stays within it.
-pub fn steps_stay_within<H, L: Starving<H>>(of: PhantomData<(H, L)>)
+/// Shows that a count within the limit stays within it.
+pub fn steps_stay_within<H, L: MayRunOut<H>>(of: PhantomData<(H, L)>)
     ensures { CountsWithin L.machine }
 {}
 
-/// What each move, each refusal and each want of memory keeps is kept, whatever the end.
-pub fn steps_keep<H, L: Starving<H>>(of: PhantomData<(H, L)>)
+/// Shows that what each move, each refusal and each step that finds no memory keeps is kept, whatever the
+/// end.
+pub fn steps_keep<H, L: MayRunOut<H>>(of: PhantomData<(H, L)>)
     ensures { IsKept L.machine L.Relation }
 {}

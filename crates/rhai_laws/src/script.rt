@@ -10,59 +10,60 @@ use rhai_state::table::NativeTable;
 use rhai_values::base::value::Host;
 use std::marker::PhantomData;
 
-/// Where memory was not wanting at the end of a run, the machine takes its steps by itself.
+/// Shows that the machine takes by itself the steps of a run that does not end out of memory.
 pub fn script_goes_with_memory<H: Host, T: NativeTable<H>>(of: PhantomData<(H, T)>)
     ensures { (setting : Setting H) → GoesWithMemory (over setting T.natives) }
 {}
 
-/// Else the machine does so up to where memory runs out, and from there the run only unwinds.
+/// Shows that the machine takes the steps of any run by itself, or up to where memory runs out. From there
+/// the run only unwinds.
 pub fn script_goes_up_to_memory<H: Host, T: NativeTable<H>>(of: PhantomData<(H, T)>)
     ensures { (setting : Setting H) → GoesUpToMemory (over setting T.natives) }
 {}
 
-/// Where memory ran out the count and the table's state stay: those of the point to which the machine
-/// came by itself, or what the native left there that found no memory.
+/// Shows that the count and the table's state stay once memory has run out. They are those of the point to
+/// which the machine came by itself, or what the native left there that found no memory.
 pub fn script_stays_out_of_memory<H: Host, T: NativeTable<H>>(of: PhantomData<(H, T)>)
     ensures { (setting : Setting H) → OutOfMemoryStays (over setting T.natives) }
 {}
 
-/// A run adds charges up to the limit, cells that are free, imports and loaded modules. Whatever else is
-/// around stays but for the values of cells and for constants, and `this` stays bound or unbound.
+/// Shows that a run adds charges up to the limit, cells that are free, imports and loaded modules. Whatever
+/// else is around stays but for the values of cells and for constants, and `this` stays bound or unbound.
 pub fn script_grows<H: Host, T: NativeTable<H>>(of: PhantomData<(H, T)>)
     ensures { (setting : Setting H) → StepsGrow (over setting T.natives) }
 {}
 
-/// The imports stay too, but for those of a statement and of a list that does not restore.
+/// Shows that the imports stay too, but for those of a statement and of a list that does not restore.
 pub fn script_keeps<H: Host, T: NativeTable<H>>(of: PhantomData<(H, T)>)
     ensures { (setting : Setting H) → StepsKeep (over setting T.natives) }
 {}
 
-/// An expression, and a list of statements that restores, leave the names of the variables as they
+/// Shows that an expression, and a list of statements that restores, leave the names of the variables as they
 /// were.
 pub fn script_names_stay<H: Host, T: NativeTable<H>>(of: PhantomData<(H, T)>)
     ensures { (setting : Setting H) → NamesStay (over setting T.natives) }
 {}
 
-/// A statement, and a list that does not restore, only add variables.
+/// Shows that a statement, and a list that does not restore, only add variables.
 pub fn script_names_begin<H: Host, T: NativeTable<H>>(of: PhantomData<(H, T)>)
     ensures { (setting : Setting H) → NamesBegin (over setting T.natives) }
 {}
 
-/// There are never more variables than the limit allows.
+/// Shows that there are never more variables than the limit allows, if there are not at the start.
 pub fn script_variables_stay<H: Host, T: NativeTable<H>>(of: PhantomData<(H, T)>)
     ensures { (setting : Setting H) → VariablesStay (over setting T.natives) }
 {}
 
-/// An assignment without an operator through indexes and properties of arrays and maps, from a
-/// variable without a path on, that comes to a value has written there: what was assigned is read where
-/// the indexes and properties lead, read-write, and every other place reads as it did when the variable
-/// was read.
+/// Shows that an assignment without an operator through indexes and properties has written where they lead.
+/// It starts at a variable without a path, goes down through arrays and maps, and comes to a value. What was
+/// assigned is read there, read-write, and all that is off this way reads as it did when the variable was
+/// read.
 pub fn chain_assigns_at_path<H: Host, T: NativeTable<H>>(of: PhantomData<(H, T)>)
     ensures { (setting : Setting H) → AssignsAtPath (over setting T.natives) }
 {}
 
-/// The same from the root of the chain on, which is such a variable or `this`, where the values that its
-/// links ask for are all there.
+/// Shows what `chain_assigns_at_path` shows, from the root of the chain on. The root is such a variable or
+/// `this`, and the values that the links ask for are all there.
 pub fn chain_assigns_from_root<H: Host, T: NativeTable<H>>(of: PhantomData<(H, T)>)
     ensures { (setting : Setting H) → AssignsFromRoot (over setting T.natives) }
 {}

@@ -27,7 +27,7 @@ use Rattle.rhai_machine.specs.language.Frames.{Purpose, ToCall, ToCallOn, ToCall
 use Rattle.rhai_machine.specs.language.Frames.{Attempt, InPlace, AsValue, Assignment, Update, Frame, core}
 use Rattle.rhai_machine.specs.language.Calls.{First, first_of, put_left, call_native, fire_first, fire_move, barred_call, question_first}
 use Rattle.rhai_machine.specs.language.Calls.{question_move, call_of, plainly, races, answered, behind_path, dispatch_core, focus_core}
-use Rattle.rhai_machine.specs.language.Calls.{operator_core, replied, applied, sized, placed_if_none}
+use Rattle.rhai_machine.specs.language.Calls.{operator_core, replied, applied, sized, with_position}
 use Rattle.rhai_machine.specs.language.Arguments.{call_on, lent_this, this_in, is_captured, linked_to, arguments_there}
 use Rattle.rhai_machine.specs.language.Arguments.{arguments_core, on_variable, on_this, captured_move, named_move, operation_named}
 use Rattle.rhai_machine.specs.language.Arguments.{pointer_of, pointer_wanted, text_wanted, unlinked_core, pointer_core, keyword_core}
@@ -35,7 +35,7 @@ use Rattle.rhai_machine.specs.language.Arguments.{keyword_of, function_core, ope
 use Rattle.rhai_machine.specs.language.Expressions.{call_move}
 use Rattle.rhai_machine.specs.language.Methods.{Method, method_core}
 use Rattle.rhai_machine.specs.language.Assignment.{to_this, assignment_move, written_core, done, if_fast, says_missing, operation_of}
-use Rattle.rhai_machine.specs.language.Assignment.{native_of, left_in, update_core, assign_core, store_core, changed_core, fault_core}
+use Rattle.rhai_machine.specs.language.Assignment.{native_of, target_left, update_core, assign_core, store_core, changed_core, fault_core}
 use Rattle.rhai_machine.specs.language.Assignment.{value_core, answered_core, lent_core, barred_core, fire_update}
 use Rattle.rhai_machine.proofs.MethodLaws.{Dispatched, dispatch_ends, linked_ends, focus_ends, method_ends}
 use Rattle.rhai_limits.proofs.Keeping.{Asked, Calm, Good, Moves, put_keeps, on_keeps, ended_keeps, changed_keeps, if_keeps}
@@ -289,7 +289,7 @@ module _ {H : Type 0} (a : Asked) where
         update_keeps (op_assign_of u.operator u.target u.operand) (record u { attempt = AsValue }) k l h
     answered_keeps InPlace (Gives v) u k l h = change_keeps (sized s.limits v u.at) u k l h
     answered_keeps InPlace (Faults e) u k l h =
-        fault_keeps (says_missing (native_of InPlace u.operator) e) (placed_if_none u.at e) u k l h
+        fault_keeps (says_missing (native_of InPlace u.operator) e) (with_position u.at e) u k l h
     answered_keeps AsValue reply u k l h =
         value_keeps (replied s.limits s.host_type reply (Some u.target) (u.operand ∷ []) (operation_of u) false l.around.cells) u k l h
 
@@ -306,4 +306,4 @@ module _ {H : Type 0} (a : Asked) where
     pub fire_update_keeps : (there : Union H) (u : Update H) (k : List (Frame H)) (l : Local H) → Calm a k l →
         Moves a (fire_update s there u k l)
     fire_update_keeps (value.Cell id) u k l h = h
-    fire_update_keeps _ u k l h = λ reply left. lent_keeps reply (left_in u left) u k l h
+    fire_update_keeps _ u k l h = λ reply left. lent_keeps reply (target_left u left) u k l h

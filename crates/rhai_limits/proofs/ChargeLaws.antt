@@ -14,7 +14,7 @@ use Rattle.rhai_state.specs.declared.error.EvalAltResult.{EvalAltResult}
 use Rattle.rhai_state.specs.declared.error.EvalAltResult.TheVariants as error
 use Rattle.rhai_machine.specs.machine.Machine.{Charge}
 use Rattle.rhai_machine.specs.machine.Point.{Point, paid, moved, after}
-use Rattle.rhai_machine.specs.machine.Memory.{Leads, here, next, wanting, starved}
+use Rattle.rhai_machine.specs.machine.Memory.{Leads, here, next, out_before_step, out_in_native}
 use Rattle.rhai_machine.specs.language.Setting.{Rules}
 use Rattle.rhai_machine.specs.language.State.{State, deeper}
 use Rattle.rhai_machine.specs.language.Bodies.{opened_function}
@@ -55,7 +55,7 @@ module _ {S H : Type 0} (rules : Rules S H) (allows : ℕ → Bool) (k : List (F
 
   never_stopped : IsStopped q.core → ⊥
   never_stopped (inl refused) = never_failed (error.ErrorTooManyOperations refused.0) refused.1
-  never_stopped (inr wants) = never_failed (error.ErrorOutOfMemory wants.0) wants.1
+  never_stopped (inr is_out) = never_failed (error.ErrorOutOfMemory is_out.0) is_out.1
 
   by_charge : (b : Bool) (position : Position) (d : Core H) (p : Point S (Core H)) →
       Reached (paid (machine rules) b position d p) → p.count < q.count
@@ -70,9 +70,9 @@ module _ {S H : Type 0} (rules : Rules S H) (allows : ℕ → Bool) (k : List (F
   onward : (n : ℕ) (r : Point S (Core H)) → IsApart r.core → Grows n (after (machine rules) allows r) → Grows n r
   onward n r apart rest here stays = absurd (apart ends level)
   onward n r apart rest (next run) stays = rest run stays.1
-  onward n r apart rest (wanting {at = position} run) stays =
+  onward n r apart rest (out_before_step {at = position} run) stays =
       absurd (never_stopped (stays_stopped rules allows run (inr (position, refl))))
-  onward n r apart rest (starved {at = position} is e first state left run) stays =
+  onward n r apart rest (out_in_native {at = position} is e first state left run) stays =
       absurd (never_stopped (stays_stopped rules allows run (inr (position, refl))))
 
   -- and where that is a charge the count grows

@@ -1,4 +1,4 @@
--- What each rule keeps: how many variables each scope in hand holds, also once the frames above it are left, and at what levels functions
+-- What each rule keeps: how many variables each scope in hand has, also once the frames above it are left, and at what levels functions
 -- run.
 use Rattle.std.proofs.Common.{refl, sym, ap, ◌∙◌, arith}
 use Rattle.std.proofs.lemmas.List.{length-append, length-drop, length-map, length-take}
@@ -18,7 +18,7 @@ use Rattle.rhai_machine.specs.language.Frames.{Control, Frame, Core, core, on_va
 use Rattle.rhai_machine.specs.language.Frames.{OpenStmt, Enter, Run, DefineValue, RestOfList, RestoreList, RestoreScope, ForItems, CallEnd}
 use Rattle.rhai_machine.proofs.Places.{put_names}
 
--- what is asked of how many variables a scope holds, and of a level: of those at the bottom, and of all others
+-- what is asked of how many variables a scope has, and of a level: of those at the bottom, and of all others
 pub record Asked : Type 1 where
   pub scope : (is_bottom : Bool) → ℕ → Type 0
   pub level : (is_bottom : Bool) → ℕ → Type 0

@@ -10,7 +10,7 @@ use Rattle.rhai_state.specs.declared.error.EvalAltResult.{EvalAltResult}
 use Rattle.rhai_state.specs.declared.error.EvalAltResult.TheVariants as error
 use Rattle.rhai_state.specs.Errors.{is_catchable, is_system}
 use Rattle.rhai_machine.specs.machine.Point.{Point, after}
-use Rattle.rhai_machine.specs.machine.Memory.{Leads, here, next, wanting, starved}
+use Rattle.rhai_machine.specs.machine.Memory.{Leads, here, next, out_before_step, out_in_native}
 use Rattle.rhai_machine.specs.language.Setting.{Setting, Rules}
 use Rattle.rhai_machine.specs.language.State.{Local, State}
 use Rattle.rhai_machine.specs.language.Data.{parts_core, unprinted_core, with_part}
@@ -134,8 +134,8 @@ module _ {S H : Type 0} (rules : Rules S H) (allows : ℕ → Bool) where
       StaysBeneath rules allows k run → IsBeneath k p.core.stack
   begins_beneath k here beneath = beneath
   begins_beneath k (next run) beneath = beneath.0
-  begins_beneath k (wanting run) beneath = beneath.0
-  begins_beneath k (starved is e first state left run) beneath = beneath.0
+  begins_beneath k (out_before_step run) beneath = beneath.0
+  begins_beneath k (out_in_native is e first state left run) beneath = beneath.0
 
   -- where frames stay beneath, an error that has come down to them is not dealt with
   pub stays_failed : {q : Point S (Core H)} (e : EvalAltResult H) (k : List (Frame H)) (s : State S H)
@@ -145,6 +145,6 @@ module _ {S H : Type 0} (rules : Rules S H) (allows : ℕ → Bool) where
   stays_failed e [] s (next run) beneath = stays_failed e [] s run beneath.1
   stays_failed e (frame ∷ k) s (next run) beneath =
       absurd (down_gone rules.setting frame e k s.local (begins_beneath (frame ∷ k) run beneath.1))
-  stays_failed e k s (wanting {at = position} run) beneath = stays_failed (error.ErrorOutOfMemory position) k s run beneath.1
-  stays_failed e [] s (starved is problem first state left run) beneath = cc
-  stays_failed e (frame ∷ k) s (starved is problem first state left run) beneath = cc
+  stays_failed e k s (out_before_step {at = position} run) beneath = stays_failed (error.ErrorOutOfMemory position) k s run beneath.1
+  stays_failed e [] s (out_in_native is problem first state left run) beneath = cc
+  stays_failed e (frame ∷ k) s (out_in_native is problem first state left run) beneath = cc

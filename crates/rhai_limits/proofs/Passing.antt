@@ -9,7 +9,8 @@ use Rattle.rhai_machine.specs.machine.Machine.{Move, Halt, Go, Charge, Native, A
 use Rattle.rhai_machine.specs.machine.Unwinding.{Passes, Unwound}
 use Rattle.rhai_machine.specs.language.Setting.{Rules}
 use Rattle.rhai_machine.specs.language.State.{Local}
-use Rattle.rhai_machine.specs.language.Frames.{Control, Frame, Core, NewValue, Member, Property, Item, MemberAccess, MemberGot, Fail, CallEnd, Top}
+use Rattle.rhai_machine.specs.language.Frames.{Control, Frame, Core, NewValue, Member, Property, Item, MemberAccess, MemberGot, Fail}
+use Rattle.rhai_machine.specs.language.Frames.{CallEnd, Top}
 use Rattle.rhai_machine.specs.language.Unwinding.{down_core, got_none}
 use Rattle.rhai_machine.specs.language.Language.{move_at, machine}
 use Rattle.rhai_limits.specs.Limits.{IsOnItsWay, LimitsOnlyUnwind}

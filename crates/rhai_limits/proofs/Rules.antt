@@ -35,7 +35,7 @@ use Rattle.rhai_machine.specs.language.Loops.{is_endless}
 use Rattle.rhai_machine.specs.language.Imports.{module_meant}
 use Rattle.rhai_machine.specs.language.Tries.{catch_variable}
 use Rattle.rhai_machine.specs.language.Members.{focus_of, focused_on, lacks_property, lacks_indexer}
-use Rattle.rhai_machine.specs.language.Unwinding.{up_core, down_core, marked_core, topped, looked_at}
+use Rattle.rhai_machine.specs.language.Unwinding.{up_core, down_core, changed_up_core, script_ended, as_measured}
 use Rattle.rhai_machine.specs.language.Language.{move_at}
 use Rattle.rhai_limits.proofs.Keeping.{Asked, Allowed, Calm, At, Good, Moves, none_added, stopped, on_keeps, ended_keeps, shortened}
 use Rattle.rhai_limits.proofs.Keeping.{call_left, function_entered}
@@ -101,24 +101,24 @@ module _ {H : Type 0} (a : Asked) (s : Setting H) (allowed : Allowed a s.limits)
   up_keeps (RootValue chain) v k l h = on_keeps a (flat l.around.cells v (position_of chain.root)) _ k l h (λ x. h)
   up_keeps (ChainEnd lender outer) v k l h = chain_left a lender outer k l h
   up_keeps (PartAssigned above at op_at) v k l h = part_assigned_keeps a s (put_back above at (focus_of l)) above at op_at k l h
-  up_keeps (Measured op_at) v k l h = on_keeps a (sized s.limits (looked_at l.around.cells (focus_of l)) op_at) _ k l h (λ x. h)
+  up_keeps (Measured op_at) v k l h = on_keeps a (sized s.limits (as_measured l.around.cells (focus_of l)) op_at) _ k l h (λ x. h)
   up_keeps (MemberGot access root new) v k l h =
       assign_focus_keeps a s root new (MemberOperated access l.focus new.op.position ∷ k) (focused_on (Some v) l) h
   up_keeps (MemberOperated access above op_at) v k l h =
       operated_on_keeps a s access.member access (focus_of l) op_at k (focused_on above l) h
   up_keeps _ v k l h = h
 
-  -- a value comes up that is marked
-  marked_keeps : (frame : Frame H) (v : Dynamic H) (k : List (Frame H)) (l : Local H) → Calm a (frame ∷ k) l →
-      Good a (marked_core s frame v k l)
-  marked_keeps (Temporary above back) v k l h = temporary_keeps a s back (focus_of l) v k (focused_on above l) h
-  marked_keeps (PartMethod above at pos) v k l h = part_changed_keeps a s (put_back above at (focus_of l)) above at pos v k l h
-  marked_keeps _ v k l h = h
+  -- a value comes up as `Changed`
+  comes_changed_keeps : (frame : Frame H) (v : Dynamic H) (k : List (Frame H)) (l : Local H) → Calm a (frame ∷ k) l →
+      Good a (changed_up_core s frame v k l)
+  comes_changed_keeps (Temporary above back) v k l h = temporary_keeps a s back (focus_of l) v k (focused_on above l) h
+  comes_changed_keeps (PartMethod above at pos) v k l h = part_changed_keeps a s (put_back above at (focus_of l)) above at pos v k l h
+  comes_changed_keeps _ v k l h = h
 
   -- an error comes down
   down_keeps : (frame : Frame H) (e : EvalAltResult H) (k : List (Frame H)) (l : Local H) → Calm a (frame ∷ k) l →
       Good a (down_core s frame e k l)
-  down_keeps (Top map_exit) e k l h = ended_keeps a (topped map_exit e) k l h
+  down_keeps (Top map_exit) e k l h = ended_keeps a (script_ended map_exit e) k l h
   down_keeps (CallEnd exit) e k l h = ended_keeps a (returned exit e) k (called_back exit l) (call_left a exit k l h)
   down_keeps (WhileBody test body) e k l h = caught_keeps a (WhileTurn test body) e k l h h
   down_keeps (DoBody test body options) e k l h = caught_keeps a (DoTurn test body options) e k l h h
@@ -181,7 +181,7 @@ module _ {H : Type 0} (a : Asked) (s : Setting H) (allowed : Allowed a s.limits)
   move_keeps (ReadRoot variable chain) k l h = read_root_keeps a (globals_of s.offer) variable chain k l h
   move_keeps (Walk chain) k l h = walk_keeps a s (link_of chain.rest) chain k l h
   move_keeps (Locate link chain) k l h = locate_keeps a s link chain k l h
-  move_keeps (Changed v) (frame ∷ k) l h = marked_keeps frame v k l h
+  move_keeps (Changed v) (frame ∷ k) l h = comes_changed_keeps frame v k l h
   move_keeps (Back v) [] l h = tt
   move_keeps (Back v) (frame ∷ k) l h = up_keeps frame v k l h
   move_keeps (Fail e) [] l h = tt

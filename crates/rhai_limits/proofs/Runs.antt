@@ -1,18 +1,18 @@
--- Every run keeps to the limits of variables and of levels, want of memory included.
+-- Every run keeps to the limits of variables and of levels, also where memory runs out.
 use Rattle.std.proofs.Common.{refl, arith}
 use Rattle.std.proofs.lemmas.Bool.Decides.{nat_tests}
 use Rattle.std.specs.Prelude.{◌≡◌, ◌≤◌, ⊤, ℕ, ◌+◌, ◌-◌, min, nat_lt, Bool, true, false, ◌&&◌, List, [], ◌∷◌, length, map, Option, None}
 use Rattle.rhai_machine.specs.Types.{Dynamic, Limits, Position}
 use Rattle.rhai_state.specs.Native.{Request, Reply, Faults}
 use Rattle.rhai_machine.specs.machine.Machine.{Move, Halt, Go, Charge, Native, AskPure}
-use Rattle.rhai_machine.specs.machine.Memory.{Leads, here, next, wanting, starved}
+use Rattle.rhai_machine.specs.machine.Memory.{Leads, here, next, out_before_step, out_in_native}
 use Rattle.rhai_machine.specs.machine.Point.{Point, after, moved, paid}
 use Rattle.rhai_machine.specs.language.Setting.{Rules, cut}
 use Rattle.rhai_machine.specs.language.Activations.{Variables, Caller, UpTo, Without}
 use Rattle.rhai_machine.specs.language.Frames.{Frame, Core, RestOfList, DefineValue, ForItems, RestoreList, RestoreScope, CallEnd}
 use Rattle.rhai_machine.specs.language.Language.{machine, move}
-use Rattle.rhai_limits.specs.Rooms.{Within, kept_scopes, with_callers, DeclaresNone, kept_levels}
-use Rattle.rhai_limits.specs.Rooms.{ScopesKeepToTheLimit, LevelsKeepToTheLimit, TooDeepFails}
+use Rattle.rhai_limits.specs.ScopesAndLevels.{Within, kept_scopes, with_callers, DeclaresNone, kept_levels}
+use Rattle.rhai_limits.specs.ScopesAndLevels.{ScopesKeepToTheLimit, LevelsKeepToTheLimit, TooDeepFails}
 use Rattle.rhai_limits.proofs.Keeping.{Asked, Allowed, has_bottom_scope, has_bottom_level, is_shared, left_of, Room, Levels, Calm, Good}
 use Rattle.rhai_limits.proofs.Keeping.{Moves, stopped, started}
 use Rattle.rhai_limits.proofs.Rules.{move_keeps}
@@ -47,8 +47,8 @@ module _ {S H : Type 0} (rules : Rules S H) (a : Asked) (allowed : Allowed a rul
   unfolding after
   run_keeps here h = h
   run_keeps (next {p = p} r) h = run_keeps r (moved_keeps (move rules.setting p.core) p (moves p h) h)
-  run_keeps (wanting {p = p} r) h = run_keeps r (failed p.core h)
-  run_keeps (starved {p = p} {call = q} {f = f} is e first state may r) h =
+  run_keeps (out_before_step {p = p} r) h = run_keeps r (failed p.core h)
+  run_keeps (out_in_native {p = p} {call = q} {f = f} is e first state may r) h =
       run_keeps r (failed (f (Faults e) first) (answered (move rules.setting p.core) q f is (moves p h) (Faults e) first))
 
 -- ---- numbers, the bottom's last

@@ -5,7 +5,7 @@ use Rattle.rhai_tree.specs.declared.position.Position.{Position}
 use Rattle.rhai_state.specs.declared.error.EvalAltResult.TheVariants as error
 use Rattle.rhai_machine.specs.machine.Machine.{Move, Halt, Go, Charge, Native, AskPure, Machine}
 use Rattle.rhai_machine.specs.machine.Point.{Point, paid, moved, after}
-use Rattle.rhai_machine.specs.machine.Memory.{Leads, here, next, wanting, starved}
+use Rattle.rhai_machine.specs.machine.Memory.{Leads, here, next, out_before_step, out_in_native}
 use Rattle.rhai_machine.specs.machine.Unwinding.{Passes}
 use Rattle.rhai_machine.specs.language.Setting.{Rules}
 use Rattle.rhai_machine.specs.language.State.{Local}
@@ -13,7 +13,7 @@ use Rattle.rhai_machine.specs.language.Frames.{Control, Frame, Core, Fail, CallE
 use Rattle.rhai_machine.specs.language.Unwinding.{down_core}
 use Rattle.rhai_machine.specs.language.Language.{move_at, move, machine}
 use Rattle.rhai_machine.specs.language.Limits.{IsRefused}
-use Rattle.rhai_machine.specs.language.Memory.{IsWanting}
+use Rattle.rhai_machine.specs.language.Memory.{IsOutOfMemory}
 use Rattle.rhai_machine.proofs.LanguageLaws.{unwinds}
 use Rattle.rhai_limits.specs.Charging.{IsStopped, FollowsCharge}
 
@@ -34,26 +34,26 @@ module _ {S H Core : Type 0} (M : Machine S H Core) (allows : ℕ → Bool) wher
   unfolding after
   counts here = omega arith
   counts (next {p = p} run) = omega (arith, move_counts (M.move p.core) p, counts run)
-  counts (wanting run) = counts run
-  counts (starved is e first state left run) = counts run
+  counts (out_before_step run) = counts run
+  counts (out_in_native is e first state left run) = counts run
 
 module _ {S H : Type 0} (rules : Rules S H) where
-  -- the error of want of memory passes each frame
+  -- the out-of-memory error passes each frame
   frame_passes : (frame : Frame H) (at : Position) (k : List (Frame H)) (l : Local H) →
-      IsWanting (down_core rules.setting frame (error.ErrorOutOfMemory at) k l)
+      IsOutOfMemory (down_core rules.setting frame (error.ErrorOutOfMemory at) k l)
   frame_passes (Top true) at k l = (at, refl)
   frame_passes (Top false) at k l = (at, refl)
   frame_passes (CallEnd exit) at k l = (exit.at, refl)
   frame_passes _ at k l = (at, refl)
 
   passes : (at : Position) (k : List (Frame H)) (l : Local H) →
-      Passes IsWanting (move_at rules.setting (Fail (error.ErrorOutOfMemory at)) k l)
+      Passes IsOutOfMemory (move_at rules.setting (Fail (error.ErrorOutOfMemory at)) k l)
   passes at [] l = tt
   passes at (frame ∷ k) l = frame_passes frame at k l
 
-  wanting_passes : (c : Control H) (at : Position) → c ≡ Fail (error.ErrorOutOfMemory at) → (k : List (Frame H)) (l : Local H) →
-      Passes IsWanting (move_at rules.setting c k l)
-  wanting_passes c at is k l = rw is (passes at k l)
+  run_out_passes : (c : Control H) (at : Position) → c ≡ Fail (error.ErrorOutOfMemory at) → (k : List (Frame H)) (l : Local H) →
+      Passes IsOutOfMemory (move_at rules.setting c k l)
+  run_out_passes c at is k l = rw is (passes at k l)
 
   widened : (R : Core H → Type 0) → ((d : Core H) → R d → IsStopped d) → (v : Move H (Core H)) → Passes R v → Passes IsStopped v
   widened R wider Halt h = tt
@@ -65,8 +65,8 @@ module _ {S H : Type 0} (rules : Rules S H) where
   stopped_passes : (c : Core H) → IsStopped c → Passes IsStopped (move rules.setting c)
   stopped_passes c (inl refused) =
       widened IsRefused (λ d h. inl h) (move rules.setting c) ((unwinds rules).stays c refused)
-  stopped_passes c (inr wants) =
-      widened IsWanting (λ d h. inr h) (move rules.setting c) (wanting_passes c.control wants.0 wants.1 c.stack c.local)
+  stopped_passes c (inr is_out) =
+      widened IsOutOfMemory (λ d h. inr h) (move rules.setting c) (run_out_passes c.control is_out.0 is_out.1 c.stack c.local)
 
   module _ (allows : ℕ → Bool) where
     passed : (v : Move H (Core H)) (p : Point S (Core H)) → IsStopped p.core → Passes IsStopped v →
@@ -83,8 +83,8 @@ module _ {S H : Type 0} (rules : Rules S H) where
     stays_stopped here h = h
     stays_stopped (next {p = p} run) h =
         stays_stopped run (passed (move rules.setting p.core) p h (stopped_passes p.core h))
-    stays_stopped (wanting {at = at} run) h = stays_stopped run (inr (at, refl))
-    stays_stopped (starved {at = at} is e first state left run) h = stays_stopped run (inr (at, refl))
+    stays_stopped (out_before_step {at = at} run) h = stays_stopped run (inr (at, refl))
+    stays_stopped (out_in_native {at = at} is e first state left run) h = stays_stopped run (inr (at, refl))
 
     -- what follows a charge
     pub follows_charge : (b : Bool) (at : Position) (d : Core H) (p q : Point S (Core H)) →

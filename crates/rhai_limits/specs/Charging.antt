@@ -1,7 +1,7 @@
 -- What charges at least one operation: each entry into a function of a script, and each turn of a loop.
 use Rattle.std.specs.Prelude.{◌≡◌, ◌⊎◌, ◌<◌, ⊤, ℕ, Bool, true, false, List, ◌++◌, IsSome}
 use Rattle.rhai_machine.specs.machine.Point.{Point, after}
-use Rattle.rhai_machine.specs.machine.Memory.{Leads, here, next, wanting, starved}
+use Rattle.rhai_machine.specs.machine.Memory.{Leads, here, next, out_before_step, out_in_native}
 use Rattle.rhai_machine.specs.language.Setting.{Rules}
 use Rattle.rhai_machine.specs.language.State.{State}
 use Rattle.rhai_machine.specs.language.Activations.{Entered}
@@ -9,15 +9,15 @@ use Rattle.rhai_machine.specs.language.Turns.{next_turn}
 use Rattle.rhai_machine.specs.language.Frames.{Control, Frame, Core, EnterFunction, WhileTurn, DoTurn, ForTurn, Back}
 use Rattle.rhai_machine.specs.language.Language.{machine}
 use Rattle.rhai_machine.specs.language.Limits.{IsRefused}
-use Rattle.rhai_machine.specs.language.Memory.{IsWanting}
+use Rattle.rhai_machine.specs.language.Memory.{IsOutOfMemory}
 use Rattle.rhai_machine.specs.language.Runs.{at}
 
 module _ {H : Type 0} where
-  -- the error of a refused charge is on its way down, or that of want of memory
+  -- the error of a refused charge is on its way down, or the out-of-memory error
   abbrev pub IsStopped : Core H → Type 0
-  IsStopped c = IsRefused c ⊎ IsWanting c
+  IsStopped c = IsRefused c ⊎ IsOutOfMemory c
 
-  -- what follows a charge: where it was let through a greater count, and where it was refused its error, or that of want of memory
+  -- what follows a charge: where it was let through a greater count, and where it was refused its error, or the out-of-memory error
   abbrev pub FollowsCharge : {S : Type 0} → (let_through : Bool) → (count : ℕ) → Point S (Core H) → Type 0
   FollowsCharge true count q = count < q.count
   FollowsCharge false count q = IsStopped q.core
@@ -50,8 +50,8 @@ module _ {S H : Type 0} (rules : Rules S H) (allows : ℕ → Bool) where
   abbrev pub StaysBeneath : (k : List (Frame H)) → {p q : Point S (Core H)} → Leads (machine rules) allows p q → Type 0
   StaysBeneath k (here {p = p}) = IsBeneath k p.core.stack
   StaysBeneath k (next {p = p} run) = IsBeneath k p.core.stack × StaysBeneath k run
-  StaysBeneath k (wanting {p = p} run) = IsBeneath k p.core.stack × StaysBeneath k run
-  StaysBeneath k (starved {p = p} is e first state left run) = IsBeneath k p.core.stack × StaysBeneath k run
+  StaysBeneath k (out_before_step {p = p} run) = IsBeneath k p.core.stack × StaysBeneath k run
+  StaysBeneath k (out_in_native {p = p} is e first state left run) = IsBeneath k p.core.stack × StaysBeneath k run
 
 module _ {S H : Type 0} (rules : Rules S H) where
   -- where a function is entered an operation is charged, and all that follows has counted it, or it was refused

@@ -1,3 +1,3 @@
 pub mod Charging
 pub mod Limits
-pub mod Rooms
+pub mod ScopesAndLevels

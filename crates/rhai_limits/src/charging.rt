@@ -8,15 +8,15 @@ use rhai_state::table::NativeTable;
 use rhai_values::base::value::Host;
 use std::marker::PhantomData;
 
-/// Each entry into a function of a script charges one operation at the call, before anything of the
-/// function is done: where the charge is let through the count is greater from then on, and where it is
-/// refused the run only unwinds.
+/// Shows that each entry into a function of a script charges one operation at the call. It does so before
+/// anything of the function is done: where the charge is let through the count is greater from then on, and
+/// where it is refused the run only unwinds.
 pub fn entries_charge<H: Host, T: NativeTable<H>>(of: PhantomData<(H, T)>)
     ensures { (setting : Setting H) → EntriesCharge (over setting T.natives) }
 {}
 
-/// Each turn of a loop charges at least one operation: from its start to the start of the loop's next
-/// turn, or to the value that the loop ends with, the count grows.
+/// Shows that each turn of a loop charges at least one operation. From its start to the start of the loop's
+/// next turn, or to the value that the loop ends with, the count grows.
 pub fn turns_charge<H: Host, T: NativeTable<H>>(of: PhantomData<(H, T)>)
     ensures { (setting : Setting H) → TurnsCharge (over setting T.natives) }
 {}

@@ -6,28 +6,29 @@ pub mod charging;
 
 ghost use Rattle.rhai_machine.specs.language.Setting.{Setting, over};
 ghost use Rattle.rhai_limits.specs.Limits.{LimitsOnlyUnwind};
-ghost use Rattle.rhai_limits.specs.Rooms.{ScopesKeepToTheLimit, LevelsKeepToTheLimit, TooDeepFails};
+ghost use Rattle.rhai_limits.specs.ScopesAndLevels.{ScopesKeepToTheLimit, LevelsKeepToTheLimit, TooDeepFails};
 
 use rhai_state::table::NativeTable;
 use rhai_values::base::value::Host;
 use std::marker::PhantomData;
 
-/// The error of any of the five limits is caught by nothing, swallowed by nothing and wrapped in nothing: the
-/// run ends with it, moved to a call perhaps, and on its way nothing is charged and no native is called.
+/// Shows that nothing catches, swallows or wraps the error of any of the five limits. The run ends with it,
+/// moved to a call perhaps, and on its way nothing is charged and no native is called.
 pub fn limits_are_never_caught<H: Host, T: NativeTable<H>>(of: PhantomData<(H, T)>)
     ensures { (setting : Setting H) → LimitsOnlyUnwind (over setting T.natives) }
 {}
 
-/// No scope grows past the limit of variables: at every point of a run, errors and want of memory included,
-/// each scope in hand holds at most as many as the limit allows, the current one and each that the end of a
-/// function's call keeps for its caller. A scope at the bottom that held more at the start holds no more than
-/// it did then.
+/// Shows that no scope grows past the limit of variables. At every point of a run, on errors and where memory
+/// runs out too, each scope in hand has at most as many as the limit allows, the current one and each that
+/// the end of a function's call keeps for its caller. A scope at the bottom that had more at the start has no
+/// more than it did then.
 pub fn scopes_keep_to_the_limit<H: Host, T: NativeTable<H>>(of: PhantomData<(H, T)>)
     ensures { (setting : Setting H) → ScopesKeepToTheLimit (over setting T.natives) }
 {}
 
-/// No body of a function is entered at a level above the limit: at every point of a run each function on the
-/// stack runs at a level that the limit allows, and one that is called above it fails at its call.
+/// Shows that no body of a function is entered at a level above the limit. At every point of a run each
+/// function on the stack runs at a level that the limit allows, and one that is called above it fails at its
+/// call.
 pub fn bodies_are_not_too_deep<H: Host, T: NativeTable<H>>(of: PhantomData<(H, T)>)
     ensures levels { (setting : Setting H) → LevelsKeepToTheLimit (over setting T.natives) }
     ensures refused { (setting : Setting H) → TooDeepFails (over setting T.natives) }

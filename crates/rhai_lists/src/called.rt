@@ -18,8 +18,8 @@ use rhai_samples::called::{
 const LISTS: &[Row] = &[Row("called", CALLED)];
 
 /// Calls where no module is; functions that are private, have other parameters, or stand in a module within;
-/// natives and keywords, which no module has; variables and constants that are passed; a call that fails and one
-/// that is too deep; and operators.
+/// natives and keywords, which no module has; variables and constants that are passed; a call that fails and
+/// one that is too deep; and operators.
 const CALLED: &[Sample] = &[
     Sample(Parts(UNKNOWN_ARGUMENT), WithModules),
     Sample(Parts(UNKNOWN_ROOT_CALLED), WithModules),
@@ -44,7 +44,7 @@ const CALLED: &[Sample] = &[
     Sample(Parts(SHARED_VARIABLE_PASSED), WithModules),
 ];
 
-/// The scripts of a list of this file.
+/// Finds the scripts of a list of this file, None where it has no such list.
 pub(super) fn scripts_of(list: &str) -> Option<&'static [Sample]> {
     scripts_in(LISTS, list)
 }

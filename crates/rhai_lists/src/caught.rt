@@ -24,7 +24,7 @@ const CAUGHT_OR_NOT: &[Sample] = &[
     Sample(Parts(ERROR_OUT_OF_A_FUNCTION), Usual),
 ];
 
-/// The scripts of a list of this file.
+/// Finds the scripts of a list of this file, None where it has no such list.
 pub(super) fn scripts_of(list: &str) -> Option<&'static [Sample]> {
     scripts_in(LISTS, list)
 }

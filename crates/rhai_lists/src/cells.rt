@@ -14,8 +14,8 @@ use rhai_samples::cells::{
 /// The list of this file.
 const LISTS: &[Row] = &[Row("cells", SHARED_CELLS)];
 
-/// Cells that a `for` writes, that come out of a `switch` and a loop, and that are constant, and names that are
-/// shared until one is not there.
+/// Cells that a `for` writes, that come out of a `switch` and a loop, and that are constant, and names that
+/// are shared until one is not there.
 const SHARED_CELLS: &[Sample] = &[
     Sample(Parts(TURNS_SHARED), Usual),
     Sample(Parts(SHARED_VARIABLE_CHOSEN), Usual),
@@ -25,7 +25,7 @@ const SHARED_CELLS: &[Sample] = &[
     Sample(Statements(NamesSharedInOrder), Usual),
 ];
 
-/// The scripts of a list of this file.
+/// Finds the scripts of a list of this file, None where it has no such list.
 pub(super) fn scripts_of(list: &str) -> Option<&'static [Sample]> {
     scripts_in(LISTS, list)
 }

@@ -17,7 +17,7 @@ const LEFT_IN_PLACE: &[Sample] = &[
     Sample(Parts(ITEM_OF_AN_ITEM_ASSIGNED), Usual),
 ];
 
-/// The scripts of a list of this file.
+/// Finds the scripts of a list of this file, None where it has no such list.
 pub(super) fn scripts_of(list: &str) -> Option<&'static [Sample]> {
     scripts_in(LISTS, list)
 }

@@ -23,7 +23,7 @@ const CHECKED_ONLY: &[Sample] = &[
     Sample(Parts(INTEGER_AS_A_CATCH_VARIABLE), Usual),
 ];
 
-/// The scripts of a list of this file.
+/// Finds the scripts of a list of this file, None where it has no such list.
 pub(super) fn scripts_of(list: &str) -> Option<&'static [Sample]> {
     scripts_in(LISTS, list)
 }

@@ -16,7 +16,7 @@ const CONDITIONS: &[Sample] = &[
     Sample(Parts(DEFAULT_UNDER_FALSE), Usual),
 ];
 
-/// The scripts of a list of this file.
+/// Finds the scripts of a list of this file, None where it has no such list.
 pub(super) fn scripts_of(list: &str) -> Option<&'static [Sample]> {
     scripts_in(LISTS, list)
 }

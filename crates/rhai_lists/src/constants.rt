@@ -15,8 +15,8 @@ use rhai_samples::constants::{
 const LISTS: &[Row] = &[Row("own", CONSTANTS)];
 
 /// The constants of a script behind `global`: unknown, without a library, of a variable and of a block; the
-/// newest, one that is passed, and ones that are written; a longer path, a function; and modules that are called
-/// so.
+/// newest, one that is passed, and ones that are written; a longer path, a function; and modules that are
+/// called so.
 const CONSTANTS: &[Sample] = &[
     Sample(Parts(UNKNOWN_IN_THE_SCRIPT), Usual),
     Sample(Parts(CONSTANT_WITHOUT_A_LIBRARY), Usual),
@@ -32,7 +32,7 @@ const CONSTANTS: &[Sample] = &[
     Sample(Parts(HIDDEN_BY_A_MODULE_CALLED_GLOBAL), WithModules),
 ];
 
-/// The scripts of a list of this file.
+/// Finds the scripts of a list of this file, None where it has no such list.
 pub(super) fn scripts_of(list: &str) -> Option<&'static [Sample]> {
     scripts_in(LISTS, list)
 }

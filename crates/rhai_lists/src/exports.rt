@@ -14,8 +14,8 @@ use rhai_samples::exports::{
 /// The list of this file.
 const LISTS: &[Row] = &[Row("exports", EXPORTS)];
 
-/// Variables that get one alias twice, two aliases, one in a block that they end with, and none; then those that are
-/// exported where they are declared, and those that a `let` overwrites.
+/// Variables that get one alias twice, two aliases, one in a block that they end with, and none; then those
+/// that are exported where they are declared, and those that a `let` overwrites.
 const EXPORTS: &[Sample] = &[
     Sample(Parts(EXPORTED_TWICE), Usual),
     Sample(Parts(NEWEST_EXPORTED), Usual),
@@ -32,7 +32,7 @@ const EXPORTS: &[Sample] = &[
     Sample(Parts(CONSTANT_OVER_A_VARIABLE), Usual),
 ];
 
-/// The scripts of a list of this file.
+/// Finds the scripts of a list of this file, None where it has no such list.
 pub(super) fn scripts_of(list: &str) -> Option<&'static [Sample]> {
     scripts_in(LISTS, list)
 }

@@ -10,7 +10,7 @@ use rhai_samples::functions::{CALLS_WITHOUT_END, FUNCTION_OF_ONE, METHOD_THAT_FA
 /// The lists of this file.
 const LISTS: &[Row] = &[Row("calls", IN_NO_ROW), Row("fewer", FEWER_CALLS)];
 
-/// A function that calls itself twice, with 10; a method that has changed its object before it fails; and
+/// A function that calls itself twice, with 10; a method that has changed an item before it fails; and
 /// calls that are too deep, without end and where none is allowed.
 const IN_NO_ROW: &[Sample] = &[
     Sample(WithFunctions(Fibonacci(10)), Usual),
@@ -22,7 +22,7 @@ const IN_NO_ROW: &[Sample] = &[
 /// That function with 6.
 const FEWER_CALLS: &[Sample] = &[Sample(WithFunctions(Fibonacci(6)), Usual)];
 
-/// The scripts of a list of this file.
+/// Finds the scripts of a list of this file, None where it has no such list.
 pub(super) fn scripts_of(list: &str) -> Option<&'static [Sample]> {
     scripts_in(LISTS, list)
 }

@@ -19,9 +19,9 @@ use rhai_samples::globals::{
 /// The list of this file.
 const LISTS: &[Row] = &[Row("globals", GLOBALS)];
 
-/// Constants of the engine's modules: written, hidden, passed, used by operators, copied, walked, and read in a
-/// function; functions of its modules; its modules by a name, and what is found before them; and functions of the
-/// script as values.
+/// Constants of the engine's modules: written, hidden, passed, used by operators, copied, walked, and read in
+/// a function; functions of its modules; its modules by a name, and what is found before them; and functions
+/// of the script as values.
 const GLOBALS: &[Sample] = &[
     Sample(Parts(ITEM_OF_A_COPY_ASSIGNED), WithGlobalModules),
     Sample(Parts(CONSTANT_ASSIGNED), WithGlobalModules),
@@ -56,7 +56,7 @@ const GLOBALS: &[Sample] = &[
     Sample(Parts(FUNCTION_COMPARED), Usual),
 ];
 
-/// The scripts of a list of this file.
+/// Finds the scripts of a list of this file, None where it has no such list.
 pub(super) fn scripts_of(list: &str) -> Option<&'static [Sample]> {
     scripts_in(LISTS, list)
 }

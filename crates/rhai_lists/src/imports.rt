@@ -14,9 +14,9 @@ use rhai_samples::imports::{
 /// The list of this file.
 const LISTS: &[Row] = &[Row("imports", IMPORTS)];
 
-/// Modules whose functions are called, the newest of two, and those of a function; then where no more may be loaded;
-/// paths that lead to no module; functions that are not found, since their import has ended, or are not marked global,
-/// or private; an import without an alias, one by a variable, and one that ends with a `try`.
+/// Modules whose functions are called, the newest of two, and those of a function; then where no more may be
+/// loaded; paths that lead to no module; functions that are not found, since their import has ended, or that
+/// are not global, or private; an import without an alias, one by a variable, and one that ends with a `try`.
 const IMPORTS: &[Sample] = &[
     Sample(Parts(IMPORTED), WithModules),
     Sample(Parts(NEWEST_IMPORTED), WithModules),
@@ -34,7 +34,7 @@ const IMPORTS: &[Sample] = &[
     Sample(Parts(CALLED_AFTER_A_TRY), WithModules),
 ];
 
-/// The scripts of a list of this file.
+/// Finds the scripts of a list of this file, None where it has no such list.
 pub(super) fn scripts_of(list: &str) -> Option<&'static [Sample]> {
     scripts_in(LISTS, list)
 }

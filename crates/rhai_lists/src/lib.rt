@@ -21,7 +21,7 @@ mod walks;
 use rhai_bench::rows::first_found;
 use rhai_bench::sample::Sample;
 
-/// The scripts of a list in their order, None where no list has the name.
+/// Finds the scripts of a list in their order, None where no list has the name.
 pub fn scripts_of(list: &str) -> Option<&'static [Sample]> {
     first_found(&[
         called::scripts_of(list),

@@ -12,7 +12,7 @@ const LISTS: &[Row] = &[Row("outside", OUTSIDE_OF_LOOPS)];
 /// A `break` that stands in no loop.
 const OUTSIDE_OF_LOOPS: &[Sample] = &[Sample(Parts(BREAK_AT_THE_TOP), Usual)];
 
-/// The scripts of a list of this file.
+/// Finds the scripts of a list of this file, None where it has no such list.
 pub(super) fn scripts_of(list: &str) -> Option<&'static [Sample]> {
     scripts_in(LISTS, list)
 }

@@ -22,7 +22,7 @@ const EVALUATED_IN_ORDER: &[Sample] = &[
     Sample(Parts(DECLARED_AS_UNKNOWN_NAME), WithoutShadowing),
 ];
 
-/// The scripts of a list of this file.
+/// Finds the scripts of a list of this file, None where it has no such list.
 pub(super) fn scripts_of(list: &str) -> Option<&'static [Sample]> {
     scripts_in(LISTS, list)
 }

@@ -16,9 +16,9 @@ use rhai_samples::paths::{
 /// The list of this file.
 const LISTS: &[Row] = &[Row("paths", PATHS)];
 
-/// Constants of modules, read, written, walked, copied and passed on, where variables have their names too; paths
-/// that lead to no module, or to the newest or to the older of two, from an empty name, and from within a
-/// function; and what is written where no module is.
+/// Constants of modules, read, written, walked, copied and passed on, where variables have their names too;
+/// paths that lead to no module, or to the newest or to the older of two, from an empty name, and from within
+/// a function; and what is written where no module is.
 const PATHS: &[Sample] = &[
     Sample(Parts(NAMED_AS_A_VARIABLE), WithModules),
     Sample(Parts(INCREASED_AS_A_VARIABLE), WithModules),
@@ -49,7 +49,7 @@ const PATHS: &[Sample] = &[
     Sample(Parts(BOTH_ARGUMENTS), WithModules),
 ];
 
-/// The scripts of a list of this file.
+/// Finds the scripts of a list of this file, None where it has no such list.
 pub(super) fn scripts_of(list: &str) -> Option<&'static [Sample]> {
     scripts_in(LISTS, list)
 }

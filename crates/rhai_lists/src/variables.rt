@@ -25,7 +25,7 @@ const VARIABLE_OF_A_BLOCK: &[Part<'_>] = &[
     BlockStatement,
 ];
 
-/// The scripts of a list of this file.
+/// Finds the scripts of a list of this file, None where it has no such list.
 pub(super) fn scripts_of(list: &str) -> Option<&'static [Sample]> {
     scripts_in(LISTS, list)
 }

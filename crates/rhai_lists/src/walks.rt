@@ -20,7 +20,7 @@ const TURNS: &[Sample] = &[
     Sample(Parts(ITEM_SKIPPED), Usual),
 ];
 
-/// The scripts of a list of this file.
+/// Finds the scripts of a list of this file, None where it has no such list.
 pub(super) fn scripts_of(list: &str) -> Option<&'static [Sample]> {
     scripts_in(LISTS, list)
 }

@@ -13,10 +13,10 @@ use Rattle.rhai_machine.specs.language.Setting.{Setting}
 use Rattle.rhai_machine.specs.language.State.{Local}
 use Rattle.rhai_machine.specs.language.Frames.{Attempt, InPlace, AsValue, Assignment, Update, Frame, core, FireUpdate}
 use Rattle.rhai_machine.specs.language.Places.{Place, Target, put}
-use Rattle.rhai_machine.specs.language.Assignment.{native_of, written_core, done, if_fast, says_missing, operation_of, left_in, update_core}
+use Rattle.rhai_machine.specs.language.Assignment.{native_of, written_core, done, if_fast, says_missing, operation_of, target_left, update_core}
 use Rattle.rhai_machine.specs.language.Assignment.{assign_core, store_core, changed_core, fault_core, value_core, answered_core}
 use Rattle.rhai_machine.specs.language.Assignment.{barred_core, call_update, fire_update}
-use Rattle.rhai_machine.specs.language.Calls.{replied, applied, sized, placed_if_none}
+use Rattle.rhai_machine.specs.language.Calls.{replied, applied, sized, with_position}
 use Rattle.rhai_machine.proofs.Sizes.{control_size, stack_size, size}
 
 module _ {H : Type 0} where
@@ -66,13 +66,13 @@ module _ {H : Type 0} where
         size (answered_core s attempt reply u k l) < 12 + stack_size k
     answered_falls InPlace Missing u k l = update_falls (op_assign_of u.operator u.target u.operand) (record u { attempt = AsValue }) k l
     answered_falls InPlace (Gives v) u k l = changed_falls (sized s.limits v u.at) u k l
-    answered_falls InPlace (Faults e) u k l = fault_falls (says_missing (native_of InPlace u.operator) e) (placed_if_none u.at e) u k l
+    answered_falls InPlace (Faults e) u k l = fault_falls (says_missing (native_of InPlace u.operator) e) (with_position u.at e) u k l
     answered_falls AsValue reply u k l = value_falls (replied s.limits s.host_type reply (Some u.target) (u.operand ∷ [])
         (operation_of u) false l.around.cells) u k l
 
     update_native_falls : (u : Update H) (k : List (Frame H)) (l : Local H) → Falls size (core (FireUpdate u) k l) (call_update s u k l)
-    update_native_falls u k l reply left = answered_falls u.attempt reply (record u { target = left_in u left }) k
-        (put u.place (left_in u left) l)
+    update_native_falls u k l reply left = answered_falls u.attempt reply (record u { target = target_left u left }) k
+        (put u.place (target_left u left) l)
 
     pub barred_falls : (barred : Bool) (u : Update H) (k : List (Frame H)) (l : Local H) →
         size (barred_core s barred u k l) < 13 + stack_size k

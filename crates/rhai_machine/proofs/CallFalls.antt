@@ -20,7 +20,8 @@ use Rattle.rhai_machine.specs.language.Frames.{ToCallOn, ToCallOnThis, ToCallNum
 use Rattle.rhai_machine.specs.language.Frames.{MakePointer, Curry, IsShared}
 use Rattle.rhai_machine.specs.language.Frames.{IsDefinedVariable, ToChain}
 use Rattle.rhai_machine.specs.language.Places.{Place, is_barred}
-use Rattle.rhai_machine.specs.language.Calls.{operator_core, behind_path, call_of, plainly, races, dispatch_core, focus_core, fire_first, fire_move, First}
+use Rattle.rhai_machine.specs.language.Calls.{operator_core, behind_path, call_of, plainly, races, dispatch_core, focus_core, fire_first}
+use Rattle.rhai_machine.specs.language.Calls.{fire_move, First}
 use Rattle.rhai_machine.specs.language.Calls.{first_of, put_left, barred_call, question_first, question_move, call_native}
 use Rattle.rhai_machine.specs.language.Calls.{replied, applied}
 use Rattle.rhai_machine.specs.language.Arguments.{call_on, lent_this, this_in, is_captured, linked_core, linked_to, numbered_core}
@@ -38,7 +39,8 @@ module _ {H : Type 0} where
         (l : Local H) →
         Falls size (core (Fire call) k l) (call_native s call from first rest k l)
     native_falls call from first rest k l reply left = reply_falls call.marks reply
-        (replied s.limits s.host_type reply left rest call.operation (is_some call.number) (put_left from left l).around.cells) (12 + stack_size k)
+        (replied s.limits s.host_type reply left rest call.operation (is_some call.number) (put_left from left l).around.cells)
+        (12 + stack_size k)
         (stack_size k) (omega arith)
 
     fire_first_falls : (call : Call H) (rest : List (Dynamic H)) (r : Result (First H) (EvalAltResult H)) (k : List (Frame H))

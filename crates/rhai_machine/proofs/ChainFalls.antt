@@ -36,7 +36,8 @@ use Rattle.rhai_machine.specs.language.Members.{indexer_missing}
 use Rattle.rhai_machine.specs.language.Located.{index_by, is_indexed, is_map, is_place_spot, is_unit, spot_of}
 use Rattle.rhai_machine.specs.language.Handles.{entered_by}
 use Rattle.rhai_machine.specs.language.Chains.{ready, opened_core, open_move, asked_move, root_move, meant_core, read_root_core}
-use Rattle.rhai_machine.specs.language.Chains.{behind_link, after_method, kept_access, is_property, after_set, unless_barred, method_of, method_entered}
+use Rattle.rhai_machine.specs.language.Chains.{behind_link, after_method, kept_access, is_property, after_set, unless_barred, method_of}
+use Rattle.rhai_machine.specs.language.Chains.{method_entered}
 use Rattle.rhai_machine.specs.language.Chains.{assign_member, member_core, assign_focus, measured_place, assign_spot, part_form}
 use Rattle.rhai_machine.specs.language.Chains.{part_core as chain_part, descend, spot_core, indexed_core, locate_core, property_move}
 use Rattle.rhai_machine.specs.language.Chains.{form_move, stop_move, seen_move, walk_move}
@@ -269,7 +270,8 @@ module _ {H : Type 0} where
     -- a method enters the focus, over what waits for its value
     method_of_falls : (name : List ℕ) (args : List Expr) (at : Position) (was_handle : Bool) (link : Link) (chain : Chain H)
         (k : List (Frame H)) (l : Local H) →
-        size (method_of s name args at was_handle chain (after_method link.behind link chain k) l) < 14 + 20 * left_by link.behind + stack_size k
+        size (method_of s name args at was_handle chain (after_method link.behind link chain k) l) < 14 + 20 * left_by
+        link.behind + stack_size k
     method_of_falls name args at was_handle link chain k l = omega (
       arith,
       method_falls s (record { name = name; at = at; first_at = first_position args; was_handle = was_handle })
@@ -286,7 +288,8 @@ module _ {H : Type 0} where
         (core (Walk chain) k l) (method_entered s name args at link inner chain k l) (omega (
           arith,
           entered_falls (focus_of l).value inner
-              (λ above below. method_of s name args at (is_handle (focus_of l).value) chain (after_method link.behind link chain above) below)
+              (λ above below. method_of s name args at (is_handle (focus_of l).value) chain (after_method link.behind link
+              chain above) below)
               (14 + 20 * left_by link.behind) k l
               (λ j m. method_of_falls name args at (is_handle (focus_of l).value) link chain j m),
           less,

@@ -32,7 +32,8 @@ use Rattle.rhai_machine.specs.language.Setting.{Setting, globals_of}
 use Rattle.rhai_machine.specs.language.State.{Local}
 use Rattle.rhai_machine.specs.language.Values.{unit_value, copied, flat, through, truth}
 use Rattle.rhai_machine.specs.language.Frames.{Operation, Control, Frame, Core, core, ended, Eval, Exec, Ask, Assign, AskUpdate, Argument}
-use Rattle.rhai_machine.specs.language.Frames.{CallNamed, Question, Fire, QuestionUpdate, FireUpdate, OpenExpr, OpenStmt, Enter, Run, Store, StoreThis}
+use Rattle.rhai_machine.specs.language.Frames.{CallNamed, Question, Fire, QuestionUpdate, FireUpdate, OpenExpr, OpenStmt, Enter, Run, Store}
+use Rattle.rhai_machine.specs.language.Frames.{StoreThis}
 use Rattle.rhai_machine.specs.language.Frames.{WhileTurn, DoTurn, Back, Changed, Fail, StatementValue, DefineValue, IfCondition, RestOfList}
 use Rattle.rhai_machine.specs.language.Frames.{RestoreList, Top, UnaryOperand, LeftOperand, RightOperand, AndPart, OrPart, CoalescePart}
 use Rattle.rhai_machine.specs.language.Frames.{AssignValue, WhileCondition, WhileBody, DoCondition, DoBody, BreakValue, ReturnValue}
@@ -40,8 +41,10 @@ use Rattle.rhai_machine.specs.language.Frames.{ArrayItem, EntryValue, TextPart, 
 use Rattle.rhai_machine.specs.language.Frames.{OpenChain, ChainArguments, ChainRoot, ReadRoot, Walk, Locate, AssignChain, AssignedChain}
 use Rattle.rhai_machine.specs.language.Frames.{RootValue, ChainEnd, StepDown, Temporary, PartMethod, PartAssigned, Measured, MethodLink}
 use Rattle.rhai_machine.specs.language.Frames.{MemberLink, MemberGot, MemberOperated, GetterTried, SetterTried, IndexerTried, MemberSet}
-use Rattle.rhai_machine.specs.language.Frames.{EnterFunction, EnterOnFocus, AssignThis, AssignThisValue, CallEnd, Choose, ForTurn, ForItem, Share}
-use Rattle.rhai_machine.specs.language.Frames.{SwitchValue, SwitchCondition, ForItems, ForBody, ImportPath, RestoreScope, TryBody, CatchBranch, ThrowValue}
+use Rattle.rhai_machine.specs.language.Frames.{EnterFunction, EnterOnFocus, AssignThis, AssignThisValue, CallEnd, Choose, ForTurn, ForItem}
+use Rattle.rhai_machine.specs.language.Frames.{Share}
+use Rattle.rhai_machine.specs.language.Frames.{SwitchValue, SwitchCondition, ForItems, ForBody, ImportPath, RestoreScope, TryBody}
+use Rattle.rhai_machine.specs.language.Frames.{CatchBranch, ThrowValue}
 use Rattle.rhai_machine.specs.language.Data.{with_item, with_value, with_part, items_core, entries_core, parts_core, part_core, joined_core}
 use Rattle.rhai_machine.specs.language.Data.{printed, unprinted_core}
 use Rattle.rhai_machine.specs.language.Places.{is_barred, target_of, this_target}
@@ -57,20 +60,23 @@ use Rattle.rhai_machine.specs.language.Names.{bound_this, read}
 use Rattle.rhai_machine.specs.language.Expressions.{literal_of, argument_move, call_move, and_core, and_next, or_core, or_next}
 use Rattle.rhai_machine.specs.language.Expressions.{coalesce_core, coalesce_seen, coalesce_next, expr_move}
 use Rattle.rhai_machine.specs.language.Calls.{builtin_of, call_of, sized}
-use Rattle.rhai_machine.specs.language.Arguments.{flattens, taken, arguments_core, keyword_of, function_core, function_move, function_of, operation_in}
+use Rattle.rhai_machine.specs.language.Arguments.{flattens, taken, arguments_core, keyword_of, function_core, function_move, function_of}
+use Rattle.rhai_machine.specs.language.Arguments.{operation_in}
 use Rattle.rhai_machine.specs.language.Statements.{enter_core, run_core, chosen_core, defined_core, define_core, break_core, return_move}
 use Rattle.rhai_machine.specs.language.Exports.{export_at}
 use Rattle.rhai_machine.specs.language.Imports.{import_core, importing, module_meant, name_asked}
 use Rattle.rhai_machine.specs.language.Statements.{has_option, loop_of, stmt_move, enters, constant_core, written, declared_core}
 use Rattle.rhai_machine.specs.language.Bodies.{returned}
-use Rattle.rhai_machine.specs.language.Unwinding.{up_core, down_core, topped, operated, looked_at, marked_core}
+use Rattle.rhai_machine.specs.language.Unwinding.{up_core, down_core, script_ended, operands_there, as_measured, changed_up_core}
 use Rattle.rhai_machine.specs.language.Language.{move_at, move}
 use Rattle.rhai_machine.specs.language.Members.{focus_of, focused_on, lacks_property, lacks_indexer}
 use Rattle.rhai_machine.specs.language.Links.{link_of}
 use Rattle.rhai_machine.proofs.ChainLinks.{links, within}
-use Rattle.rhai_machine.proofs.Sizes.{all_numbers, parts_in, purpose_size, control_size, stack_size, size, enter_size, run_size, result_falls}
+use Rattle.rhai_machine.proofs.Sizes.{all_numbers, parts_in, purpose_size, control_size, stack_size, size, enter_size, run_size}
+use Rattle.rhai_machine.proofs.Sizes.{result_falls}
 use Rattle.rhai_machine.proofs.Sizes.{on_falls, on_below, there_falls}
-use Rattle.rhai_machine.proofs.CallFalls.{named_call_falls, question_falls, fire_falls, focus_falls, keyword_falls, arguments_fall, behind_falls}
+use Rattle.rhai_machine.proofs.CallFalls.{named_call_falls, question_falls, fire_falls, focus_falls, keyword_falls, arguments_fall}
+use Rattle.rhai_machine.proofs.CallFalls.{behind_falls}
 use Rattle.rhai_machine.proofs.CallFalls.{operator_falls}
 use Rattle.rhai_machine.proofs.FormFalls.{candidates_size, choose_falls, met_falls, for_falls, started_falls, for_turn_falls, item_falls}
 use Rattle.rhai_machine.proofs.FormFalls.{tried_falls, share_falls}
@@ -276,7 +282,7 @@ module _ {H : Type 0} where
     chosen_falls false body branch k l = omega (arith, enter_size branch.statements true k)
 
     operated_falls : (operation : Operation) (args : List (Dynamic H)) (k : List (Frame H)) (l : Local H) →
-        size (operated s operation args k l) < 12 + stack_size k
+        size (operands_there s operation args k l) < 12 + stack_size k
     operated_falls operation args k l = operator_falls s (builtin_of operation.token args) (call_of operation args) k l
 
     and_next_falls : (holds : Bool) (parts : List Expr) (k : List (Frame H)) (l : Local H) →
@@ -348,7 +354,7 @@ module _ {H : Type 0} where
     up_falls (Top map_exit) v k l = omega arith
     up_falls (UnaryOperand operation operand_at) v k l = grind (
       arith,
-      on_falls (flat l.around.cells v operand_at) (λ x. operated s operation (x ∷ []) k l) k l
+      on_falls (flat l.around.cells v operand_at) (λ x. operands_there s operation (x ∷ []) k l) k l
           (λ x. operated_falls operation (x ∷ []) k l),
     )
     up_falls (LeftOperand operation left_at right) v k l = grind (
@@ -358,7 +364,7 @@ module _ {H : Type 0} where
     )
     up_falls (RightOperand operation left right_at) v k l = grind (
       arith,
-      on_falls (flat l.around.cells v right_at) (λ y. operated s operation (left ∷ y ∷ []) k l) k l
+      on_falls (flat l.around.cells v right_at) (λ y. operands_there s operation (left ∷ y ∷ []) k l) k l
           (λ y. operated_falls operation (left ∷ y ∷ []) k l),
     )
     up_falls (CallArgument purpose made argument_at rest) v k l = on_below (taken (flattens purpose) l.around.cells v argument_at)
@@ -412,7 +418,8 @@ module _ {H : Type 0} where
         )
     up_falls (DoBody test body options) v k l = omega arith
     up_falls (SwitchValue value_at choice) v k l = on_below (flat l.around.cells v value_at)
-        (λ x. core (Choose (candidates choice x) (default_of choice)) k l) k l (8 + (all_numbers choice.cases choice.ranges + 4 + stack_size k))
+        (λ x. core (Choose (candidates choice x) (default_of choice)) k l) k l (8 +
+        (all_numbers choice.cases choice.ranges + 4 + stack_size k))
         (omega arith) (λ x. omega (arith, candidates_size choice x))
     up_falls (SwitchCondition candidate rest default) v k l = on_below
         (truth s.host_type l.around.cells v (position_of candidate.condition)) (λ holds. met_core holds candidate rest default k l) k l
@@ -440,7 +447,7 @@ module _ {H : Type 0} where
     up_falls (PartMethod above spot at) v k l = omega arith
     up_falls (PartAssigned above spot at) v k l =
         omega (arith, part_assigned_falls s (put_back above spot (focus_of l)) above spot at k l)
-    up_falls (Measured at) v k l = on_below (sized s.limits (looked_at l.around.cells (focus_of l)) at) _ k l (8 + (4 + stack_size k))
+    up_falls (Measured at) v k l = on_below (sized s.limits (as_measured l.around.cells (focus_of l)) at) _ k l (8 + (4 + stack_size k))
         (omega arith) (λ x. omega arith)
     up_falls (MethodLink chain) v k l = omega arith
     up_falls (MemberLink access chain) v k l = omega arith
@@ -463,7 +470,7 @@ module _ {H : Type 0} where
     down_falls (IfCondition test_at body branch) e k l = omega arith
     down_falls (RestOfList rest restoring) e k l = omega arith
     down_falls (RestoreList saved) e k l = omega arith
-    down_falls (Top map_exit) e k l = result_falls (topped map_exit e) (11 + (4 + stack_size k)) (stack_size k) (omega arith)
+    down_falls (Top map_exit) e k l = result_falls (script_ended map_exit e) (11 + (4 + stack_size k)) (stack_size k) (omega arith)
     down_falls (UnaryOperand operation operand_at) e k l = omega arith
     down_falls (LeftOperand operation left_at right) e k l = omega arith
     down_falls (RightOperand operation left right_at) e k l = omega arith
@@ -514,18 +521,18 @@ module _ {H : Type 0} where
     down_falls (MemberOperated access above at) e k l = omega arith
     down_falls (MemberSet value) e k l = omega arith
 
-    -- a mark goes on below a frame, or is forgotten
-    marked_falls : (frame : Frame H) (v : Dynamic H) (k : List (Frame H)) (l : Local H) →
-        size (marked_core s frame v k l) < 9 + stack_size (frame ∷ k)
-    marked_falls (StepDown above step) v k l = omega arith
-    marked_falls (Temporary above back) v k l =
+    -- a change goes on below a frame, or is forgotten
+    changed_up_falls : (frame : Frame H) (v : Dynamic H) (k : List (Frame H)) (l : Local H) →
+        size (changed_up_core s frame v k l) < 9 + stack_size (frame ∷ k)
+    changed_up_falls (StepDown above step) v k l = omega arith
+    changed_up_falls (Temporary above back) v k l =
         omega (arith, temporary_falls s back (focus_of l) v k (focused_on above l))
-    marked_falls (PartMethod above spot at) v k l =
+    changed_up_falls (PartMethod above spot at) v k l =
         omega (arith, part_changed_falls s (put_back above spot (focus_of l)) above spot at v k l)
-    marked_falls (GetterTried access name) v k l = omega arith
-    marked_falls (SetterTried access name value ignores) v k l = omega arith
-    marked_falls (IndexerTried otherwise) v k l = omega arith
-    marked_falls frame v k l = omega arith
+    changed_up_falls (GetterTried access name) v k l = omega arith
+    changed_up_falls (SetterTried access name value ignores) v k l = omega arith
+    changed_up_falls (IndexerTried otherwise) v k l = omega arith
+    changed_up_falls frame v k l = omega arith
 
     control_falls : (c : Control H) (k : List (Frame H)) (l : Local H) → Falls size (core c k l) (move_at s c k l)
     control_falls (Eval e) k l = tt
@@ -563,7 +570,7 @@ module _ {H : Type 0} where
     control_falls (Walk chain) k l = walk_falls s (link_of chain.rest) chain k l (within chain.rest)
     control_falls (Locate link chain) k l = omega (arith, locate_falls s link chain k l)
     control_falls (Changed v) [] l = omega arith
-    control_falls (Changed v) (frame ∷ k) l = marked_falls frame v k l
+    control_falls (Changed v) (frame ∷ k) l = changed_up_falls frame v k l
     control_falls (Back v) [] l = tt
     control_falls (Back v) (frame ∷ k) l = up_falls frame v k l
     control_falls (Fail e) [] l = tt

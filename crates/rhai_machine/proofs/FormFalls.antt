@@ -1,7 +1,8 @@
 -- Each move of a `switch`, a `for`, a `try` and of shared variables makes a core smaller.
 use Rattle.std.proofs.Common.{arith}
 use Rattle.std.proofs.lemmas.List.{length-append}
-use Rattle.std.specs.Prelude.{◌≡◌, ◌<◌, ◌≤◌, ℕ, ℤ, ◌+◌, nat_le, length, Bool, true, false, List, [], ◌∷◌, ◌++◌, Option, Some, None, slice_get}
+use Rattle.std.specs.Prelude.{◌≡◌, ◌<◌, ◌≤◌, ℕ, ℤ, ◌+◌, nat_le, length, Bool, true, false, List, [], ◌∷◌, ◌++◌, Option, Some, None}
+use Rattle.std.specs.Prelude.{slice_get}
 use Rattle.std.specs.Prelude.{if◌then◌else◌, ◌^◌}
 use Rattle.rhai_tree.specs.declared.expr.ConditionalExpr.{ConditionalExpr}
 use Rattle.rhai_tree.specs.declared.expr.Expr.{Expr, out-Expr}
@@ -23,12 +24,14 @@ use Rattle.rhai_machine.specs.machine.Settling.{Falls}
 use Rattle.rhai_machine.specs.language.Setting.{Setting}
 use Rattle.rhai_machine.specs.language.State.{Local}
 use Rattle.rhai_machine.specs.language.Values.{flat}
-use Rattle.rhai_machine.specs.language.Cases.{Cases, is_within, number_of, in_ranges, by_ranges, by_cases, if_hashable, numbers_for, with_result}
+use Rattle.rhai_machine.specs.language.Cases.{Cases, is_within, number_of, in_ranges, by_ranges, by_cases, if_hashable, numbers_for}
+use Rattle.rhai_machine.specs.language.Cases.{with_result}
 use Rattle.rhai_machine.specs.language.Cases.{results_of, candidates}
 use Rattle.rhai_machine.specs.language.Turns.{ForLoop, Turns}
 use Rattle.rhai_machine.specs.language.Frames.{Frame, Core, core, Enter, ForTurn, ForItem}
 use Rattle.rhai_machine.specs.language.Choices.{truth_literal, met_core, tested_core, choose_core}
-use Rattle.rhai_machine.specs.language.Walks.{counters, for_core, started_core, place_of_entry, counted_core, turn_core, for_move, entered_core}
+use Rattle.rhai_machine.specs.language.Walks.{counters, for_core, started_core, place_of_entry, counted_core, turn_core, for_move}
+use Rattle.rhai_machine.specs.language.Walks.{entered_core}
 use Rattle.rhai_machine.specs.language.Walks.{item_core}
 use Rattle.rhai_machine.specs.language.Caught.{caught_value, thrown}
 use Rattle.rhai_machine.specs.language.Tries.{branch_with, branch_core, tried_core}
@@ -166,7 +169,8 @@ module _ {H : Type 0} where
     branch_falls (Some variable) caught branch k l = branch_with_falls (nat_le s.limits.max_variables (length l.scope)) variable
         (caught_value (thrown caught) l.around.source caught) caught branch k l
 
-    pub tried_falls : (catches : Bool) (variable : Option Ident) (e : EvalAltResult H) (branch : StmtBlock) (k : List (Frame H)) (l : Local H)
+    pub tried_falls : (catches : Bool) (variable : Option Ident) (e : EvalAltResult H) (branch : StmtBlock) (k : List
+        (Frame H)) (l : Local H)
         → size (tried_core s catches variable e branch k l) ≤ 11 + stack_size k
     tried_falls true variable e branch k l = branch_falls variable e branch k l
     tried_falls false variable e branch k l = omega arith

@@ -39,7 +39,8 @@ module _ {H : Type 0} where
   at_entry (Err e) index i v is = cc
 
   entry_is : (cells : Cells H) (name : List ℕ) (at : Position) (index : Option ℕ) (there : Option (Dynamic H))
-      (r : Result (Dynamic H) (EvalAltResult H)) (i : ℕ) (v : Dynamic H) → entry_or cells name at index there (temporary r) ≡ Ok (AtEntry i v) →
+      (r : Result (Dynamic H) (EvalAltResult H)) (i : ℕ) (v : Dynamic H) →
+      entry_or cells name at index there (temporary r) ≡ Ok (AtEntry i v) →
       (index ≡ Some i) × (there ≡ Some v)
   entry_is cells name at (Some index) (Some w) r i v is =
       let parts = at_entry (looked_up cells name at w.value w) index i v is in

@@ -21,7 +21,7 @@ use Rattle.rhai_machine.specs.language.Setting.{Setting}
 use Rattle.rhai_machine.specs.language.State.{Local}
 use Rattle.rhai_machine.specs.language.Values.{through, through_union, used}
 use Rattle.rhai_machine.specs.language.Functions.{Function}
-use Rattle.rhai_machine.specs.language.Activations.{Object, NoObject, TheFocus}
+use Rattle.rhai_machine.specs.language.Activations.{ThisFrom, NoThis, TheFocus}
 use Rattle.rhai_machine.specs.language.Frames.{Operation, Dispatch, Call, Frame, Core, core, on_value, Ask, EnterFunction, EnterOnFocus}
 use Rattle.rhai_machine.specs.language.Frames.{Question, Back, Fail, StepDown}
 use Rattle.rhai_machine.specs.language.Handles.{entered_by, focus_of}
@@ -31,7 +31,8 @@ use Rattle.rhai_machine.specs.language.Calls.{called_function, found_core, named
 use Rattle.rhai_machine.specs.language.Arguments.{operation_named, pointer_wanted, numbered_core, linked_core, linked_to, natives_alone}
 use Rattle.rhai_machine.specs.language.Methods.{Method, MethodWord, CallWord, CurryWord, SharedWord, PlainWord, word_of, argument_at}
 use Rattle.rhai_machine.specs.language.Methods.{as_method, on_focus, copied_before, own_entry, numbered_on}
-use Rattle.rhai_machine.specs.language.Methods.{unlinked_on, pointer_on, unlinked_alone, pointer_alone, call_argument, call_core, curry_core, entry_core}
+use Rattle.rhai_machine.specs.language.Methods.{unlinked_on, pointer_on, unlinked_alone, pointer_alone, call_argument, call_core}
+use Rattle.rhai_machine.specs.language.Methods.{curry_core, entry_core}
 use Rattle.rhai_machine.specs.language.Methods.{word_core, method_core}
 
 module _ {H : Type 0} where
@@ -57,7 +58,7 @@ pub record Dispatched {H : Type 0} (of_method : Bool) (k : List (Frame H)) (l : 
   pub fails : (e : EvalAltResult H) → R (core (Fail e) k l)
   pub backs : (v : Dynamic H) → R (core (Back v) k l)
   pub asks : (call : Call H) → R (core (Ask call) k l)
-  pub enters : (f : Function H) (object : Object) (is_fresh : Bool) (args : List (Dynamic H)) (at : Position) →
+  pub enters : (f : Function H) (object : ThisFrom) (is_fresh : Bool) (args : List (Dynamic H)) (at : Position) →
       R (core (EnterFunction (entry_of f object is_fresh args at l)) k l)
   pub on_focus : of_method ≡ true → (f : Function H) (is_fresh : Bool) (args : List (Dynamic H)) (at : Position) →
       R (core (EnterOnFocus f is_fresh args at) k l)
@@ -75,7 +76,8 @@ pub record Focused {H : Type 0} (k : List (Frame H)) (l : Local H) (R : Core H �
   pub fails_inside : (n : ℕ) (inner : Dynamic H) (e : EvalAltResult H) → IsFree n l →
       R (core (Fail e) (frames_inside n k l) (inside n inner l))
   pub enters_inside : (n : ℕ) (inner : Dynamic H) (f : Function H) (is_fresh : Bool) (args : List (Dynamic H)) (at : Position) →
-      IsFree n l → R (core (EnterFunction (entry_of f TheFocus is_fresh args at (inside n inner l))) (frames_inside n k l) (inside n inner l))
+      IsFree n l → R (core (EnterFunction (entry_of f TheFocus is_fresh args at (inside n inner l))) (frames_inside n k l)
+      (inside n inner l))
 
 module _ {H : Type 0} (k : List (Frame H)) (l : Local H) (R : Core H → Type 0) where
   if_ends : (holds : Bool) (c d : Core H) → R c → R d → R (if holds then c else d)
@@ -109,7 +111,7 @@ module _ {H : Type 0} (k : List (Frame H)) (l : Local H) (R : Core H → Type 0)
   enter_ends : (of_method : Bool) → of_method ≡ m → (f : Function H) (how : Dispatch) (call : Call H) →
       R (enter_core of_method f how call k l)
   enter_ends true is f how call = b.on_focus (sym is) f (not how.on_scope) (drop 1 call.args) call.operation.at
-  enter_ends false is f how call = b.enters f NoObject (not how.on_scope) (args_given call.lender call.args) call.operation.at
+  enter_ends false is f how call = b.enters f NoThis (not how.on_scope) (args_given call.lender call.args) call.operation.at
 
   pub linked_ends : (f : Function H) (at : Position) (args : List (Dynamic H)) → R (linked_core f at args k l)
   linked_ends f at args = if_ends k l R (races l.around.cells args) _ _ (b.fails _) (b.enters f _ true args at)
@@ -134,7 +136,7 @@ module _ {H : Type 0} (k : List (Frame H)) (l : Local H) (R : Core H → Type 0)
     behind_ends : (path : List (List ℕ)) (call : Call H) → R (dispatch_behind s path how call k l)
     behind_ends [] call = if_ends k l R (call_races how.of_method l.around.cells call.args) _ _ (b.fails _) (named_ends call.args call)
     behind_ends (root ∷ path) call = on_ends k l R (function_behind s root path how call l) _ b.fails
-        (λ f found. b.enters f NoObject (not how.on_scope) (args_given call.lender call.args) call.operation.at)
+        (λ f found. b.enters f NoThis (not how.on_scope) (args_given call.lender call.args) call.operation.at)
 
     pub dispatch_ends : (call : Call H) → R (dispatch_core s how call k l)
     dispatch_ends call = behind_ends how.path.names call

@@ -14,7 +14,8 @@ use Rattle.rhai_machine.specs.machine.Settling.{Falls}
 use Rattle.rhai_machine.specs.language.State.{Local}
 use Rattle.rhai_machine.specs.language.Frames.{Control, Frame, Core, where_there, on_value, ended, changed, Eval, Exec, Ask, Assign}
 use Rattle.rhai_machine.specs.language.Frames.{AskUpdate, Argument, CallNamed, Question, Fire, QuestionUpdate, FireUpdate, OpenExpr}
-use Rattle.rhai_machine.specs.language.Frames.{OpenStmt, Enter, Run, Store, StoreThis, WhileTurn, DoTurn, Back, Changed, Fail, StatementValue}
+use Rattle.rhai_machine.specs.language.Frames.{OpenStmt, Enter, Run, Store, StoreThis, WhileTurn, DoTurn, Back, Changed, Fail}
+use Rattle.rhai_machine.specs.language.Frames.{StatementValue}
 use Rattle.rhai_machine.specs.language.Frames.{DefineValue, IfCondition, RestOfList, RestoreList, Top, UnaryOperand, LeftOperand}
 use Rattle.rhai_machine.specs.language.Frames.{RightOperand, AndPart, OrPart, CoalescePart, AssignValue, WhileCondition, WhileBody}
 use Rattle.rhai_machine.specs.language.Frames.{DoCondition, DoBody, BreakValue, ReturnValue, ArrayItem, EntryValue, TextPart, PrintedPart}
@@ -22,7 +23,8 @@ use Rattle.rhai_machine.specs.language.Frames.{CallArgument, KeywordArgument, Pu
 use Rattle.rhai_machine.specs.language.Frames.{ReadRoot, Walk, Locate, AssignChain, AssignedChain, RootValue, ChainEnd, StepDown, Temporary}
 use Rattle.rhai_machine.specs.language.Frames.{PartMethod, PartAssigned, Measured, MethodLink, MemberLink, MemberGot, MemberOperated}
 use Rattle.rhai_machine.specs.language.Frames.{GetterTried, SetterTried, IndexerTried, MemberSet, EnterFunction, EnterOnFocus}
-use Rattle.rhai_machine.specs.language.Frames.{AssignThis, AssignThisValue, CallEnd, Choose, ForTurn, ForItem, Share, SwitchValue, SwitchCondition}
+use Rattle.rhai_machine.specs.language.Frames.{AssignThis, AssignThisValue, CallEnd, Choose, ForTurn, ForItem, Share, SwitchValue}
+use Rattle.rhai_machine.specs.language.Frames.{SwitchCondition}
 use Rattle.rhai_machine.specs.language.Frames.{ForItems, ForBody, ImportPath, RestoreScope, TryBody, CatchBranch, ThrowValue}
 use Rattle.rhai_machine.specs.language.Calls.{answered}
 use Rattle.rhai_machine.proofs.ChainLinks.{links, left_by}
@@ -165,14 +167,14 @@ module _ {H : Type 0} where
   result_falls (Ok v) n m lt = omega (arith, lt)
   result_falls (Err e) n m lt = lt
 
-  pub mark_falls : (r : Result (Dynamic H) (EvalAltResult H)) (n m : ℕ) → 11 + m < n → control_size (changed r) + m < n
-  mark_falls (Ok v) n m lt = omega (arith, lt)
-  mark_falls (Err e) n m lt = lt
+  pub purity_falls : (r : Result (Dynamic H) (EvalAltResult H)) (n m : ℕ) → 11 + m < n → control_size (changed r) + m < n
+  purity_falls (Ok v) n m lt = omega (arith, lt)
+  purity_falls (Err e) n m lt = lt
 
   pub reply_falls : (marks : Bool) (reply : Reply H) (r : Result (Dynamic H) (EvalAltResult H)) (n m : ℕ) → 11 + m < n →
       control_size (answered marks reply r) + m < n
   reply_falls false reply r n m lt = result_falls r n m lt
-  reply_falls true (Gives v) r n m lt = mark_falls r n m lt
+  reply_falls true (Gives v) r n m lt = purity_falls r n m lt
   reply_falls true Missing r n m lt = result_falls r n m lt
   reply_falls true (Faults e) r n m lt = result_falls r n m lt
 

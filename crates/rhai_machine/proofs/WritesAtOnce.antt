@@ -237,9 +237,9 @@ module _ {S H : Type 0} (rules : Rules S H) where
   unfolding after
   value_goes_up v above step below k s = next here
 
-  marked_goes_up : (v : Dynamic H) → GoesUp (Changed v)
+  changed_goes_up : (v : Dynamic H) → GoesUp (Changed v)
   unfolding after
-  marked_goes_up v above step below k s = next here
+  changed_goes_up v above step below k s = next here
 
   error_goes_up : (e : EvalAltResult H) → GoesUp (Fail e)
   unfolding after
@@ -261,10 +261,10 @@ module _ {S H : Type 0} (rules : Rules S H) where
   value_ends v root path w lender outer k s simple =
       writes_at_once (Back v) (value_goes_up v) root path w (ChainEnd lender outer ∷ k) s simple ⨾ next here
 
-  marked_ends : (v : Dynamic H) → EndsWritten rules (Changed v) (Back v)
+  changed_end_writes : (v : Dynamic H) → EndsWritten rules (Changed v) (Back v)
   unfolding after
-  marked_ends v root path w lender outer k s simple =
-      writes_at_once (Changed v) (marked_goes_up v) root path w (ChainEnd lender outer ∷ k) s simple ⨾ next (next here)
+  changed_end_writes v root path w lender outer k s simple =
+      writes_at_once (Changed v) (changed_goes_up v) root path w (ChainEnd lender outer ∷ k) s simple ⨾ next (next here)
 
   error_ends : (e : EvalAltResult H) → EndsWritten rules (Fail e) (Fail e)
   unfolding after
@@ -278,9 +278,9 @@ module _ {S H : Type 0} (rules : Rules S H) where
     enters_place = enters_place;
     enters_cell = enters_cell;
     by_value = λ v. writes_at_once (Back v) (value_goes_up v);
-    by_marked = λ v. writes_at_once (Changed v) (marked_goes_up v);
+    by_changed = λ v. writes_at_once (Changed v) (changed_goes_up v);
     by_error = λ e. writes_at_once (Fail e) (error_goes_up e);
     ends_by_value = value_ends;
-    ends_by_marked = marked_ends;
+    ends_by_changed = changed_end_writes;
     ends_by_error = error_ends;
   }

@@ -1,4 +1,4 @@
--- The types that the definitions here speak of, from one place.
+-- The types that the definitions here speak of, gathered in one file.
 pub use Rattle.rhai_state.specs.declared.error.EvalAltResult.{EvalAltResult}
 pub use Rattle.rhai_state.specs.declared.limits.Limits.{Limits}
 pub use Rattle.rhai_state.specs.declared.scope.ScopeEntry.{ScopeEntry}

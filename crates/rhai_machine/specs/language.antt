@@ -1,3 +1,4 @@
+-- The language: what is fixed and what a run changes, controls and frames, the rules of each form, and what holds of every run.
 pub mod Setting
 pub mod State
 pub mod Values

@@ -12,7 +12,8 @@ use Rattle.rhai_values.specs.declared.base.value.Union.TheVariants as kind
 use Rattle.rhai_values.specs.Copy.{plain}
 use Rattle.rhai_values.proofs.CopyLemmas.{copy-pointer, copy-FnPtr}
 use Rattle.rhai_machine.specs.machine.Machine.{Config}
-use Rattle.rhai_machine.specs.language.Frames.{FromEntry, Call, Frame, Core, core, Fire, Back, StatementValue, RestOfList, KeywordArgument, Top}
+use Rattle.rhai_machine.specs.language.Frames.{FromEntry, Call, Frame, Core, core, Fire, Back, StatementValue, RestOfList, KeywordArgument}
+use Rattle.rhai_machine.specs.language.Frames.{Top}
 use Rattle.rhai_machine.specs.language.Frames.{CallPointer, Curry}
 use Rattle.rhai_machine.specs.language.Calls.{call_at, call_of}
 use Rattle.rhai_machine.specs.language.Arguments.{operation_named, pointer_named}
@@ -85,7 +86,8 @@ module _ {S H : Type 0} (table : Table S H) (host : H → List ℕ) where
     held = by_steps _ _ 40 (simp forms) refl;
     unknown = by_steps _ _ 40 (simp forms) refl;
     cut = by_steps _ _ 40 (simp forms) refl;
-    missing = λ replies. stretch _ _ 11 _ (fires (codes "nope") (integer 1 ∷ []) 4) (simp forms) (by_steps _ _ 9 (simp (replies, forms)) refl);
+    missing = λ replies. stretch _ _ 11 _ (fires (codes "nope") (integer 1 ∷ []) 4) (simp forms) (by_steps _ _ 9
+        (simp (replies, forms)) refl);
     no_arguments = λ replies. by_steps _ _ 40 (simp (replies, forms)) refl;
     slow = λ replies. stretch _ _ 13 _ sum_fires (simp opened) (by_steps _ _ 9 (simp replies) refl);
   }

@@ -8,7 +8,7 @@ use Rattle.rhai_values.specs.declared.base.value.ModuleFn.{out-roll-ModuleFn}
 use Rattle.rhai_values.specs.declared.base.value.Union.TheVariants as kind
 use Rattle.rhai_values.proofs.CopyLemmas.{copy-pointer, copy-FnPtr}
 use Rattle.rhai_machine_samples.specs.Runs.{Table}
-use Rattle.rhai_machine_samples.specs.Functions.{Objects, Constants}
+use Rattle.rhai_machine_samples.specs.Functions.{ThisSamples, Constants}
 use Rattle.rhai_machine_samples.proofs.SampleRuns.{opened, placed, measured, by_steps}
 
 -- what a library has
@@ -28,7 +28,7 @@ ruleset pointing = (running, kind.outs-FnPtr, out-roll-FnPtr, copy-FnPtr, copy-p
 ruleset changing = (running, placed, measured, kind.outs-Int)
 
 module _ {S H : Type 0} (table : Table S H) (host : H → List ℕ) where
-  pub objects : Objects table host
+  pub objects : ThisSamples table host
   objects = record {
     read = by_steps _ _ 20 (simp running) refl;
     assigned = by_steps _ _ 20 (simp running) refl;

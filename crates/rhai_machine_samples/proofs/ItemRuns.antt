@@ -22,7 +22,8 @@ use Rattle.rhai_machine_samples.specs.Entries.{entry_named, inner_entry, safe_en
 use Rattle.rhai_machine_samples.specs.Items.{fixed_array, index, array, first_of_handle}
 use Rattle.rhai_machine_samples.specs.Entries.{fixed_map, k_map}
 use Rattle.rhai_machine_samples.proofs.SampleRuns.{by_steps, stretch}
-use Rattle.rhai_machine_samples.proofs.ChainRuns.{chained, asks, reads, sets, walks_in, standing_at, on_its_way, new_at, below, assigned, focused}
+use Rattle.rhai_machine_samples.proofs.ChainRuns.{chained, asks, reads, sets, walks_in, standing_at, on_its_way, new_at, below, assigned}
+use Rattle.rhai_machine_samples.proofs.ChainRuns.{focused}
 
 module _ {S H : Type 0} (table : Table S H) (host : H → List ℕ) where
   -- the chain `a[0][1]` has its first index

@@ -18,7 +18,8 @@ use Rattle.rhai_machine_samples.specs.Members.{Members, SetBack, Guards, Indexer
 use Rattle.rhai_machine_samples.specs.Members.{set_q}
 use Rattle.rhai_machine_samples.specs.Members.{get_first, of_missing, set_k, set_q_of}
 use Rattle.rhai_machine_samples.proofs.SampleRuns.{by_steps, stretch}
-use Rattle.rhai_machine_samples.proofs.ChainRuns.{chained, asks, reads, sets, new_at, below, assigned, on_x, on_its_way, standing_at, focused}
+use Rattle.rhai_machine_samples.proofs.ChainRuns.{chained, asks, reads, sets, new_at, below, assigned, on_x, on_its_way, standing_at}
+use Rattle.rhai_machine_samples.proofs.ChainRuns.{focused}
 
 module _ {S H : Type 0} (table : Table S H) (host : H → List ℕ) where
   -- how the properties and the item are got and set
@@ -94,7 +95,7 @@ module _ {S H : Type 0} (table : Table S H) (host : H → List ℕ) where
         (stretch _ _ 6 _ (q_walks (integer 7)) (simp (gets, chained))
         (stretch _ _ 4 _ (q_done (Changed unit)) (simp (q_impure, sets_q, chained))
         (by_steps _ _ 20 (simp (p_impure, sets_p, chained)) refl)));
-    unmarked = λ gets q_pure sets_q. stretch _ _ 12 _ (sets table (codes "x") (integer 1) q_of_p (new_at 7 None (integer 5)) [] 5)
+    after_pure = λ gets q_pure sets_q. stretch _ _ 12 _ (sets table (codes "x") (integer 1) q_of_p (new_at 7 None (integer 5)) [] 5)
         (simp chained)
         (stretch _ _ 6 _ (q_walks (integer 7)) (simp (gets, chained))
         (by_steps _ _ 20 (simp (q_pure, sets_q, chained)) refl));

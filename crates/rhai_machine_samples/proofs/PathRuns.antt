@@ -39,13 +39,13 @@ def_of_shown H def = ap (λ f. f.def) (out-roll-ModuleFn H _)
 
 -- the array of the module, as a path reads it
 module _ {H : Type 0} where
-  abbrev marked : Union H → Dynamic H
-  marked value = record { value = value; mode = ReadOnly }
+  abbrev read_only : Union H → Dynamic H
+  read_only value = record { value = value; mode = ReadOnly }
 
   fixed_by_path : with_mode ReadOnly (copy_of (plain {H = H} (Array (integer 1 ∷ [])))) ≡ fixed_array {H = H}
   fixed_by_path =
-      ap (λ u. marked (union_with_mode ReadOnly u)) (copy-Array (integer {H = H} 1 ∷ [])) ∙
-      ap marked (mode-Array ReadOnly (integer {H = H} 1 ∷ []))
+      ap (λ u. read_only (union_with_mode ReadOnly u)) (copy-Array (integer {H = H} 1 ∷ [])) ∙
+      ap read_only (mode-Array ReadOnly (integer {H = H} 1 ∷ []))
 
 -- what a path leads to
 ruleset led = (opened, out-roll-Import, out-roll-Module, out-roll-ModuleFn)

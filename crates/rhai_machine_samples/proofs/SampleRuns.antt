@@ -107,7 +107,7 @@ module _ {S H : Type 0} (table : Table S H) (host : H → List ℕ) where
     different = by_steps _ _ 30 (simp opened) refl;
   }
 
-  -- the places where the statements of `scopes` begin, over the variable that they leave
+  -- where the statements of `scopes` begin, over the variable that they leave
   abbrev with_x : List (ScopeEntry H)
   with_x = entry (codes "x") (integer 40) ∷ []
 

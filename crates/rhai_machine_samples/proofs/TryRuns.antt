@@ -12,7 +12,8 @@ use Rattle.rhai_machine.specs.Types.{Dynamic, EvalAltResult, ScopeEntry}
 use Rattle.rhai_machine.specs.machine.Machine.{Config}
 use Rattle.rhai_machine.specs.language.State.{Local}
 use Rattle.rhai_machine.specs.language.Variables.{no_path}
-use Rattle.rhai_machine.specs.language.Frames.{Control, Frame, Core, core, Assign, Enter, RestoreList, Fail, RestOfList, Top, TryBody, CatchBranch, RestoreScope}
+use Rattle.rhai_machine.specs.language.Frames.{Control, Frame, Core, core, Assign, Enter, RestoreList, Fail, RestOfList, Top, TryBody}
+use Rattle.rhai_machine.specs.language.Frames.{CatchBranch, RestoreScope}
 use Rattle.rhai_machine_samples.specs.Trees.{braces, column, loop_, var, value}
 use Rattle.rhai_machine_samples.specs.Runs.{Table, entry, integer, nothing_but, unit}
 use Rattle.rhai_machine_samples.specs.Data.{word}
@@ -73,7 +74,16 @@ module _ {S H : Type 0} (table : Table S H) (host : H → List ℕ) where
   map_assigned caught below source v count =
       let l : Local H = nothing_but (entry (codes "r") unit ∷ entry (codes "e") v ∷ []) in
       record {
-        core = core (Assign (record { path = no_path; name = codes "r"; at = column 26; op = record { op = None; position = column 28 } }) v)
+        core = core (Assign (record {
+          path = no_path;
+          name = codes "r";
+          at = column 26;
+          op = record {
+            op = None;
+            position =
+                column 28;
+          };
+        }) v)
             (RestOfList [] true ∷ RestoreList (record { scope_length = 2; imports_length = 0; scope_level = 0 }) ∷ CatchBranch caught
             ∷ RestoreScope 1 ∷ below)
             (record l { scope_level = 1; around = record l.around { source = source } });
@@ -123,7 +133,8 @@ module _ {S H : Type 0} (table : Table S H) (host : H → List ℕ) where
     value = by_steps _ _ 40 (simp trying) refl;
     map_of_error = stretch _ _ 13 _ (nope_raised None) (simp catching)
         (stretch _ _ 1 _ (nope_caught None (nope_map table host [] [])) (simp (trying, mode-Map))
-        (stretch _ _ 7 _ (map_assigned unknown script_end None (nope_map table host [] []) 5) (simp mapping) (by_steps _ _ 20 (simp mapping) refl)));
+        (stretch _ _ 7 _ (map_assigned unknown script_end None (nope_map table host [] []) 5) (simp mapping) (by_steps _ _ 20
+        (simp mapping) refl)));
     with_a_source = stretch _ _ 13 _ (nope_raised (Some (codes "s"))) (simp catching)
         (stretch _ _ 1 _ (nope_caught (Some (codes "s")) (nope_map table host (codes "source" ∷ []) (word (codes "s") ∷ [])))
         (simp (trying, mode-Map))

@@ -112,7 +112,8 @@ module _ {S H : Type 0} (table : Table S H) (host : H → List ℕ) where
         (turn_over (kind.Str (codes "ab")) keeps_body (OfItems (plain (kind.Char 97) ∷ plain (kind.Char 98) ∷ [])) 0 unit unit 2)
         (simp walking)
         (stretch _ _ 15 _
-        (turn_over (kind.Str (codes "ab")) keeps_body (OfItems (plain (kind.Char 98) ∷ [])) 1 (plain (kind.Char 97)) (plain (kind.Char 97)) 5)
+        (turn_over (kind.Str (codes "ab")) keeps_body (OfItems (plain (kind.Char 98) ∷ [])) 1 (plain (kind.Char 97)) (plain
+        (kind.Char 97)) 5)
         (simp walking)
         (stretch _ _ 15 _ (turn_over (kind.Str (codes "ab")) keeps_body (OfItems []) 2 (plain (kind.Char 98)) (plain (kind.Char 98)) 8)
         (simp walking) (by_steps _ _ 10 refl refl)));
@@ -123,11 +124,13 @@ module _ {S H : Type 0} (table : Table S H) (host : H → List ℕ) where
         (stretch _ _ 15 _ (turn_over (kind.ExclusiveRange (pos 5) (pos 7)) keeps_body (OfIntegers (pos 7) 0) 2 (integer 6) (integer 6) 8)
         (simp walking) (by_steps _ _ 10 refl refl)));
     greatest = stretch _ _ 7 _
-        (turn_over (kind.InclusiveRange (pos 9223372036854775807) (pos 9223372036854775807)) keeps_body (OfIntegers (pos 9223372036854775807) 1)
+        (turn_over (kind.InclusiveRange (pos 9223372036854775807) (pos 9223372036854775807)) keeps_body (OfIntegers
+        (pos 9223372036854775807) 1)
         0 unit unit 2)
         (simp walking)
         (stretch _ _ 15 _
-        (turn_over (kind.InclusiveRange (pos 9223372036854775807) (pos 9223372036854775807)) keeps_body (OfIntegers (pos 9223372036854775808) 0)
+        (turn_over (kind.InclusiveRange (pos 9223372036854775807) (pos 9223372036854775807)) keeps_body (OfIntegers
+        (pos 9223372036854775808) 0)
         1 (integer 9223372036854775807) (integer 9223372036854775807) 5)
         (simp walking) (by_steps _ _ 10 refl refl));
     no_integers = by_steps _ _ 30 (simp walking) refl;
@@ -148,7 +151,8 @@ module _ {S H : Type 0} (table : Table S H) (host : H → List ℕ) where
     breaks = by_steps _ _ 40 (simp walking) refl;
     continues = by_steps _ _ 50 (simp walking) refl;
     through_try = stretch _ _ 7 _ (turn_over (two_items table host) continuing_try left_of_two 0 unit unit 2) (simp walking)
-        (stretch _ _ 16 _ (turn_over (two_items table host) continuing_try last_item 1 unit (integer 7) 4) (simp (walking, stmt.outs-TryCatch))
+        (stretch _ _ 16 _ (turn_over (two_items table host) continuing_try last_item 1 unit (integer 7) 4) (simp
+        (walking, stmt.outs-TryCatch))
         (stretch _ _ 16 _ (turn_over (two_items table host) continuing_try (OfItems []) 2 unit (integer 8) 6)
         (simp (walking, stmt.outs-TryCatch)) (by_steps _ _ 10 refl refl)));
     through_switch = stretch _ _ 7 _ (turn_over (two_items table host) breaking_switch left_of_two 0 unit unit 2) (simp walking)

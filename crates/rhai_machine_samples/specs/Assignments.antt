@@ -56,7 +56,7 @@ through_handle = assign 3 (Some Plus) (var 1 (codes "h")) (int 6 2) ∷ []
 abbrev pub lends_cell : List Stmt
 lends_cell = assign 3 (Some Plus) (var 1 (codes "h")) (bool 6 true) ∷ []
 
--- the call of a native by it, while the cell is held
+-- the call of a native by `lends_cell`, while the cell is held
 abbrev pub lent_called : {H : Type 0} → Request H
 lent_called = request (None ∷ []) (Named (codes "+=")) (Some (integer 5)) (truth true ∷ []) (column 3)
 
@@ -68,12 +68,12 @@ mixed_update = let_ 1 (codes "x") (int 9 1) ∷ assign 14 (Some Plus) (var 12 (c
 abbrev pub plain_update : List Stmt
 plain_update = let_ 1 (codes "x") (int 9 1) ∷ assign 14 (Some Plus) (var 12 (codes "x")) (int 17 2) ∷ []
 
--- the call of a native by such an update
+-- the call of a native of this name by `mixed_update` or `plain_update`
 abbrev pub update_called : {H : Type 0} → List ℕ → Dynamic H → Request H
 update_called name operand = request [] (Named name) (Some (integer 1)) (operand ∷ []) (column 14)
 
 module _ {S H : Type 0} (table : Table S H) (host : H → List ℕ) where
-  -- the usual setting where built-ins are no quicker than table
+  -- the usual setting without fast operators
   abbrev pub slow_operators : Setting H
   slow_operators = record (usual host) { offer = record (usual host).offer { fast_operators = false } }
 
@@ -82,6 +82,7 @@ module _ {S H : Type 0} (table : Table S H) (host : H → List ℕ) where
   Changes before script result count after = Ends table (usual host) (one_cell table host before []) script result count
       (one_cell table host after [])
 
+  -- assignments to a variable, and what refuses one
   pub record Assignments : Type 0 where
     -- the statement is charged, then its value, then the variable
     pub plain : Returns table (usual host) assigned (integer 2) 7 (entry (codes "x") (integer 2) ∷ [])
@@ -106,6 +107,7 @@ module _ {S H : Type 0} (table : Table S H) (host : H → List ℕ) where
     pub locked : Changes (Some (fixed 5)) through_handle (Err (ErrorAssignmentToConstant (codes "h") (column 1))) 3 (Some (fixed 5))
     pub held : Changes None through_handle (Err (ErrorDataRace (codes "h") (column 1))) 3 None
 
+  -- assignments by an operator that is a native's
   pub record Updates : Type 0 where
     -- where there is neither native, two calls are charged
     pub missing : Replies table Missing → EndsFrom table 0 (usual host) mixed_update

@@ -1,4 +1,4 @@
--- Samples of table: an operator that has no built-in for its operands is a call of the native of its name.
+-- Samples of natives: an operator that has no built-in for its operands is a call of the native of its name.
 use Rattle.std.specs.Prelude.{ℕ, true, false, List, [], ◌∷◌, Some, Ok, Err, codes}
 use Rattle.rhai_tree.specs.declared.expr.Expr.TheVariants as expr
 use Rattle.rhai_machine.specs.Types.{Dynamic, Stmt}
@@ -19,7 +19,7 @@ use Rattle.rhai_machine_samples.specs.Runs.{nothing_but}
 abbrev pub mixed_sum : List Stmt
 mixed_sum = value (op 3 Plus (int 1 1 ∷ bool 5 true ∷ [])) ∷ []
 
--- the same by hand, with another name under the operator
+-- `1 + true` made by hand, with another name under the operator
 abbrev pub renamed_sum : List ℕ → List Stmt
 renamed_sum name = value (expr.FnCall (record {
   namespace = unqualified;
@@ -29,10 +29,11 @@ renamed_sum name = value (expr.FnCall (record {
   capture_parent_scope = false;
 }) (column 3)) ∷ []
 
--- its one call
+-- the one call of `renamed_sum`
 abbrev pub sum_called : {H : Type 0} → List ℕ → List (Request H)
 sum_called name = request [] (Named name) (Some (integer 1)) (truth true ∷ []) (column 3) ∷ []
 
+-- the one call of `mixed_sum`
 abbrev pub plus_called : {H : Type 0} → List (Request H)
 plus_called = sum_called (codes "+")
 
@@ -45,6 +46,7 @@ module _ {S H : Type 0} (table : Table S H) (host : H → List ℕ) where
   abbrev pub short_texts : ℕ → Setting H
   short_texts limit = record (usual host) { limits = record usual_limits { max_string_size = limit } }
 
+  -- what comes of each reply of a native
   pub record Called : Type 0 where
     -- where there is no such native the error names the operator and its operands' types
     pub missing : Replies table Missing → EndsFrom table 0 (usual host) mixed_sum

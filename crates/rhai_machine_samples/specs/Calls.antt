@@ -26,19 +26,23 @@ abbrev pub named : (captures : Bool) → List ℕ → List Expr → FnCallExpr
 named captures name args =
     record { namespace = unqualified; name = name; args = args; op_token = None; capture_parent_scope = captures }
 
+-- a call by name, at a column
 abbrev pub call : (at : ℕ) → List ℕ → List Expr → Expr
 call c name args = expr.FnCall (named false name args) (column c)
 
--- `inc(x)`, as an expression and as a statement; and `inc!(x)`
+-- the argument of `inc(x)`
 abbrev pub of_x : List Expr
 of_x = var 5 (codes "x") ∷ []
 
+-- `inc(x)`, as an expression
 abbrev pub increment : List Stmt
 increment = value (call 1 (codes "inc") of_x) ∷ []
 
+-- `inc(x)`, as a statement
 abbrev pub increments : List Stmt
 increments = stmt.FnCall (named false (codes "inc") of_x) (column 1) ∷ []
 
+-- `inc!(x)`, which captures the scope
 abbrev pub captured : List Stmt
 captured = value (expr.FnCall (named true (codes "inc") (var 6 (codes "x") ∷ [])) (column 1)) ∷ []
 
@@ -78,10 +82,11 @@ shared = value (call 1 (codes "is_shared") (var 11 (codes "h") ∷ [])) ∷ []
 abbrev pub defined : List Stmt
 defined = value (call 1 (codes "is_def_var") (text 12 (codes "x") ∷ [])) ∷ []
 
--- `Fn("1x")` and `Fn(1)`
+-- `Fn("1x")`
 abbrev pub no_name : List Stmt
 no_name = value (call 1 (codes "Fn") (text 4 (codes "1x") ∷ [])) ∷ []
 
+-- `Fn(1)`
 abbrev pub no_text : List Stmt
 no_text = value (call 1 (codes "Fn") (int 4 1 ∷ [])) ∷ []
 
@@ -103,21 +108,23 @@ abbrev pub numbered : List Stmt
 numbered = value (call 1 (codes "call") (var 6 (codes "p") ∷ var 9 (codes "h") ∷ [])) ∷ []
 
 module _ {H : Type 0} where
-  -- the calls of `inc` with a value, and of others
+  -- the call of `inc` with this value
   abbrev pub inc_called : Dynamic H → Request H
   inc_called v = request [] (Named (codes "inc")) (Some v) [] (column 1)
 
+  -- the call of `inc` with a copy of the only cell's value, while the cell is free
   abbrev pub cell_called : Request H
   cell_called = request (Some (integer 5) ∷ []) (Named (codes "inc")) (Some (integer 5)) [] (column 1)
 
+  -- the call of `f` with these arguments
   abbrev pub f_called : (first : Dynamic H) → List (Dynamic H) → Request H
   f_called first rest = request [] (Named (codes "f")) (Some first) rest (column 1)
 
-  -- the native of a number, called while its first argument's cell is held
+  -- the call of the native of the number 3, while its first argument's cell is held
   abbrev pub number_called : Request H
   number_called = request (None ∷ []) (Numbered 3) (Some (integer 5)) [] (column 1)
 
-  -- a pointer to it
+  -- a pointer to the native of the number 3
   abbrev pub number_pointer : Dynamic H
   number_pointer = plain (kind.FnPtr {X1 = H} (roll-FnPtr H (record {
     name = codes "f";
@@ -132,6 +139,7 @@ module _ {S H : Type 0} (table : Table S H) (host : H → List ℕ) where
       EndsScript table (usual host) false script 0 (nothing_but (entry (codes "x") before ∷ [])) result count
       (nothing_but (entry (codes "x") after ∷ [])) calls
 
+  -- calls by name: a variable that is lent, what a native leaves of it, and the errors of a call
   pub record Calls : Type 0 where
     -- a variable that comes first is lent: what the native leaves is the variable's value, after its fault too
     pub lent : Answers table (inc_called (integer 1)) (Gives unit) (integer 2) →
@@ -163,6 +171,7 @@ module _ {S H : Type 0} (table : Table S H) (host : H → List ℕ) where
     pub slow : Replies table Missing → EndsFrom table 0 (slow_operators table host) forty_two (Ok (integer 42)) 5 []
         (request [] (Named (codes "+")) (Some (integer 40)) (integer 2 ∷ []) (column 4) ∷ [])
 
+  -- names that are no function's
   pub record Keywords : Type 0 where
     -- some names are no native's: a value's type is told, nothing is compiled, and no script has a function
     pub type : Returns table (usual host) typed (word (codes "i64")) 3 []
@@ -177,6 +186,7 @@ module _ {S H : Type 0} (table : Table S H) (host : H → List ℕ) where
     pub no_word : Fails table (usual host) no_text
         (ErrorMismatchDataType (record { wanted = codes "string"; found = codes "i64" }) (column 4)) 3 []
 
+  -- pointers that are made and called
   pub record Pointers : Type 0 where
     -- a pointer is called by its name, after the values that it has already
     pub called : Replies table (Gives (integer 7)) →

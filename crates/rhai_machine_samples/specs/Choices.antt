@@ -35,6 +35,7 @@ abbrev pub handle_there : List Stmt
 handle_there = loop_ 1 (braces 6 22 (break_ 8 (Some (first_of 16 (var 14 (codes "h") ∷ int 19 1 ∷ []))) ∷ [])) ∷ []
 
 module _ {S H : Type 0} (table : Table S H) (host : H → List ℕ) where
+  -- the operators that stop early: `&&`, `||` and `??`
   pub record Choices : Type 0 where
     -- nothing after the part that decides is evaluated
     pub or_stops : Returns table (usual host) first_holds (truth true) 3 []

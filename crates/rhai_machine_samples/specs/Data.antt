@@ -13,6 +13,7 @@ use Rattle.rhai_machine.specs.language.Setting.{Setting}
 use Rattle.rhai_machine_samples.specs.Trees.{column, int, var, value}
 use Rattle.rhai_machine_samples.specs.Runs.{usual_limits, Table, Replies, EndsFrom, Fails, Returns, usual, integer}
 
+-- a text literal at a column
 abbrev pub text : (at : ℕ) → List ℕ → Expr
 text c bytes = expr.StringConstant bytes (column c)
 
@@ -43,6 +44,7 @@ abbrev pub printed : List Stmt
 printed = value (expr.InterpolatedString (text 2 (codes "n") ∷ int 5 1 ∷ []) (column 1)) ∷ []
 
 module _ {H : Type 0} where
+  -- a text, which may be written
   abbrev pub word : List ℕ → Dynamic H
   word bytes = plain (kind.Str bytes)
 
@@ -55,15 +57,18 @@ module _ {H : Type 0} where
   short_texts host limit = record (usual host) { limits = record usual_limits { max_string_size = limit } }
 
 module _ {S H : Type 0} (table : Table S H) (host : H → List ℕ) where
+  -- an array of literals, and one with a name that is unknown
   pub record Arrays : Type 0 where
     pub made : Returns table (usual host) three_items (plain (kind.Array (integer 1 ∷ integer 2 ∷ integer 3 ∷ []))) 5 []
     pub unknown : Fails table (usual host) unknown_item (ErrorVariableNotFound (codes "y") (column 5)) 4 []
 
+  -- a map whose keys are written in another order than they stand in
   pub record Maps : Type 0 where
     -- the entries are evaluated as they are written, and stand in the order of their keys
     pub made : Returns table (usual host) two_entries
         (plain (kind.Map (codes "a" ∷ codes "b" ∷ [], integer 1 ∷ integer 2 ∷ []))) 4 []
 
+  -- texts of parts that are joined, and of one that is printed
   pub record Texts : Type 0 where
     -- texts are joined as they are
     pub joins : Returns table (usual host) joined (word (codes "ab")) 4 []

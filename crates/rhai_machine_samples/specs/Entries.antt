@@ -14,10 +14,11 @@ use Rattle.rhai_machine_samples.specs.Runs.{unit}
 use Rattle.rhai_machine_samples.specs.Data.{text}
 use Rattle.rhai_machine_samples.specs.Items.{dot, index, property, safe_dot, Over, Reads, Refuses, Sets}
 
--- `m.k`, and `m.j`
+-- `m.k`, as an expression, with this name for `k`
 abbrev pub entry_named : List ℕ → Expr
 entry_named name = dot 2 (var 1 (codes "m")) (property 3 name)
 
+-- `m.k`, with this name for `k`
 abbrev pub entry_read : List ℕ → List Stmt
 entry_read name = value (entry_named name) ∷ []
 
@@ -25,10 +26,11 @@ entry_read name = value (entry_named name) ∷ []
 abbrev pub entry_by_text : List Stmt
 entry_by_text = value (index 2 (var 1 (codes "m")) (text 3 (codes "k"))) ∷ []
 
--- `m.k.j`
+-- `m.k.j`, as an expression
 abbrev pub inner_entry : Expr
 inner_entry = dot 2 (var 1 (codes "m")) (dot 4 (property 3 (codes "k")) (property 5 (codes "j")))
 
+-- `m.k.j`
 abbrev pub entry_of_entry : List Stmt
 entry_of_entry = value inner_entry ∷ []
 
@@ -44,13 +46,15 @@ entry_set = assign 5 None (entry_named (codes "j")) (int 7 5) ∷ []
 abbrev pub entry_raised : List Stmt
 entry_raised = assign 5 (Some Plus) (entry_named (codes "k")) (int 8 1) ∷ []
 
--- `m?.k`, and `m?.k = 5`
+-- `m?.k`, as an expression
 abbrev pub safe_entry : Expr
 safe_entry = safe_dot 2 (var 1 (codes "m")) (property 4 (codes "k"))
 
+-- `m?.k`
 abbrev pub safe_read : List Stmt
 safe_read = value safe_entry ∷ []
 
+-- `m?.k = 5`
 abbrev pub safe_set : List Stmt
 safe_set = assign 6 None safe_entry (int 8 5) ∷ []
 
@@ -59,10 +63,12 @@ module _ {H : Type 0} where
   abbrev pub k_map : Dynamic H → Dynamic H
   k_map v = plain (kind.Map (codes "k" ∷ [], v ∷ []))
 
+  -- `#{k: 1}`, of which neither the map nor its value may be written
   abbrev pub fixed_map : Dynamic H
   fixed_map = record { value = kind.Map (codes "k" ∷ [], fixed 1 ∷ []); mode = ReadOnly }
 
 module _ {S H : Type 0} (table : Table S H) (host : H → List ℕ) where
+  -- entries of maps, read and assigned to, and where a chain stops
   pub record Entries : Type 0 where
     pub read : Reads table host (codes "m") (k_map (integer 1)) (entry_read (codes "k")) (integer 1) 4
     pub by_text : Reads table host (codes "m") (k_map (integer 1)) entry_by_text (integer 1) 4

@@ -15,6 +15,7 @@ abbrev pub known_as : {H : Type 0} → ScopeEntry H → (aliases : List (List �
 known_as entry aliases = record entry { aliases = aliases }
 
 module _ {S H : Type 0} (table : Table S H) (host : H → List ℕ) where
+  -- which variable gets which alias
   pub record Exports : Type 0 where
     -- the newest variable of the name, under its own name
     pub newest : Ends table (usual host) (nothing_but (entry (codes "x") (integer 1) ∷ entry (codes "x") (integer 2) ∷ []))

@@ -44,6 +44,7 @@ module _ {S H : Type 0} (table : Table S H) (host : H → List ℕ) where
   abbrev pub EndsOver : Option (Dynamic H) → List Stmt → Result (Dynamic H) (EvalAltResult H) → (count : ℕ) → List (ScopeEntry H) → Type 0
   EndsOver cell script result count others = Ends table (usual host) (one_cell cell []) script result count (one_cell cell others)
 
+  -- a variable that is the handle of a cell, free or held
   pub record Handles : Type 0 where
     -- the value of a statement, the operands of an operator and the value of a `let` are the cell's value
     pub statement : EndsOver (Some (integer 5)) handle_alone (Ok (integer 5)) 2 []
@@ -52,5 +53,5 @@ module _ {S H : Type 0} (table : Table S H) (host : H → List ℕ) where
     pub kept : EndsOver (Some (integer 5)) handle_kept (Ok unit) 2 (entry (codes "y") (integer 5) ∷ [])
     -- a condition is looked at through its handle
     pub tested : EndsOver (Some (truth true)) handle_tested (Ok (integer 1)) 4 []
-    -- a variable whose cell is held is another's
+    -- a variable whose cell is held is a data race
     pub held : EndsOver None handle_left (Err (ErrorDataRace (codes "h") (column 1))) 3 []

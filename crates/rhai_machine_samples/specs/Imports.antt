@@ -43,11 +43,12 @@ module _ {S H : Type 0} (table : Table S H) (host : H → List ℕ) (m other : M
     offer = record ((usual host).offer) { modules = (codes "a" ∷ codes "m" ∷ [], other ∷ m ∷ []) };
   }
 
-  -- so many are loaded, and these are imported
+  -- a local state where so many modules are loaded, and these are imported
   abbrev pub importing_of : (loaded : ℕ) → List (Import H) → Local H → Local H
   importing_of loaded imports l =
       record l { around = record l.around { imports = imports; num_modules_loaded = loaded } }
 
+  -- a local state without variables where so many modules are loaded, and these are imported
   abbrev pub with_loaded : (loaded : ℕ) → List (Import H) → Local H
   with_loaded loaded imports = importing_of loaded imports (nothing_but [])
 
@@ -55,12 +56,13 @@ module _ {S H : Type 0} (table : Table S H) (host : H → List ℕ) (m other : M
   abbrev pub named : List ℕ → Import H
   named name = import_as name m
 
-  -- where so many are loaded and one is imported, under a limit of modules, a script comes to this, and leaves so many and these
+  -- where so many may be and so many are loaded, and one is imported, the script comes to this result, and leaves so many and these
   abbrev pub EndsWith : (most : ℕ) → List Stmt → (loaded : ℕ) → Result (Dynamic H) (EvalAltResult H) → (count loaded_then : ℕ) →
       List (Import H) → Type 0
   EndsWith most script loaded result count loaded_then imports =
       Ends table (offering most) (with_loaded loaded (older ∷ [])) script result count (with_loaded loaded_then imports)
 
+  -- which module is imported under which name, and how many are loaded then
   pub record Imports : Type 0 where
     -- the module under its alias, behind the others, and one more is loaded
     pub aliased : EndsWith 100 (as_n 1 ∷ []) 3 (Ok unit) 2 4 (older ∷ named (codes "n") ∷ [])

@@ -17,20 +17,23 @@ use Rattle.rhai_machine_samples.specs.Runs.{unit}
 use Rattle.rhai_machine_samples.specs.Data.{text, word, short_texts}
 use Rattle.rhai_machine_samples.specs.Handles.{handle, one_cell, EndsOver}
 
--- an index and a dot at their own columns, and a dot that stops at `()`
+-- an index at its own column
 abbrev pub index : (at : ℕ) → (left right : Expr) → Expr
 index c left right = expr.Index left right (record { 0 = 0 }) (column c)
 
+-- a dot at its own column
 abbrev pub dot : (at : ℕ) → (left right : Expr) → Expr
 dot c left right = expr.Dot left right (record { 0 = 0 }) (column c)
 
+-- a dot at its own column that stops at `()`
 abbrev pub safe_dot : (at : ℕ) → (left right : Expr) → Expr
 safe_dot c left right = expr.Dot left right (record { 0 = 1 }) (column c)
 
+-- a property at a column
 abbrev pub property : (at : ℕ) → List ℕ → Expr
 property c name = expr.Property name (column c)
 
--- `a[..]`
+-- `a[..]`, with this index
 abbrev pub item_by : Expr → Expr
 item_by at = index 2 (var 1 (codes "a")) at
 
@@ -46,13 +49,15 @@ item_of_item = item_by (index 5 (int 3 0) (int 6 1))
 abbrev pub last_item : List Stmt
 last_item = value (item_by (expr.IntegerConstant (negsuc 0) (column 3))) ∷ []
 
--- `a[a[0]]`, whose inner chain is an index by itself; and `a?[0]`
+-- the index `a[0]` of `by_own_item`
 abbrev pub own_item : Expr
 own_item = index 4 (var 3 (codes "a")) (int 5 0)
 
+-- `a[a[0]]`, whose inner chain is an index by itself
 abbrev pub by_own_item : Expr
 by_own_item = expr.Index (var 1 (codes "a")) own_item (record { 0 = 2 }) (column 2)
 
+-- `a?[0]`
 abbrev pub safe_item : Expr
 safe_item = expr.Index (var 1 (codes "a")) (int 4 0) (record { 0 = 1 }) (column 2)
 
@@ -84,7 +89,7 @@ text_set = assign 6 None (item_by (int 3 0)) (text 8 (codes "abc")) ∷ []
 abbrev pub unknown_set : List Stmt
 unknown_set = assign 6 None (index 2 (var 1 (codes "b")) (var 3 (codes "y"))) (int 8 1) ∷ []
 
--- `h[0]`, and `h[0] = 7`
+-- `h[0]`, as an expression
 abbrev pub first_of_handle : Expr
 first_of_handle = index 2 (var 1 (codes "h")) (int 3 0)
 
@@ -92,9 +97,11 @@ first_of_handle = index 2 (var 1 (codes "h")) (int 3 0)
 abbrev pub item_in_handle : Expr
 item_in_handle = index 2 (var 1 (codes "h")) (index 5 (int 3 0) (int 6 1))
 
+-- `h[0]`
 abbrev pub handle_read : List Stmt
 handle_read = value first_of_handle ∷ []
 
+-- `h[0] = 7`
 abbrev pub handle_set : List Stmt
 handle_set = assign 6 None first_of_handle (int 8 7) ∷ []
 
@@ -103,17 +110,19 @@ abbrev pub of_literal : List Stmt
 of_literal = value (index 7 (expr.Array (int 2 4 ∷ int 5 2 ∷ []) (column 1)) (int 8 1)) ∷ []
 
 module _ {H : Type 0} where
+  -- an array of these items, which may be written
   abbrev pub array : List (Dynamic H) → Dynamic H
   array items = plain (kind.Array items)
 
+  -- `[1, 2, 3]`
   abbrev pub three : Dynamic H
   three = array (integer 1 ∷ integer 2 ∷ integer 3 ∷ [])
 
-  -- `[1]` in an array
+  -- `[[1, 2]]`
   abbrev pub nested : Dynamic H
   nested = array (array (integer 1 ∷ integer 2 ∷ []) ∷ [])
 
-  -- an array that may not be changed, nor may its item
+  -- `[1]`, of which neither the array nor its item may be written
   abbrev pub fixed_array : Dynamic H
   fixed_array = record { value = kind.Array (fixed 1 ∷ []); mode = ReadOnly }
 
@@ -123,17 +132,19 @@ module _ {S H : Type 0} (table : Table S H) (host : H → List ℕ) where
   Over s name before script result count after =
       Ends table s (nothing_but (entry name before ∷ [])) script result count (nothing_but (entry name after ∷ []))
 
-  -- it returns this value, or fails with this error, and leaves the variable as it was
+  -- over this variable the script returns this value, and leaves the variable as it was
   abbrev pub Reads : List ℕ → Dynamic H → List Stmt → Dynamic H → (count : ℕ) → Type 0
   Reads name before script v count = Over (usual host) name before script (Ok v) count before
 
+  -- over this variable the script fails with this error, and leaves the variable as it was
   abbrev pub Refuses : List ℕ → Dynamic H → List Stmt → EvalAltResult H → (count : ℕ) → Type 0
   Refuses name before script e count = Over (usual host) name before script (Err e) count before
 
-  -- it assigns, and leaves the variable so
+  -- over this variable the script gives `()`, and leaves this count and the variable so
   abbrev pub Sets : List ℕ → Dynamic H → List Stmt → (count : ℕ) → Dynamic H → Type 0
   Sets name before script count after = Over (usual host) name before script (Ok unit) count after
 
+  -- items of arrays, read and assigned to
   pub record Items : Type 0 where
     -- the root and the link are charged, and a literal index is not; in a longer chain what stands behind each operator is charged, and
     -- the index too
@@ -154,7 +165,7 @@ module _ {S H : Type 0} (table : Table S H) (host : H → List ℕ) where
     pub raised : Sets (codes "a") three first_raised 4 (array (integer 2 ∷ integer 2 ∷ integer 3 ∷ []))
     -- a constant's item is refused by the name of the root, where the root starts
     pub constant : Refuses (codes "a") fixed_array first_set (ErrorAssignmentToConstant (codes "a") (column 1)) 4
-    -- a charge that is refused on the way leaves all in its place
+    -- a charge that is refused on the way leaves all as it was
     pub cut : Over (limited host 8) (codes "a") nested inner_set (Err (ErrorTooManyOperations none)) 8 nested
     -- a root that is no variable is evaluated after the arguments
     pub of_value : Returns table (usual host) of_literal (integer 2) 6 []
@@ -171,6 +182,7 @@ module _ {S H : Type 0} (table : Table S H) (host : H → List ℕ) where
   CellOver before a script result count after = Ends table (usual host) (one_cell table host before (entry (codes "a") a ∷ [])) script
       result count (one_cell table host after (entry (codes "a") a ∷ []))
 
+  -- items and roots that are handles
   pub record SharedItems : Type 0 where
     -- an item that is a handle is read and written through it
     pub item_read : CellOver (Some (integer 5)) (array (integer 1 ∷ handle ∷ [])) second_item (Ok (integer 5)) 4 (Some (integer 5))
@@ -183,7 +195,7 @@ module _ {S H : Type 0} (table : Table S H) (host : H → List ℕ) where
     -- the cell of the root is held meanwhile, so an item that is its handle is not assigned to
     pub own_handle : Ends table (usual host) (one_cell table host (Some (array (handle ∷ []))) []) handle_set
         (Err (ErrorDataRace [] (column 1))) 4 (one_cell table host (Some (array (handle ∷ []))) [])
-    -- a held cell is another's
+    -- a held cell is a data race
     pub held : EndsOver table host None handle_read (Err (ErrorDataRace (codes "h") (column 1))) 3 []
     pub item_held : CellOver None (array (integer 1 ∷ handle ∷ [])) second_item (Err (ErrorDataRace [] (column 2))) 4 None
     -- a chain goes on through an item's handle, and is refused at the operator behind it where the cell is held

@@ -6,6 +6,7 @@ use Rattle.rhai_machine_samples.specs.Runs.{Table, EndsFrom, usual, limited, int
 use Rattle.rhai_machine_samples.specs.Operators.{forty_two}
 
 module _ {S H : Type 0} (table : Table S H) (host : H → List ℕ) where
+  -- the count and the limit that a script starts with
   pub record Limits : Type 0 where
     -- a script whose count is at the limit is refused its first charge
     pub first : EndsFrom table 3 (limited host 3) forty_two (Err (ErrorTooManyOperations (column 1))) 3 [] []

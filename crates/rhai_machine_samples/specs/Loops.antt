@@ -8,17 +8,19 @@ use Rattle.rhai_machine_samples.specs.Trees.{do_while, do_until, break_, continu
 use Rattle.rhai_machine_samples.specs.Runs.{Table, Returns, Fails, Ends, usual, limited, integer, unit, entry, nothing_but}
 use Rattle.rhai_machine_samples.specs.Handles.{one_cell, handle}
 
--- `let n = 0; while n < 3 { n += 1; } n`
+-- the condition `n < 3` of `counted`
 abbrev pub counted_test : Expr
 counted_test = op 20 LessThan (var 18 (codes "n") ∷ int 22 3 ∷ [])
 
+-- the body `{ n += 1; }` of `counted`
 abbrev pub counted_body : StmtBlock
 counted_body = braces 24 34 (assign 28 (Some Plus) (var 26 (codes "n")) (int 31 1) ∷ [])
 
+-- `let n = 0; while n < 3 { n += 1; } n`
 abbrev pub counted : List Stmt
 counted = let_ 1 (codes "n") (int 9 0) ∷ while_ 12 counted_test counted_body ∷ value (var 36 (codes "n")) ∷ []
 
--- `let n = 0; do { n += 1; if n < 5 { continue; } } until n >= 1; n`
+-- the body `{ n += 1; if n < 5 { continue; } }` of `continued`
 abbrev pub continued_body : StmtBlock
 continued_body =
     braces 15 48
@@ -26,9 +28,11 @@ continued_body =
     ∷ if_ 25 (op 30 LessThan (var 28 (codes "n") ∷ int 32 5 ∷ [])) (braces 34 46 (continue_ 36 ∷ [])) no_else
     ∷ [])
 
+-- the condition `n >= 1` of `continued`
 abbrev pub continued_test : Expr
 continued_test = op 58 GreaterThanEqualsTo (var 56 (codes "n") ∷ int 61 1 ∷ [])
 
+-- `let n = 0; do { n += 1; if n < 5 { continue; } } until n >= 1; n`
 abbrev pub continued : List Stmt
 continued = let_ 1 (codes "n") (int 9 0) ∷ do_until 12 continued_body continued_test ∷ value (var 64 (codes "n")) ∷ []
 
@@ -36,10 +40,11 @@ continued = let_ 1 (codes "n") (int 9 0) ∷ do_until 12 continued_body continue
 abbrev pub endless : List Stmt
 endless = loop_ 1 (braces 6 7 []) ∷ []
 
--- `while !false {}`
+-- the condition `!false` of `waits`
 abbrev pub waits_test : Expr
 waits_test = op 7 Bang (bool 8 false ∷ [])
 
+-- `while !false {}`
 abbrev pub waits : List Stmt
 waits = while_ 1 waits_test (braces 14 15 []) ∷ []
 
@@ -75,6 +80,7 @@ abbrev pub returned_handle : List Stmt
 returned_handle = loop_ 1 (braces 6 18 (return_ 8 (Some (var 15 (codes "h"))) ∷ [])) ∷ []
 
 module _ {S H : Type 0} (table : Table S H) (host : H → List ℕ) where
+  -- turns of a `while` and of a `do`, and loops that never end
   pub record Loops : Type 0 where
     -- a `while` tests its condition before each turn
     pub counts : Returns table (limited host 26) counted (integer 3) 26 (entry (codes "n") (integer 3) ∷ [])
@@ -88,6 +94,7 @@ module _ {S H : Type 0} (table : Table S H) (host : H → List ℕ) where
     -- a `while` with an empty body evaluates its condition, each turn
     pub waiting : Fails table (limited host 5) waits (ErrorTooManyOperations (column 7)) 5 []
 
+  -- `break` and `return`
   pub record WaysOut : Type 0 where
     -- `break` gives the loop its value
     pub breaks : Returns table (usual host) broken (integer 8) 9 (entry (codes "x") (integer 7) ∷ [])

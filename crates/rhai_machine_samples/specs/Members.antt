@@ -16,26 +16,31 @@ use Rattle.rhai_machine_samples.specs.Data.{text, word}
 use Rattle.rhai_machine_samples.specs.Items.{array, dot, index, item_by, property}
 use Rattle.rhai_machine_samples.specs.Entries.{k_map}
 
--- `x.p`, `x.p.q`, `x[1]` and `x[1].q`
+-- `x.p`, as an expression
 abbrev pub p_of_x : Expr
 p_of_x = dot 2 (var 1 (codes "x")) (property 3 (codes "p"))
 
+-- `x.p.q`, as an expression
 abbrev pub q_of_p : Expr
 q_of_p = dot 2 (var 1 (codes "x")) (dot 4 (property 3 (codes "p")) (property 5 (codes "q")))
 
+-- `x[1]`, as an expression
 abbrev pub item_of_x : Expr
 item_of_x = index 2 (var 1 (codes "x")) (int 3 1)
 
+-- `x[1].q`, as an expression
 abbrev pub q_of_item : Expr
 q_of_item = index 2 (var 1 (codes "x")) (dot 5 (int 3 1) (property 6 (codes "q")))
 
--- `x.p`, `x.p = 5` and `x.p += 2`
+-- `x.p`
 abbrev pub p_read : List Stmt
 p_read = value p_of_x ∷ []
 
+-- `x.p = 5`
 abbrev pub p_set : List Stmt
 p_set = assign 5 None p_of_x (int 7 5) ∷ []
 
+-- `x.p += 2`
 abbrev pub p_raised : List Stmt
 p_raised = assign 5 (Some Plus) p_of_x (int 8 2) ∷ []
 
@@ -43,13 +48,15 @@ p_raised = assign 5 (Some Plus) p_of_x (int 8 2) ∷ []
 abbrev pub q_set : List Stmt
 q_set = assign 7 None q_of_p (int 9 5) ∷ []
 
--- `x[1]`, `x[1] = 5` and `x[1] += 5`
+-- `x[1]`
 abbrev pub item_read : List Stmt
 item_read = value item_of_x ∷ []
 
+-- `x[1] = 5`
 abbrev pub item_set : List Stmt
 item_set = assign 6 None item_of_x (int 8 5) ∷ []
 
+-- `x[1] += 5`
 abbrev pub item_raised : List Stmt
 item_raised = assign 6 (Some Plus) item_of_x (int 9 5) ∷ []
 
@@ -57,10 +64,11 @@ item_raised = assign 6 (Some Plus) item_of_x (int 9 5) ∷ []
 abbrev pub item_mixed : List Stmt
 item_mixed = assign 6 (Some Plus) (item_by (int 3 0)) (bool 9 true) ∷ []
 
--- `m["j"].k = 5`
+-- `m["j"].k`, as an expression
 abbrev pub of_missing : Expr
 of_missing = index 2 (var 1 (codes "m")) (dot 7 (text 3 (codes "j")) (property 8 (codes "k")))
 
+-- `m["j"].k = 5`
 abbrev pub of_missing_set : List Stmt
 of_missing_set = assign 10 None of_missing (int 12 5) ∷ []
 
@@ -69,56 +77,67 @@ abbrev pub q_of_item_set : List Stmt
 q_of_item_set = assign 8 None q_of_item (int 10 5) ∷ []
 
 module _ {H : Type 0} where
-  -- the calls of natives for a property of a variable `x` that is 1
+  -- the call of the getter of `x.p`, where `x` is 1
   abbrev pub get_p : Request H
   get_p = request [] (Named (codes "get$p")) (Some (integer 1)) [] (column 3)
 
+  -- the call of the indexer that gets `x.p`, where `x` is 1
   abbrev pub index_get_p : Request H
   index_get_p = request [] (Named (codes "index$get$")) (Some (integer 1)) (word (codes "p") ∷ []) (column 2)
 
+  -- the call of the setter of `x.p` with this value, where `x` is 1
   abbrev pub set_p : Dynamic H → Request H
   set_p v = request [] (Named (codes "set$p")) (Some (integer 1)) (v ∷ []) (column 3)
 
+  -- the call of the indexer that sets `x.p` to this value, where `x` is 1
   abbrev pub index_set_p : Dynamic H → Request H
   index_set_p v = request [] (Named (codes "index$set$")) (Some (integer 1)) (word (codes "p") ∷ v ∷ []) (column 2)
 
-  -- of a property of the value 7, which is set to 5
+  -- the call of the setter of `q` with 5, on this value
   abbrev pub set_q_of : (at : ℕ) → Dynamic H → Request H
   set_q_of c v = request [] (Named (codes "set$q")) (Some v) (integer 5 ∷ []) (column c)
 
+  -- the call of the setter of `q` with 5, on 7
   abbrev pub set_q : (at : ℕ) → Request H
   set_q c = set_q_of c (integer 7)
 
-  -- of an operator on an item, and for an entry that is not there
+  -- the call of `+=` by `item_mixed`, on the item 1
   abbrev pub plus_item : Request H
   plus_item = request [] (Named (codes "+=")) (Some (integer 1)) (truth true ∷ []) (column 6)
 
+  -- the call of the setter of `k` with 5, on the `()` of a missing key
   abbrev pub set_k : Request H
   set_k = request [] (Named (codes "set$k")) (Some unit) (integer 5 ∷ []) (column 8)
 
+  -- the call of the indexer that sets the missing key `j` of a map to 3
   abbrev pub set_j : Request H
   set_j = request [] (Named (codes "index$set$")) (Some (k_map (integer 1))) (word (codes "j") ∷ integer 3 ∷ []) (column 2)
 
-  -- for an item of a variable that is true
+  -- the call of the indexer that gets `x[1]`, where `x` is true
   abbrev pub get_first : Request H
   get_first = request [] (Named (codes "index$get$")) (Some (truth true)) (integer 1 ∷ []) (column 2)
 
+  -- the call of the indexer that sets `x[1]` to this value, where `x` is true
   abbrev pub set_first : Dynamic H → Request H
   set_first v = request [] (Named (codes "index$set$")) (Some (truth true)) (integer 1 ∷ v ∷ []) (column 2)
 
--- which natives are not pure, as they are asked
+-- the question whether the getter of `p` is pure, on an integer
 abbrev pub p_getter : Purity
 p_getter = OfName (codes "get$p") (codes "i64") 1
 
+-- the question whether the setter of `p` is pure, on an integer
 abbrev pub p_setter : Purity
 p_setter = OfName (codes "set$p") (codes "i64") 2
 
+-- the question whether the setter of `q` is pure, on an integer
 abbrev pub q_setter : Purity
 q_setter = OfName (codes "set$q") (codes "i64") 2
 
+-- the question whether the indexer that sets is pure, on an integer
 abbrev pub p_indexer : Purity
 p_indexer = OfName (codes "index$set$") (codes "i64") 3
 
+-- the question whether the indexer that sets is pure, on a truth value
 abbrev pub item_setter : Purity
 item_setter = OfName (codes "index$set$") (codes "bool") 3
 
@@ -130,10 +149,11 @@ module _ {S H : Type 0} (table : Table S H) (host : H → List ℕ) where
   Calls s name before script result count after calls = EndsScript table s false script 0 (nothing_but (entry name before ∷ [])) result
       count (nothing_but (entry name after ∷ [])) calls
 
-  -- the variable is `x`
+  -- the script comes so to its result over the variable `x`, in the usual setting
   abbrev pub OnX : Dynamic H → List Stmt → Result (Dynamic H) (EvalAltResult H) → (count : ℕ) → Dynamic H → List (Request H) → Type 0
   OnX before script result count after calls = Calls (usual host) (codes "x") before script result count after calls
 
+  -- properties that natives get and set
   pub record Members : Type 0 where
     -- a property is got by its getter, and what that leaves goes back
     pub got : Answers table get_p (Gives (integer 7)) (integer 9) → OnX (integer 1) p_read (Ok (integer 7)) 4 (integer 9) (get_p ∷ [])
@@ -161,6 +181,7 @@ module _ {S H : Type 0} (table : Table S H) (host : H → List ℕ) where
     pub set_barred : IsImpure table p_setter →
         OnX (fixed 1) p_set (Err (ErrorNonPureMethodCallOnConstant (codes "set$p") (column 3))) 4 (fixed 1) []
 
+  -- what a chain changed of a property's value, and the setter
   pub record SetBack : Type 0 where
     -- what a chain may have changed of a property's value is set back
     pub back : Answers table get_p (Gives (integer 7)) (integer 1) → IsImpure table q_setter →
@@ -168,7 +189,7 @@ module _ {S H : Type 0} (table : Table S H) (host : H → List ℕ) where
         Answers table (set_p (integer 8)) (Gives unit) (integer 9) →
         OnX (integer 1) q_set (Ok unit) 8 (integer 9) (set_p (integer 8) ∷ set_q 5 ∷ get_p ∷ [])
     -- not after a native that is pure, nor after an error
-    pub unmarked : Answers table get_p (Gives (integer 7)) (integer 1) → table.natives.pure table.state q_setter ≡ true →
+    pub after_pure : Answers table get_p (Gives (integer 7)) (integer 1) → table.natives.pure table.state q_setter ≡ true →
         Answers table (set_q 5) (Gives unit) (integer 8) → OnX (integer 1) q_set (Ok unit) 7 (integer 1) (set_q 5 ∷ get_p ∷ [])
     pub failed : Answers table get_p (Gives (integer 7)) (integer 1) → IsImpure table q_setter →
         Answers table (set_q 5) (Faults (ErrorArithmetic (codes "no") none)) (integer 8) →
@@ -183,7 +204,7 @@ module _ {S H : Type 0} (table : Table S H) (host : H → List ℕ) where
         Answers table (set_q 5) (Gives unit) (integer 8) →
         Calls (limited host 7) (codes "x") (integer 1) q_set (Err (ErrorTooManyOperations (column 3))) 7 (integer 1) (set_q 5 ∷ get_p ∷ [])
 
-  -- what is kept from what is constant, and what goes back
+  -- what natives are kept from, and what goes back of what they left
   pub record Guards : Type 0 where
     -- a value that a getter gave is kept as a constant's is, and one that an indexer gave is not
     pub of_getter : Answers table get_p (Gives (fixed 7)) (integer 1) → IsImpure table q_setter →
@@ -204,6 +225,7 @@ module _ {S H : Type 0} (table : Table S H) (host : H → List ℕ) where
         IsImpure table (OfName (codes "index$set$") (codes "map") 3) → Answers table set_j Missing (k_map (integer 1)) →
         Calls (usual host) (codes "m") (k_map (integer 1)) of_missing_set (Ok unit) 9 (k_map (integer 1)) (set_j ∷ set_k ∷ [])
 
+  -- items that natives get and set
   pub record Indexers : Type 0 where
     -- an item of a value that has none of its own is got and set by the indexer, at the operator
     pub got : Answers table get_first (Gives (integer 7)) (truth true) →

@@ -1,4 +1,4 @@
--- Samples of methods: what a native leaves of the value that it is called on, and the words that are no function's.
+-- Samples of methods: what a native leaves of the focus, and the words that are no function's.
 use Rattle.std.specs.Prelude.{◌≡◌, ℕ, true, List, [], ◌∷◌, Some, None, codes}
 use Rattle.rhai_machine.specs.Types.{Dynamic}
 use Rattle.rhai_values.specs.declared.base.value.FnPtr.{roll-FnPtr}
@@ -27,7 +27,7 @@ abbrev pub method : List ℕ → Method
 method name = record { name = name; at = column 3; first_at = Some (column 8); was_handle = true }
 
 module _ {H : Type 0} where
-  -- the value that a method is called on, where the only cell is held
+  -- a local state with this focus, where the only cell is held
   abbrev pub holding : Dynamic H → Local H
   holding focus =
       let l = nothing_but [] in
@@ -37,27 +37,29 @@ module _ {H : Type 0} where
   abbrev pub g_pointer : Dynamic H
   g_pointer = plain (kind.FnPtr {X1 = H} (roll-FnPtr H (record { name = codes "g"; curry = integer 5 ∷ []; kind = leads.Name })))
 
-  -- a map that has it under `f`
+  -- a map that has `g_pointer` under `f`
   abbrev pub f_map : Dynamic H
   f_map = plain (kind.Map (codes "f" ∷ [], g_pointer ∷ []))
 
-  -- the natives' calls: of `inc` with 1, and of `g` with the map, what the pointer has, and 4
+  -- the call of `inc` with 1
   abbrev pub inc_asked : Request H
   inc_asked = request (None ∷ []) (Named (codes "inc")) (Some (integer 1)) [] (column 3)
 
+  -- the call of `g` with the map, what the pointer has already, and 4
   abbrev pub g_asked : Request H
   g_asked = request (None ∷ []) (Named (codes "g")) (Some f_map) (integer 5 ∷ integer 4 ∷ []) (column 3)
 
 module _ {S H : Type 0} (table : Table S H) (host : H → List ℕ) where
-  -- a method on this value comes to this control with so many charges, and leaves the value so
+  -- a method on this focus comes to this control with so many charges, and leaves the focus so
   abbrev pub Comes : Dynamic H → List ℕ → List (Dynamic H) → Control H → (count : ℕ) → Dynamic H → Type 0
   Comes before name args control count after =
       Reaches (machine (under (usual host) table)) (cut (under (usual host) table))
       (with_core (method_core (usual host) (method name) args before [] (holding before)) (state table 0 (holding before)))
       (at control [] (state table count (holding after)))
 
+  -- methods on the focus: what a native leaves of it, and the words that are no function's
   pub record Methods : Type 0 where
-    -- what a native leaves is the value that it was called on; where the native is not pure, it may have changed it
+    -- what a native leaves of the focus is the focus; where the native is not pure, it may have changed it
     pub changed : Answers table inc_asked (Gives unit) (integer 2) → IsImpure table (OfName (codes "inc") (codes "i64") 1) →
         Comes (integer 1) (codes "inc") [] (Changed unit) 1 (integer 2)
     pub unchanged : Answers table inc_asked (Gives unit) (integer 2) →
@@ -69,10 +71,10 @@ module _ {S H : Type 0} (table : Table S H) (host : H → List ℕ) where
         (Fail (ErrorNonPureMethodCallOnConstant (codes "call") (column 3))) 0 (fixed 1)
     pub mismatch : Comes (word (codes "a")) (codes "call") []
         (Fail (ErrorMismatchDataType (record { wanted = codes "Fn"; found = codes "string" }) (column 3))) 0 (word (codes "a"))
-    -- a map's own pointer is called on the map, after what the pointer has
+    -- a map's own pointer is called on the map, with what the pointer has already before the arguments
     pub own : Answers table g_asked (Gives unit) f_map → IsImpure table (OfName (codes "g") (codes "map") 3) →
         Comes f_map (codes "f") (integer 4 ∷ []) (Changed unit) 1 f_map
-    -- a handle is shared, also of a held cell, which no other method is called on, and so is what was one before it was entered
+    -- a handle is shared, also of a held cell, on which no other method is called; so is a focus that was one before it was entered
     pub shared : Comes handle (codes "is_shared") [] (Back (truth true)) 0 handle
     pub entered : Comes (integer 1) (codes "is_shared") [] (Back (truth true)) 0 (integer 1)
     pub races : Comes handle (codes "inc") [] (Fail (ErrorDataRace (codes "inc") (column 3))) 0 handle

@@ -43,6 +43,7 @@ module _ {S H : Type 0} (table : Table S H) (host : H → List ℕ) where
     pub no_operator : Fails table (limited host 1) forty_two (ErrorTooManyOperations (column 4)) 1 []
     pub unlimited : Returns table (usual host) forty_two (integer 42) 4 []
 
+  -- operators and their operands: their order, their values, and their errors
   pub record Operands : Type 0 where
     -- the left operand comes first
     pub order : Fails table (usual host) unknown_names (ErrorVariableNotFound (codes "y") (column 1)) 3 []

@@ -31,6 +31,7 @@ module _ {S H : Type 0} (table : Table S H) (host : H → List ℕ) (index : Non
   abbrev pub Leaves : Setting H → List (ScopeEntry H) → List Stmt → (count : ℕ) → List (ScopeEntry H) → Type 0
   Leaves s before script count after = Ends table s (nothing_but before) script (Ok unit) count (nothing_but after)
 
+  -- what a `let` with an index overwrites
   pub record Overwrites : Type 0 where
     -- the value and the mode of the newest `x` alone, a constant's too, which keeps its aliases
     pub newest : Leaves (usual host) (around_x (fixed 1) (codes "y" ∷ [])) another 2 (around_x (integer 2) (codes "y" ∷ []))
@@ -53,7 +54,7 @@ module _ {S H : Type 0} (table : Table S H) (host : H → List ℕ) (index : Non
     -- `let h = 2` of a handle: the variable is none then, and the cell stays as it was
     pub handle : Ends table (usual host) (one_cell table host (Some (fixed 5)) []) (let_over index 1 (codes "h") (int 9 2) ∷ []) (Ok unit) 2
         (over_cells table host (Some (fixed 5) ∷ []) (entry (codes "h") (integer 2) ∷ []))
-    -- `const C = 2` at the top, over a constant of the table there: it is entered in its place
+    -- `const C = 2` at the top, over a constant of the table there: it is entered there instead
     pub entered : Ends table (usual host)
         (with_table table host (codes "C" ∷ [], integer 1 ∷ []) (with_function does_nothing (entry (codes "C") (fixed 1) ∷ [])))
         (const_over index 1 (codes "C") (int 11 2) ∷ []) (Ok unit) 2

@@ -20,10 +20,11 @@ use Rattle.rhai_machine_samples.specs.Members.{Calls, OnX}
 
 -- ---- methods
 
+-- a method as a link, at a column
 abbrev pub method_call : (at : ℕ) → List ℕ → List Expr → Expr
 method_call c name args = expr.MethodCall (named false name args) (column c)
 
--- `x.m(..)`
+-- `x.m(..)`, with this name for `x`
 abbrev pub m_of : List ℕ → List Expr → Expr
 m_of name args = dot 2 (var 1 name) (method_call 3 (codes "m") args)
 
@@ -31,7 +32,7 @@ m_of name args = dot 2 (var 1 name) (method_call 3 (codes "m") args)
 abbrev pub n_of_m : Expr
 n_of_m = dot 2 (var 1 (codes "x")) (dot 6 (method_call 3 (codes "m") []) (method_call 7 (codes "n") []))
 
--- `a[0].m()`
+-- `a[0].m()`, with this name for `a`
 abbrev pub m_of_first : List ℕ → Expr
 m_of_first name = index 2 (var 1 name) (dot 5 (int 3 0) (method_call 6 (codes "m") []))
 
@@ -39,10 +40,11 @@ m_of_first name = index 2 (var 1 name) (dot 5 (int 3 0) (method_call 6 (codes "m
 abbrev pub is_shared : List Stmt
 is_shared = value (dot 2 (var 1 (codes "h")) (method_call 3 (codes "is_shared") [])) ∷ []
 
--- `h.call()` and `h.f()`
+-- `h.call()`
 abbrev pub call_of_handle : Expr
 call_of_handle = dot 2 (var 1 (codes "h")) (method_call 3 (codes "call") [])
 
+-- `h.f()`
 abbrev pub f_of_handle : Expr
 f_of_handle = dot 2 (var 1 (codes "h")) (method_call 3 (codes "f") [])
 
@@ -52,10 +54,11 @@ p_of_handle = dot 2 (var 1 (codes "h")) (property 3 (codes "p"))
 
 -- ---- parts
 
--- `s[..]`, and `s[0] = ..`
+-- `s[..]`, with this index
 abbrev pub part_by : Expr → Expr
 part_by at = index 2 (var 1 (codes "s")) at
 
+-- `s[..] = ..`, with this index and this value
 abbrev pub part_set : (at : ℕ) → Expr → List Stmt
 part_set at new = assign 6 None (part_by (int 3 at)) new ∷ []
 
@@ -68,6 +71,7 @@ abbrev pub x_char : Expr
 x_char = expr.CharConstant 120 (column 8)
 
 module _ {H : Type 0} where
+  -- a character, which may be written
   abbrev pub char : ℕ → Dynamic H
   char c = plain (kind.Char c)
 
@@ -75,33 +79,36 @@ module _ {H : Type 0} where
   abbrev pub asked : List ℕ → Dynamic H → (at : ℕ) → Request H
   asked name v c = request [] (Named name) (Some v) [] (column c)
 
-  -- with an argument
+  -- the call of the method `m` on 1, with the argument 4
   abbrev pub m_with : Request H
   m_with = request [] (Named (codes "m")) (Some (integer 1)) (integer 4 ∷ []) (column 3)
 
-  -- on the value of the one cell, which is held meanwhile
+  -- the call of the method `m` on the value of the only cell, while that is held
   abbrev pub m_in_cell : Request H
   m_in_cell = request (None ∷ []) (Named (codes "m")) (Some (integer 1)) [] (column 3)
 
+  -- the call of the getter of `p` on the value of the only cell, while that is held
   abbrev pub p_in_cell : Request H
   p_in_cell = request (None ∷ []) (Named (codes "get$p")) (Some (integer 1)) [] (column 3)
 
-  -- a pointer by the name `g` that has the handle of the one cell already, and a map with that handle under `f`
+  -- a pointer by the name `g` that has the handle of the only cell already
   abbrev pub handle_pointer : Dynamic H
   handle_pointer = plain (kind.FnPtr {X1 = H} (roll-FnPtr H (record { name = codes "g"; curry = handle ∷ []; kind = leads.Name })))
 
+  -- a map with the handle of the only cell under `f`
   abbrev pub handle_map : Dynamic H
   handle_map = plain (kind.Map (codes "f" ∷ [], handle ∷ []))
 
-  -- a text that may not be changed
+  -- `"ab"`, which may not be written
   abbrev pub fixed_text : Dynamic H
   fixed_text = record { value = kind.Str (codes "ab"); mode = ReadOnly }
 
--- which native is pure, as it is asked
+-- the question whether the native `m` is pure, on this type
 abbrev pub m_on : (type : List ℕ) → (count : ℕ) → Purity
 m_on type count = OfName (codes "m") type count
 
 module _ {S H : Type 0} (table : Table S H) (host : H → List ℕ) where
+  -- methods at the end of a chain, and on its way
   pub record MethodChains : Type 0 where
     -- a method may change the variable that it is called on
     pub called : IsImpure table (m_on (codes "i64") 1) → Answers table (asked (codes "m") (integer 1) 3) (Gives (integer 7)) (integer 2) →
@@ -115,11 +122,11 @@ module _ {S H : Type 0} (table : Table S H) (host : H → List ℕ) where
         Answers table (asked (codes "n") (integer 7) 7) (Gives (integer 8)) (integer 9) →
         OnX table host (integer 1) (value n_of_m ∷ []) (Ok (integer 8)) 7 (integer 2)
         (asked (codes "n") (integer 7) 7 ∷ asked (codes "m") (integer 1) 3 ∷ [])
-    -- an item is changed in its place
+    -- an item is changed where it stands
     pub of_item : IsImpure table (m_on (codes "i64") 1) → Answers table (asked (codes "m") (integer 1) 6) (Gives (integer 7)) (integer 2) →
         Calls table host (usual host) (codes "a") (array (integer 1 ∷ [])) (value (m_of_first (codes "a")) ∷ []) (Ok (integer 7)) 8
         (array (integer 2 ∷ [])) (asked (codes "m") (integer 1) 6 ∷ [])
-    -- a charge that is refused on the way leaves all in its place
+    -- a charge that is refused on the way leaves all as it was
     pub cut : Calls table host (limited host 7) (codes "a") (array (integer 1 ∷ [])) (value (m_of_first (codes "a")) ∷ [])
         (Err (ErrorTooManyOperations (column 6))) 7 (array (integer 1 ∷ [])) []
     -- a handle is shared, and a method is called on its cell's value
@@ -137,6 +144,7 @@ module _ {S H : Type 0} (table : Table S H) (host : H → List ℕ) where
         EndsScript table (usual host) false (value p_of_handle ∷ []) 0 (one_cell table host (Some (integer 1)) [])
         (Ok (integer 7)) 4 (one_cell table host (Some (integer 9)) []) (p_in_cell ∷ [])
 
+  -- characters of texts and bits of integers, read and put back
   pub record Parts : Type 0 where
     -- a character of a text is read and put back, where it is one
     pub char_read : Reads table host (codes "s") (word (codes "ab")) part_read (char 98) 4

@@ -70,13 +70,15 @@ module _ {H : Type 0} where
   abbrev pub integer : ℕ → Dynamic H
   integer n = record { value = value.Int (pos n); mode = ReadWrite }
 
-  -- one that may not
+  -- an integer that is not negative, and that may not be written
   abbrev pub fixed : ℕ → Dynamic H
   fixed n = record { value = value.Int (pos n); mode = ReadOnly }
 
+  -- a truth value, which may be written
   abbrev pub truth : Bool → Dynamic H
   truth b = record { value = value.Bool b; mode = ReadWrite }
 
+  -- the value `()`, which may be written
   abbrev pub unit : Dynamic H
   unit = record { value = value.Unit; mode = ReadWrite }
 
@@ -84,7 +86,7 @@ module _ {H : Type 0} where
   abbrev pub entry : List ℕ → Dynamic H → ScopeEntry H
   entry name v = record { name = name; value = v; aliases = [] }
 
-  -- nothing but these variables
+  -- a local state with these variables and nothing else
   abbrev pub nothing_but : List (ScopeEntry H) → Local H
   nothing_but scope = record {
     scope = scope;
@@ -116,7 +118,7 @@ module _ {S H : Type 0} (table : Table S H) where
       Run (machine (under s table)) (cut (under s table)) (with_calls (start_of_script script map_exit (state start before)) [])
       (with_calls (end_of_script result (state count after)) calls)
 
-  -- it starts with no variable, and leaves these
+  -- from this count and no variable the script comes to this result, leaves this count and these variables, and makes these calls
   abbrev pub EndsFrom : ℕ → Setting H → List Stmt → Result (Dynamic H) (EvalAltResult H) → ℕ → List (ScopeEntry H) → List (Request H) →
       Type 0
   EndsFrom start s script result count scope calls =
@@ -130,11 +132,11 @@ module _ {S H : Type 0} (table : Table S H) where
   abbrev pub Fails : Setting H → List Stmt → EvalAltResult H → (count : ℕ) → List (ScopeEntry H) → Type 0
   Fails s script e count scope = EndsFrom 0 s script (Err e) count scope []
 
-  -- over what is there before it ends so, and calls no native
+  -- over what is there before, the script comes to this result, leaves this count and what is there after, and calls no native
   abbrev pub Ends : Setting H → Local H → List Stmt → Result (Dynamic H) (EvalAltResult H) → (count : ℕ) → Local H → Type 0
   Ends s before script result count after = EndsScript s false script 0 before result count after []
 
-  -- from a control over these frames and what is there before a run comes to this result, and calls no native
+  -- from a control over these frames and what is there before, a run comes to this result, leaves what is there after, and calls no native
   abbrev pub EndsFromFrames : Setting H → Local H → Control H → List (Frame H) → Result (Dynamic H) (EvalAltResult H) → (count : ℕ) →
       Local H → Type 0
   EndsFromFrames s before c k result count after = Run (machine (under s table)) (cut (under s table))

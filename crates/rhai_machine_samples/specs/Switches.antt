@@ -26,7 +26,7 @@ tested = switch_ 1 (int 8 1) (result_if (op 19 EqualsTo (int 17 1 ∷ int 22 1 �
 abbrev pub default_alone : List Stmt
 default_alone = switch_ 1 (int 8 1) (result_if (bool 17 false) (int 26 7) ∷ []) [] [] (Some 0) ∷ []
 
--- `switch n { 5..8 => 20, 8..=10 => 30, _ => 99 }`, with an integer in the place of n
+-- `switch n { 5..8 => 20, 8..=10 => 30, _ => 99 }`, with this integer for `n`
 abbrev pub ranges : ℕ → List Stmt
 ranges n = switch_ 1 (int 8 n) (result_of (int 20 20) ∷ result_of (int 34 30) ∷ result_of (int 43 99) ∷ []) []
     (ExclusiveInt (pos 5) (pos 8) 0 ∷ InclusiveInt (pos 8) (pos 10) 1 ∷ []) (Some 2) ∷ []
@@ -58,13 +58,15 @@ abbrev pub of_a : List Stmt
 of_a = switch_ 1 (var 8 (codes "a")) (result_of (int 17 2) ∷ result_of (int 25 3) ∷ []) (case_of (literal.Int (pos 1)) 0 ∷ []) [] (Some 1)
     ∷ []
 
--- `switch nope {}`, `switch 1 { 1 if nope => 2 }`, `switch 1 { 1 => nope }`
+-- `switch nope {}`
 abbrev pub unknown_value : List Stmt
 unknown_value = switch_ 1 (var 8 (codes "nope")) [] [] [] None ∷ []
 
+-- `switch 1 { 1 if nope => 2 }`
 abbrev pub unknown_test : List Stmt
 unknown_test = switch_ 1 (int 8 1) (result_if (var 17 (codes "nope")) (int 25 2) ∷ []) (case_of (literal.Int (pos 1)) 0 ∷ []) [] None ∷ []
 
+-- `switch 1 { 1 => nope }`
 abbrev pub unknown_result : List Stmt
 unknown_result = switch_ 1 (int 8 1) (result_of (var 17 (codes "nope")) ∷ []) (case_of (literal.Int (pos 1)) 0 ∷ []) [] None ∷ []
 
@@ -74,6 +76,7 @@ broken = loop_ 1 (braces 6 38 (switch_ 8 (int 15 1) (result_of (inner (braces 24
     (case_of (literal.Int (pos 1)) 0 ∷ []) [] None ∷ [])) ∷ []
 
 module _ {S H : Type 0} (table : Table S H) (host : H → List ℕ) where
+  -- which result a value leads to, and what is charged for it
   pub record Switches : Type 0 where
     -- a condition is a truth value, and any literal but one of those is charged
     pub mismatch : Fails table (usual host) no_truth
@@ -99,6 +102,7 @@ module _ {S H : Type 0} (table : Table S H) (host : H → List ℕ) where
     pub unhashable : Ends table (usual host) (nothing_but (entry (codes "a") (array (handle ∷ [])) ∷ [])) of_a (Ok (integer 3)) 3
         (nothing_but (entry (codes "a") (array (handle ∷ [])) ∷ []))
 
+  -- what fails or is refused in a `switch`
   pub record SwitchErrors : Type 0 where
     pub value : Fails table (usual host) unknown_value (ErrorVariableNotFound (codes "nope") (column 8)) 2 []
     pub test : Fails table (usual host) unknown_test (ErrorVariableNotFound (codes "nope") (column 17)) 3 []

@@ -14,10 +14,11 @@ use Rattle.rhai_machine_samples.specs.Walks.{with_room}
 use Rattle.rhai_machine_samples.specs.Data.{word}
 use Rattle.rhai_machine_samples.specs.Functions.{wrapped}
 
--- `throw h`, `throw`
+-- `throw h`
 abbrev pub throws_handle : List Stmt
 throws_handle = throw_ 1 (Some (var 7 (codes "h"))) ∷ []
 
+-- `throw`
 abbrev pub throws_nothing : List Stmt
 throws_nothing = throw_ 1 None ∷ []
 
@@ -34,10 +35,11 @@ abbrev pub kept : List Stmt
 kept = try_ 1 (braces 5 17 (throw_ 7 (Some (int 13 42)) ∷ [])) (var 26 (codes "e"))
     (braces 29 38 (assign 33 None (var 31 (codes "r")) (var 35 (codes "e")) ∷ [])) ∷ []
 
--- `try { nope } catch (e) { r = e; }`
+-- the branch `{ r = e; }` of `kept_map`
 abbrev pub keeping : StmtBlock
 keeping = braces 24 33 (assign 28 None (var 26 (codes "r")) (var 30 (codes "e")) ∷ [])
 
+-- `try { nope } catch (e) { r = e; }`
 abbrev pub kept_map : List Stmt
 kept_map = try_ 1 (braces 5 12 (value (var 7 (codes "nope")) ∷ [])) (var 21 (codes "e")) keeping ∷ []
 
@@ -72,11 +74,12 @@ endless_body = try_ 1 (braces 5 15 (loop_ 7 (braces 12 13 []) ∷ [])) no_variab
 abbrev pub endless_branch : List Stmt
 endless_branch = try_ 1 (braces 5 16 (throw_ 7 (Some (int 13 1)) ∷ [])) no_variable (braces 24 34 (loop_ 26 (braces 31 32 []) ∷ [])) ∷ []
 
--- `loop { try { break 7; } catch { 1 } }`, `loop { try { throw 1; } catch { break 7; } }`
+-- `loop { try { break 7; } catch { 1 } }`
 abbrev pub broken_body : List Stmt
 broken_body = loop_ 1 (braces 6 37 (try_ 8 (braces 12 23 (break_ 14 (Some (int 20 7)) ∷ [])) no_variable
     (braces 31 35 (value (int 33 1) ∷ [])) ∷ [])) ∷ []
 
+-- `loop { try { throw 1; } catch { break 7; } }`
 abbrev pub broken_branch : List Stmt
 broken_branch = loop_ 1 (braces 6 45 (try_ 8 (braces 12 23 (throw_ 14 (Some (int 20 1)) ∷ [])) no_variable
     (braces 31 42 (break_ 33 (Some (int 39 7)) ∷ [])) ∷ [])) ∷ []
@@ -100,12 +103,15 @@ module _ {S H : Type 0} (table : Table S H) (host : H → List ℕ) where
     word (codes "ErrorInFunctionCall") ∷ integer 1 ∷ word (codes "ErrorInFunctionCall: f") ∷ integer 5 ∷ [],
   ))
 
+  -- a local state with this source
   abbrev pub with_source : List ℕ → Local H → Local H
   with_source name l = record l { around = record l.around { source = Some name } }
 
+  -- a local state with the variable `r` alone
   abbrev pub r_is : Dynamic H → Local H
   r_is v = nothing_but (entry (codes "r") v ∷ [])
 
+  -- what `throw` raises, with a value and without
   pub record Throws : Type 0 where
     -- the value is flattened; without one it is `()`
     pub flattened : EndsOver table host (Some (integer 5)) throws_handle (Err (ErrorRuntime (integer 5) (column 1))) 2 []
@@ -113,6 +119,7 @@ module _ {S H : Type 0} (table : Table S H) (host : H → List ℕ) where
     pub refused : Fails table (limited host 1) raised_again (ErrorTooManyOperations (column 7)) 1 []
     pub value_refused : Fails table (limited host 2) raised_again (ErrorTooManyOperations (column 13)) 2 []
 
+  -- what a `try` catches, and what its branch finds
   pub record Tries : Type 0 where
     -- a value passes, and a branch that succeeds gives `()`
     pub passes : Returns table (usual host) no_error (integer 5) 3 []
@@ -122,7 +129,7 @@ module _ {S H : Type 0} (table : Table S H) (host : H → List ℕ) where
     pub map_of_error : Ends table (usual host) (r_is unit) kept_map (Ok unit) 6 (r_is (nope_map [] []))
     pub with_a_source : Ends table (usual host) (with_source (codes "s") (r_is unit)) kept_map (Ok unit) 6
         (with_source (codes "s") (r_is (nope_map (codes "source" ∷ []) (word (codes "s") ∷ []))))
-    -- `throw` without a value raises the caught error again, at its own place
+    -- `throw` without a value raises the caught error again, at its own position
     pub again : Fails table (usual host) raised_again (ErrorRuntime (integer 42) (column 27)) 4 []
     pub innermost : Fails table (usual host) inner_again (ErrorRuntime (integer 2) (column 51)) 7 []
     -- any other error of the branch passes, and the variable leaves the scope
@@ -132,6 +139,7 @@ module _ {S H : Type 0} (table : Table S H) (host : H → List ℕ) where
     pub full : Fails table (with_room table host 0) empty_branch (ErrorTooManyVariables (column 25)) 3 []
     pub full_inside : Fails table (with_room table host 0) outer (ErrorTooManyVariables (column 31)) 4 []
 
+  -- what passes through a `try`
   pub record TryEnds : Type 0 where
     -- a limit is not caught, in the body or in the branch
     pub body_cut : Fails table (limited host 4) endless_body (ErrorTooManyOperations (column 12)) 4 []

@@ -58,6 +58,7 @@ abbrev pub no_truth : List Stmt
 no_truth = if_ 1 (int 4 1) (braces 6 7 []) no_else ∷ []
 
 module _ {S H : Type 0} (table : Table S H) (host : H → List ℕ) where
+  -- what a block takes back, and which list an `if` chooses
   pub record Blocks : Type 0 where
     -- a block takes back its variables, and an `if` goes on with the list that its condition chose
     pub restored : Returns table (limited host 13) scopes (integer 42) 13 (entry (codes "x") (integer 40) ∷ [])
@@ -77,10 +78,11 @@ module _ {S H : Type 0} (table : Table S H) (host : H → List ℕ) where
   abbrev pub no_shadowing : Setting H
   no_shadowing = record (usual host) { offer = record (usual host).offer { allow_shadowing = false } }
 
-  -- the usual setting where a scope holds one variable
+  -- the usual setting where a scope may have one variable
   abbrev pub one_variable : Setting H
   one_variable = record (usual host) { limits = record usual_limits { max_variables = 1 } }
 
+  -- what a new variable hides, and what refuses one
   pub record Variables : Type 0 where
     -- a newer variable hides an older one, and both stay
     pub newest : Returns table (usual host) hides (integer 2) 6 (entry (codes "x") (integer 1) ∷ entry (codes "x") (integer 2) ∷ [])

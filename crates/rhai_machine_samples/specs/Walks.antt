@@ -22,30 +22,35 @@ use Rattle.rhai_machine_samples.specs.Handles.{handle, one_cell}
 use Rattle.rhai_machine_samples.specs.Items.{array}
 use Rattle.rhai_machine_samples.specs.Data.{word}
 
--- `for x in a { .. }`, and with a counter `for (x, i) in a { .. }`
+-- `for x in a { .. }`, with this body
 abbrev pub plain_for : List Stmt → List Stmt
 plain_for body = for_ 1 (ident 5 (codes "x")) None (var 10 (codes "a")) (braces 12 30 body) ∷ []
 
+-- `for (x, i) in a { .. }`, with this body
 abbrev pub counting_for : List Stmt → List Stmt
 counting_for body = for_ 1 (ident 6 (codes "x")) (Some (ident 9 (codes "i"))) (var 15 (codes "a")) (braces 17 40 body) ∷ []
 
--- `for x in a { s = x; }`, and `for (x, i) in a { s = i; }`
+-- the body `s = x;` of `keeps_item`
 abbrev pub keeps_body : List Stmt
 keeps_body = assign 16 None (var 14 (codes "s")) (var 18 (codes "x")) ∷ []
 
+-- `for x in a { s = x; }`
 abbrev pub keeps_item : List Stmt
 keeps_item = plain_for keeps_body
 
+-- the body `s = i;` of `keeps_counter`
 abbrev pub counter_body : List Stmt
 counter_body = assign 21 None (var 19 (codes "s")) (var 23 (codes "i")) ∷ []
 
+-- `for (x, i) in a { s = i; }`
 abbrev pub keeps_counter : List Stmt
 keeps_counter = counting_for counter_body
 
--- `for x in 1..=2 {}`, `for x in 1 + 1 {}`
+-- `for x in 1..=2 {}`
 abbrev pub empty_body : List Stmt
 empty_body = for_ 1 (ident 5 (codes "x")) None (op 11 InclusiveRange (int 10 1 ∷ int 14 2 ∷ [])) (braces 16 17 []) ∷ []
 
+-- `for x in 1 + 1 {}`
 abbrev pub of_sum : List Stmt
 of_sum = for_ 1 (ident 5 (codes "x")) None (op 12 Plus (int 10 1 ∷ int 14 1 ∷ [])) (braces 16 17 []) ∷ []
 
@@ -53,17 +58,19 @@ of_sum = for_ 1 (ident 5 (codes "x")) None (op 12 Plus (int 10 1 ∷ int 14 1 �
 abbrev pub thrown : List Stmt
 thrown = for_ 1 (ident 5 (codes "v")) None (expr.Array (int 11 1 ∷ []) (column 10)) (braces 14 24 (throw_ 16 (Some (int 22 0)) ∷ [])) ∷ []
 
--- `for x in nope {}`, `for (x, i) in nope {}`
+-- `for x in nope {}`
 abbrev pub of_nope : List Stmt
 of_nope = for_ 1 (ident 5 (codes "x")) None (var 10 (codes "nope")) (braces 15 16 []) ∷ []
 
+-- `for (x, i) in nope {}`
 abbrev pub counts_nope : List Stmt
 counts_nope = for_ 1 (ident 6 (codes "x")) (Some (ident 9 (codes "i"))) (var 15 (codes "nope")) (braces 20 21 []) ∷ []
 
--- the bodies `try { continue; } catch {}` and `switch 1 { _ => { break x; } }`
+-- the body `try { continue; } catch {}`
 abbrev pub continuing_try : List Stmt
 continuing_try = try_ 14 (braces 18 30 (continue_ 20 ∷ [])) no_variable (braces 38 39 []) ∷ []
 
+-- the body `switch 1 { _ => { break x; } }`
 abbrev pub breaking_switch : List Stmt
 breaking_switch = switch_ 14 (int 21 1) (result_of (inner (braces 30 41 (break_ 32 (Some (var 38 (codes "x"))) ∷ []))) ∷ []) [] [] (Some 0)
     ∷ []
@@ -82,21 +89,23 @@ counting_loop = record {
 }
 
 module _ {S H : Type 0} (table : Table S H) (host : H → List ℕ) where
-  -- the variable `a`, and `s` with what was kept there
+  -- a local state with the variable `a`, and `s` with what was kept there
   abbrev pub a_and_s : Union H → Dynamic H → Local H
   a_and_s a s = nothing_but (entry (codes "a") (plain a) ∷ entry (codes "s") s ∷ [])
 
-  -- over a value so many charges lead to this in `s`
+  -- over this value of `a` the script gives `()` after so many charges, and leaves this in `s`
   abbrev pub Keeps : Union H → List Stmt → (count : ℕ) → Dynamic H → Type 0
   Keeps a script count s = Ends table (usual host) (a_and_s a unit) script (Ok unit) count (a_and_s a s)
 
+  -- an array of 7 and 8
   abbrev pub two_items : Union H
   two_items = kind.Array (integer 7 ∷ integer 8 ∷ [])
 
-  -- over two items a body comes to this result
+  -- over two items the script comes to this result after so many charges, and leaves `s` as it was
   abbrev pub OverTwo : List Stmt → Result (Dynamic H) (EvalAltResult H) → (count : ℕ) → Type 0
   OverTwo script result count = Ends table (usual host) (a_and_s two_items unit) script result count (a_and_s two_items unit)
 
+  -- what a `for` walks, and the variables that it writes
   pub record Walks : Type 0 where
     -- items of an array, bytes as integers, characters, integers upward
     pub items : Keeps two_items keeps_item 8 (integer 8)
@@ -123,33 +132,36 @@ module _ {S H : Type 0} (table : Table S H) (host : H → List ℕ) where
     pub race : Ends table (usual host) (one_cell table host None (entry (codes "a") (array (handle ∷ [])) ∷ [])) keeps_item
         (Err (ErrorDataRace [] (column 10))) 2 (one_cell table host None (entry (codes "a") (array (handle ∷ [])) ∷ []))
 
-  -- the usual setting where a scope holds so many variables
+  -- the usual setting where a scope may have so many variables
   abbrev pub with_room : ℕ → Setting H
   with_room n = record (usual host) { limits = record usual_limits { max_variables = n } }
 
-  -- what a body shares of two variables: the cells of the item and of the counter
+  -- what a body that shares its variables leaves: the variable `a`, and the cells of the item and of the counter
   abbrev pub two_shared : (a : Dynamic H) → (item counter : Dynamic H) → Local H
   two_shared a item counter =
       let l = nothing_but (entry (codes "a") a ∷ []) in
       record l { around = record l.around { cells = Some item ∷ Some counter ∷ [] } }
 
-  -- the two variables of a `for` in cells, of which one is held
+  -- a local state with two cells, of the item and of the counter, each free or held
   abbrev pub in_cells : (item counter : Option (Dynamic H)) → List (ScopeEntry H) → Local H
   in_cells item counter scope =
       let l = nothing_but scope in
       record l { around = record l.around { cells = item ∷ counter ∷ [] } }
 
+  -- the handle of the cell of this number
   abbrev pub handle_at : ℕ → Dynamic H
   handle_at n = record { value = kind.Cell (record { number = n }); mode = ReadWrite }
 
+  -- the counter `i` and the variable `x` as handles of two cells
   abbrev pub two_handles : List (ScopeEntry H)
   two_handles = entry (codes "i") (handle_at 1) ∷ entry (codes "x") (handle_at 0) ∷ []
 
-  -- a turn of the counting loop by itself, over one item, which is a constant
+  -- a turn of the counting loop by itself, over one item that is a constant, comes to this error
   abbrev pub EndsTurn : (turn : ℕ) → Local H → EvalAltResult H → (count : ℕ) → Local H → Type 0
   EndsTurn turn before e count after = EndsFromFrames table (usual host) before
       (ForTurn counting_loop (OfItems (fixed 5 ∷ [])) turn 0) (RestoreScope 0 ∷ []) (Err e) count after
 
+  -- the ways out of a `for`, and a turn that can not be made
   pub record WalkEnds : Type 0 where
     -- `break` gives the loop its value, and `continue` goes on
     pub breaks : OverTwo (plain_for (break_ 14 (Some (var 20 (codes "x"))) ∷ [])) (Ok (integer 7)) 4
@@ -169,7 +181,7 @@ module _ {S H : Type 0} (table : Table S H) (host : H → List ℕ) where
     -- what the body shares stays shared, and the next turn writes through it
     pub through_cells : Ends table (usual host) (nothing_but (entry (codes "a") (plain two_items) ∷ [])) (counting_for sharing_body) (Ok unit) 10
         (two_shared (plain two_items) (integer 18) (integer 1))
-    -- a held cell is another's, the counter's or the item's
+    -- a held cell, of the counter or of the item, is a data race
     pub counter_held : EndsTurn 1 (in_cells (Some unit) None two_handles) (ErrorDataRace (codes "i") (column 6)) 0 (in_cells (Some unit) None [])
     pub item_held : EndsTurn 1 (in_cells None (Some unit) two_handles) (ErrorDataRace (codes "x") (column 6)) 0
         (in_cells None (Some (integer 1)) [])

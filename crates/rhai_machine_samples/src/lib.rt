@@ -23,7 +23,7 @@ ghost use Rattle.rhai_machine_samples.specs.Assignments.{Assignments, Updates};
 ghost use Rattle.rhai_machine_samples.specs.Data.{Arrays, Maps, Texts};
 ghost use Rattle.rhai_machine_samples.specs.Calls.{Calls, Keywords, Pointers};
 ghost use Rattle.rhai_machine_samples.specs.Methods.{Methods};
-ghost use Rattle.rhai_machine_samples.specs.Functions.{Objects, Constants};
+ghost use Rattle.rhai_machine_samples.specs.Functions.{ThisSamples, Constants};
 ghost use Rattle.rhai_machine_samples.specs.Items.{Items, SharedItems};
 ghost use Rattle.rhai_machine_samples.specs.Entries.{Entries};
 ghost use Rattle.rhai_machine_samples.specs.Members.{Members, SetBack, Guards, Indexers};
@@ -55,7 +55,8 @@ impl<H: Host, T: NativeTable<H>> Language<H> for UsualScript<T> {
     ghost machine = { machine (over (usual H.name_of) T.natives) };
 }
 
-/// In that setting each script that is cut at a limit ends, by the law of all machines.
+/// Shows that each script that is cut at a limit ends, in the setting of the samples. It is the law
+/// of all machines (`always_ends`).
 pub fn usual_script_ends<H: Host, T: NativeTable<H>>(of: PhantomData<(H, T)>)
     ensures { (limit : ℕ) (c : Config T.State H (Core H)) → (a : Config T.State H (Core H))
         × Run (machine (over (usual H.name_of) T.natives)) (below limit) c a }
@@ -63,223 +64,223 @@ pub fn usual_script_ends<H: Host, T: NativeTable<H>>(of: PhantomData<(H, T)>)
     always_ends::<H, UsualScript<T>>(PhantomData);
 }
 
-/// `40 + 2` under each limit up to four: which charge is refused.
+/// Shows how `40 + 2` ends under each limit up to four, and which charge is refused.
 pub fn sample_sums<H, S>(of: PhantomData<(H, S)>)
     ensures { (table : Table S H) (host : H → List ℕ) → Sums table host }
 {}
 
-/// Operators on one operand and on two, and their errors.
+/// Shows what operators on one operand and on two give, and where their errors stand.
 pub fn sample_operands<H, S>(of: PhantomData<(H, S)>)
     ensures { (table : Table S H) (host : H → List ℕ) → Operands table host }
 {}
 
-/// Blocks and an `if`, and what a block takes back.
+/// Shows what a block takes back, and which list an `if` goes on with.
 pub fn sample_blocks<H, S>(of: PhantomData<(H, S)>)
     ensures { (table : Table S H) (host : H → List ℕ) → Blocks table host }
 {}
 
-/// Variables and constants, and what refuses a new one.
+/// Shows how variables and constants are declared, and what refuses a new one.
 pub fn sample_variables<H, S>(of: PhantomData<(H, S)>)
     ensures { (table : Table S H) (host : H → List ℕ) → Variables table host }
 {}
 
-/// Counts and limits as a script starts.
+/// Shows how a script ends by the count and the limit that it starts with.
 pub fn sample_limits<H, S>(of: PhantomData<(H, S)>)
     ensures { (table : Table S H) (host : H → List ℕ) → Limits table host }
 {}
 
-/// An operator that is a native's, over tables that reply in each way.
+/// Shows what an operator that is a native's gives, over tables that reply in each way.
 pub fn sample_natives<H, S>(of: PhantomData<(H, S)>)
     ensures { (table : Table S H) (host : H → List ℕ) → Called table host }
 {}
 
-/// A variable that is the handle of a cell, free or held.
+/// Shows how a variable is read that is the handle of a cell, free or held.
 pub fn sample_handles<H, S>(of: PhantomData<(H, S)>)
     ensures { (table : Table S H) (host : H → List ℕ) → Handles table host }
 {}
 
-/// Turns of a `while` and of a `do`, and loops that never end.
+/// Shows the turns of a `while` and of a `do`, and loops that never end.
 pub fn sample_loops<H, S>(of: PhantomData<(H, S)>)
     ensures { (table : Table S H) (host : H → List ℕ) → Loops table host }
 {}
 
-/// `break` and `return`.
+/// Shows how `break` and `return` end a loop and a script.
 pub fn sample_ways_out<H, S>(of: PhantomData<(H, S)>)
     ensures { (table : Table S H) (host : H → List ℕ) → WaysOut table host }
 {}
 
-/// The operators that stop early.
+/// Shows where the operators `&&`, `||` and `??` stop early.
 pub fn sample_choices<H, S>(of: PhantomData<(H, S)>)
     ensures { (table : Table S H) (host : H → List ℕ) → Choices table host }
 {}
 
-/// Assignments, and what refuses one.
+/// Shows what an assignment writes, and what refuses one.
 pub fn sample_assignments<H, S>(of: PhantomData<(H, S)>)
     ensures { (table : Table S H) (host : H → List ℕ) → Assignments table host }
 {}
 
-/// Assignments by an operator that is a native's, over tables that reply in each way.
+/// Shows what an assignment by a native's operator writes, over tables that reply in each way.
 pub fn sample_updates<H, S>(of: PhantomData<(H, S)>)
     ensures { (table : Table S H) (host : H → List ℕ) → Updates table host }
 {}
 
-/// Arrays of literals, and of a name that is unknown.
+/// Shows what an array of literals is, and one with a name that is unknown.
 pub fn sample_arrays<H, S>(of: PhantomData<(H, S)>)
     ensures { (table : Table S H) (host : H → List ℕ) → Arrays table host }
 {}
 
-/// A map whose keys are written in another order than they stand in.
+/// Shows the order of a map's keys, which are written in another order than they stand in.
 pub fn sample_maps<H, S>(of: PhantomData<(H, S)>)
     ensures { (table : Table S H) (host : H → List ℕ) → Maps table host }
 {}
 
-/// Texts that are joined, and printed by tables that reply in each way.
+/// Shows how texts are joined, and printed by tables that reply in each way.
 pub fn sample_texts<H, S>(of: PhantomData<(H, S)>)
     ensures { (table : Table S H) (host : H → List ℕ) → Texts table host }
 {}
 
-/// Calls by name: a variable that is lent and what a native leaves of it, and errors of a call.
+/// Shows what a call by name lends and what a native leaves of it, and the errors of a call.
 pub fn sample_calls<H, S>(of: PhantomData<(H, S)>)
     ensures { (table : Table S H) (host : H → List ℕ) → Calls table host }
 {}
 
-/// Names that are no function's.
+/// Shows what the names mean that are no function's.
 pub fn sample_keywords<H, S>(of: PhantomData<(H, S)>)
     ensures { (table : Table S H) (host : H → List ℕ) → Keywords table host }
 {}
 
-/// Pointers that are made and called.
+/// Shows how pointers are made and called.
 pub fn sample_pointers<H, S>(of: PhantomData<(H, S)>)
     ensures { (table : Table S H) (host : H → List ℕ) → Pointers table host }
 {}
 
-/// Methods: what a native leaves of the value, and the words that are no function's.
+/// Shows what a native leaves of the focus of a method, and the words that are no function's.
 pub fn sample_methods<H, S>(of: PhantomData<(H, S)>)
     ensures { (table : Table S H) (host : H → List ℕ) → Methods table host }
 {}
 
-/// `this`: the object of a method, and where it is read and assigned to.
-pub fn sample_objects<H, S>(of: PhantomData<(H, S)>)
-    ensures { (table : Table S H) (host : H → List ℕ) → Objects table host }
+/// Shows how `this` is read and assigned to, where it is bound and where it is not.
+pub fn sample_this<H, S>(of: PhantomData<(H, S)>)
+    ensures { (table : Table S H) (host : H → List ℕ) → ThisSamples table host }
 {}
 
-/// Constants at the top of a script.
+/// Shows when a constant at the top of a script is entered into the table of constants.
 pub fn sample_constants<H, S>(of: PhantomData<(H, S)>)
     ensures { (table : Table S H) (host : H → List ℕ) → Constants table host }
 {}
 
-/// Items of arrays, read and assigned to.
+/// Shows how items of arrays are read and assigned to.
 pub fn sample_items<H, S>(of: PhantomData<(H, S)>)
     ensures { (table : Table S H) (host : H → List ℕ) → Items table host }
 {}
 
-/// Entries of maps, read and assigned to, and where a chain stops.
+/// Shows how entries of maps are read and assigned to, and where a chain stops.
 pub fn sample_entries<H, S>(of: PhantomData<(H, S)>)
     ensures { (table : Table S H) (host : H → List ℕ) → Entries table host }
 {}
 
-/// Items and roots that are handles.
+/// Shows how items and roots that are handles are read and assigned to.
 pub fn sample_shared_items<H, S>(of: PhantomData<(H, S)>)
     ensures { (table : Table S H) (host : H → List ℕ) → SharedItems table host }
 {}
 
-/// Properties that natives get and set.
+/// Shows how natives get and set properties.
 pub fn sample_members<H, S>(of: PhantomData<(H, S)>)
     ensures { (table : Table S H) (host : H → List ℕ) → Members table host }
 {}
 
-/// What a chain changed of a property's value, and the setter.
+/// Shows when the setter gets what a chain changed of a property's value.
 pub fn sample_set_back<H, S>(of: PhantomData<(H, S)>)
     ensures { (table : Table S H) (host : H → List ℕ) → SetBack table host }
 {}
 
-/// What natives are kept from, and what goes back of what they left.
+/// Shows what natives are kept from, and what goes back of what they left.
 pub fn sample_guards<H, S>(of: PhantomData<(H, S)>)
     ensures { (table : Table S H) (host : H → List ℕ) → Guards table host }
 {}
 
-/// Items that natives get and set.
+/// Shows how natives get and set items.
 pub fn sample_indexers<H, S>(of: PhantomData<(H, S)>)
     ensures { (table : Table S H) (host : H → List ℕ) → Indexers table host }
 {}
 
-/// Methods at the end of a chain, and on its way.
+/// Shows what methods do at the end of a chain, and on its way.
 pub fn sample_method_chains<H, S>(of: PhantomData<(H, S)>)
     ensures { (table : Table S H) (host : H → List ℕ) → MethodChains table host }
 {}
 
-/// Characters and bits that are read and put back.
+/// Shows how characters and bits are read and put back.
 pub fn sample_parts<H, S>(of: PhantomData<(H, S)>)
     ensures { (table : Table S H) (host : H → List ℕ) → Parts table host }
 {}
 
-/// Values that a `switch` leads to a case, to a range or to its default.
+/// Shows which values a `switch` leads to a case, to a range or to its default.
 pub fn sample_switches<H, S>(of: PhantomData<(H, S)>)
     ensures { (table : Table S H) (host : H → List ℕ) → Switches table host }
 {}
 
-/// What fails or is refused in a `switch`.
+/// Shows what fails or is refused in a `switch`.
 pub fn sample_switch_errors<H, S>(of: PhantomData<(H, S)>)
     ensures { (table : Table S H) (host : H → List ℕ) → SwitchErrors table host }
 {}
 
-/// What a `for` walks, and the variables that it writes.
+/// Shows what a `for` walks, and the variables that it writes.
 pub fn sample_walks<H, S>(of: PhantomData<(H, S)>)
     ensures { (table : Table S H) (host : H → List ℕ) → Walks table host }
 {}
 
-/// The ways out of a `for`, and a turn that can not be made.
+/// Shows the ways out of a `for`, and a turn that can not be made.
 pub fn sample_walk_ends<H, S>(of: PhantomData<(H, S)>)
     ensures { (table : Table S H) (host : H → List ℕ) → WalkEnds table host }
 {}
 
-/// `throw`, with a value and without.
+/// Shows what `throw` raises, with a value and without.
 pub fn sample_throws<H, S>(of: PhantomData<(H, S)>)
     ensures { (table : Table S H) (host : H → List ℕ) → Throws table host }
 {}
 
-/// What a `try` catches, and what its branch finds.
+/// Shows what a `try` catches, and what its branch finds.
 pub fn sample_tries<H, S>(of: PhantomData<(H, S)>)
     ensures { (table : Table S H) (host : H → List ℕ) → Tries table host }
 {}
 
-/// What passes through a `try`.
+/// Shows what passes through a `try`.
 pub fn sample_try_ends<H, S>(of: PhantomData<(H, S)>)
     ensures { (table : Table S H) (host : H → List ℕ) → TryEnds table host }
 {}
 
-/// Variables that closures share.
+/// Shows what becomes of variables that closures share.
 pub fn sample_shares<H, S>(of: PhantomData<(H, S)>)
     ensures { (table : Table S H) (host : H → List ℕ) → Shares table host }
 {}
 
-/// Variables that a script exports.
+/// Shows which variables a script exports, and under which names.
 pub fn sample_exports<H, S>(of: PhantomData<(H, S)>)
     ensures { (table : Table S H) (host : H → List ℕ) → Exports table host }
 {}
 
-/// Modules that a script imports, whatever they are.
+/// Shows which modules a script imports, whatever they are, and how many are loaded then.
 pub fn sample_imports<H, S>(of: PhantomData<(H, S)>)
     ensures { (table : Table S H) (host : H → List ℕ) (m other : Module H) (older : Import H) →
         Imports table host m other older }
 {}
 
-/// Constants behind a path.
+/// Shows what constants behind a path mean.
 pub fn sample_paths<H, S>(of: PhantomData<(H, S)>)
     ensures { (table : Table S H) (host : H → List ℕ) → Paths table host }
 {}
 
-/// Calls behind a path.
+/// Shows which functions are entered by calls behind a path.
 pub fn sample_path_calls<H, S>(of: PhantomData<(H, S)>)
     ensures { (table : Table S H) (host : H → List ℕ) → PathCalls table host }
 {}
 
-/// Constants of an engine's global modules.
+/// Shows how constants of an engine's global modules are read, and that they are not assigned to.
 pub fn sample_global_constants<H, S>(of: PhantomData<(H, S)>)
     ensures { (table : Table S H) (host : H → List ℕ) → GlobalConstants table host }
 {}
 
-/// Variables that a `let` overwrites, whatever its index is.
+/// Shows which variables a `let` overwrites, whatever its index is.
 pub fn sample_overwrites<H, S>(of: PhantomData<(H, S)>)
     ensures { (table : Table S H) (host : H → List ℕ) (index : NonZeroUsize) → Overwrites table host index }
 {}

@@ -19,7 +19,7 @@ use Rattle.rhai_machine.specs.language.Frames.{EnterOnFocus, Frame, Core, core, 
 use Rattle.rhai_machine.specs.language.Arguments.{linked, linked_core, linked_to}
 use Rattle.rhai_machine.specs.language.Methods.{Method, call_argument, call_core, copied_before, curry_core, entry_core, own_seen}
 use Rattle.rhai_machine.specs.language.Methods.{pointer_alone, pointer_on, pointer_there, unlinked_alone, unlinked_on}
-use Rattle.rhai_dispatch.specs.Pointers.{number_in}
+use Rattle.rhai_callees.specs.Pointers.{native_number_of}
 use Rattle.rhai_methods.specs.Calls.{alone_by, named_on, on_by}
 use Rattle.rhai_methods.specs.Copies.{curried_in, curried_seen, found_copy}
 use Rattle.rhai_methods.specs.Parts.{all_of, alone_as, alone_with, name_called, on_as, on_with}
@@ -36,12 +36,12 @@ module _ {H : Type 0} where
     unlinked_on_is : (of : FnPtrKind H) (pointer : FnPtr H) (method : Method) (called : List ℕ) (args : List (Dynamic H))
         (focus : Dynamic H) →
         unlinked_on s of pointer method called args focus k l
-        ≡ on_by s (number_in of) called (out-FnPtr H pointer).name method.at args focus k l
+        ≡ on_by s (native_number_of of) called (out-FnPtr H pointer).name method.at args focus k l
     unlinked_on_is (kind.Native id) pointer method called args focus = refl
     unlinked_on_is _ pointer method called args focus = refl
 
     unlinked_alone_is : (of : FnPtrKind H) (pointer : FnPtr H) (at : Position) (args : List (Dynamic H)) →
-        unlinked_alone s of pointer at args k l ≡ alone_by s (number_in of) (out-FnPtr H pointer).name at args k l
+        unlinked_alone s of pointer at args k l ≡ alone_by s (native_number_of of) (out-FnPtr H pointer).name at args k l
     unlinked_alone_is (kind.Native id) pointer at args = refl
     unlinked_alone_is _ pointer at args = refl
 
@@ -60,7 +60,7 @@ module _ {H : Type 0} where
         sym (ap (λ o. core (EnterOnFocus f true (o.curry ++ args) method.at) k l) (copied_out q))
     copied_on_is None q method called args focus =
         unlinked_on_is (out-FnPtr H q).kind q method called (copied_before q args) focus
-        ∙ sym (ap (λ o. on_by s (number_in o.kind) called o.name method.at (o.curry ++ args) focus k l) (copied_out q))
+        ∙ sym (ap (λ o. on_by s (native_number_of o.kind) called o.name method.at (o.curry ++ args) focus k l) (copied_out q))
 
     -- a pointer by itself likewise
     copied_alone_is : (found : Option (Function H)) (q : FnPtr H) (at : Position) (args : List (Dynamic H)) →
@@ -68,7 +68,7 @@ module _ {H : Type 0} where
     copied_alone_is (Some f) q at args = sym (ap (λ o. linked_core f at (o.curry ++ args) k l) (copied_out q))
     copied_alone_is None q at args =
         unlinked_alone_is (out-FnPtr H q).kind q at (copied_before q args)
-        ∙ sym (ap (λ o. alone_by s (number_in o.kind) o.name at (o.curry ++ args) k l) (copied_out q))
+        ∙ sym (ap (λ o. alone_by s (native_number_of o.kind) o.name at (o.curry ++ args) k l) (copied_out q))
 
     -- a copy is linked to the same function
     copied_linked : (q : FnPtr H) (args : List (Dynamic H)) →

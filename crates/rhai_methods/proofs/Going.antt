@@ -10,8 +10,8 @@ use Rattle.rhai_functions.specs.declared.function.Function.{Function}
 use Rattle.rhai_machine.specs.machine.Memory.{here, ◌⨾◌}
 use Rattle.rhai_machine.specs.language.Setting.{Rules}
 use Rattle.rhai_machine.specs.language.State.{Answers, Local, State}
-use Rattle.rhai_machine.specs.language.Activations.{NoObject}
-use Rattle.rhai_machine.specs.language.Frames.{Operation, Dispatch, Call, EnterFunction, Frame, Core, core, ended, marked, Question, Fail}
+use Rattle.rhai_machine.specs.language.Activations.{NoThis}
+use Rattle.rhai_machine.specs.language.Frames.{Operation, Dispatch, Call, EnterFunction, Frame, Core, core, ended, ended_or_changed, Question, Fail}
 use Rattle.rhai_machine.specs.language.Calls.{call_of, call_races, dispatch_core, entry_of, plainly, races}
 use Rattle.rhai_machine.specs.language.Arguments.{linked_core, natives_alone, operation_named}
 use Rattle.rhai_machine.specs.language.Methods.{as_method, number_on_focus, numbered_on, on_focus}
@@ -20,8 +20,8 @@ use Rattle.rhai_steps.proofs.Pieces.{faulted, told}
 use Rattle.rhai_calls.specs.declared.dispatch.Dispatched.TheVariants.{Found}
 use Rattle.rhai_calls.specs.declared.dispatch.Dispatched.TheVariants as dispatched
 use Rattle.rhai_calls.specs.Dispatch.{Dispatches}
-use Rattle.rhai_calls.specs.Marks.{with_mark, MarkedRuns}
-use Rattle.rhai_dispatch.proofs.Levels.{IsLevel, wants_at}
+use Rattle.rhai_calls.specs.ToldChanges.{with_changed, MarkedRuns}
+use Rattle.rhai_callees.proofs.Levels.{IsLevel, call_runs_out_at}
 use Rattle.rhai_methods.specs.Calls.{named_alone, named_on, number_alone}
 use Rattle.rhai_methods.specs.Methods.{came_from, IsEntered, CallsFrom}
 use Rattle.rhai_methods.specs.Parts.{IsLinkedAlone}
@@ -30,30 +30,31 @@ use Rattle.rhai_methods.specs.declared.calls.MethodCall.TheVariants.{Ended, OnTa
 use Rattle.rhai_methods.proofs.Levels.{came_level, linked_level}
 
 -- what changed nothing ends as it would by itself
-pub unmarked_ends : {H : Type 0} (r : Result (Dynamic H) (EvalAltResult H)) → marked (with_mark false r) ≡ ended r
-unmarked_ends (Ok v) = refl
-unmarked_ends (Err e) = refl
+pub unchanged_call_ends : {H : Type 0} (r : Result (Dynamic H) (EvalAltResult H)) → ended_or_changed (with_changed false r) ≡ ended r
+unchanged_call_ends (Ok v) = refl
+unchanged_call_ends (Err e) = refl
 
 module _ {S H : Type 0} (rules : Rules S H) (pos : Position) where
   -- a beginning that is the same leads to the same
   pub begins_alike : (start other : List (Frame H) → Local H → Core H) (s new : State S H) (call : MethodCall H) →
-      ((k : List (Frame H)) → other k s.local ≡ start k s.local) → CallsFrom rules pos start s call new → CallsFrom rules pos other s call new
+      ((k : List (Frame H)) → other k s.local ≡ start k s.local) → CallsFrom rules pos start s call new →
+      CallsFrom rules pos other s call new
   unfolding CallsFrom
   begins_alike start other s new call same runs k =
       subst (λ (c : Core H). Goes rules (with_core c s) (with_core (came_from pos call k new.local) new)) (sym (same k)) (runs k)
 
   -- memory runs out at such a core
-  wants : (k : List (Frame H)) (s : State S H) (c : Core H) (e : EvalAltResult H) → IsLevel k s.local c → is_out_of_memory e ≡ true →
+  core_runs_out : (k : List (Frame H)) (s : State S H) (c : Core H) (e : EvalAltResult H) → IsLevel k s.local c → is_out_of_memory e ≡ true →
       Goes rules (with_core c s) (at (Fail e) k s)
-  wants k s c (error.ErrorOutOfMemory p) level is = wants_at rules k s c level p
-  wants k s c e level is = cc
+  core_runs_out k s c (error.ErrorOutOfMemory p) level is = call_runs_out_at rules k s c level p
+  core_runs_out k s c e level is = cc
 
   -- and so where it begins
-  pub wants_from : (start : List (Frame H) → Local H → Core H) (s : State S H) (e : EvalAltResult H) →
+  pub runs_out_from : (start : List (Frame H) → Local H → Core H) (s : State S H) (e : EvalAltResult H) →
       ((k : List (Frame H)) → IsLevel k s.local (start k s.local)) → is_out_of_memory e ≡ true →
       CallsFrom rules pos start s (Ended (Err e)) s
   unfolding CallsFrom
-  wants_from start s e level is k = wants k s (start k s.local) e (level k) is
+  runs_out_from start s e level is k = core_runs_out k s (start k s.local) e (level k) is
 
   -- it fails with an error that is told
   pub fails_from : (start : List (Frame H) → Local H → Core H) (s : State S H) (e x : EvalAltResult H) →
@@ -67,23 +68,23 @@ module _ {S H : Type 0} (rules : Rules S H) (pos : Position) where
       ((k : List (Frame H)) → IsLevel k s.local (start k s.local)) →
       (is_out_of_memory e ≡ false → (k : List (Frame H)) → start k s.local ≡ core (Fail e) k s.local) →
       CallsFrom rules pos start s (Ended (Err e)) s
-  errs_from start s (error.ErrorOutOfMemory p) level same = wants_from start s (error.ErrorOutOfMemory p) level refl
+  errs_from start s (error.ErrorOutOfMemory p) level same = runs_out_from start s (error.ErrorOutOfMemory p) level refl
   errs_from start s e level same = fails_from start s e e (same refl) (λ m. refl)
 
   -- it ends with an answer, which changed nothing
   pub ends_from : (start : List (Frame H) → Local H → Core H) (s : State S H) (wanted r : Result (Dynamic H) (EvalAltResult H))
       (q : Result (Dynamic H × Bool) (EvalAltResult H)) →
-      ((k : List (Frame H)) → start k s.local ≡ core (ended wanted) k s.local) → Answers r wanted → q ≡ with_mark false r →
+      ((k : List (Frame H)) → start k s.local ≡ core (ended wanted) k s.local) → Answers r wanted → q ≡ with_changed false r →
       CallsFrom rules pos start s (Ended q) s
   unfolding CallsFrom
-  ends_from start s wanted r q same answers is k = rw (same k, is, unmarked_ends r) (told rules r wanted answers k s)
+  ends_from start s wanted r q same answers is k = rw (same k, is, unchanged_call_ends r) (told rules r wanted answers k s)
 
   -- a function is entered there, or memory runs out before
   pub entered_from : (start : List (Frame H) → Local H → Core H) (s new : State S H) (wanted call : MethodCall H) →
       IsEntered call wanted → CallsFrom rules pos start s wanted new → CallsFrom rules pos start s call new
   unfolding CallsFrom
   entered_from start s new wanted (Ended (Err e)) is runs k =
-      runs k ⨾ wants k new (came_from pos wanted k new.local) e (came_level k new.local pos wanted) is
+      runs k ⨾ core_runs_out k new (came_from pos wanted k new.local) e (came_level k new.local pos wanted) is
   entered_from start s new wanted call is runs k =
       subst (λ (x : MethodCall H). Goes rules (with_core (start k s.local) s) (with_core (came_from pos x k new.local) new)) (sym is)
       (runs k)
@@ -111,15 +112,15 @@ module _ {S H : Type 0} (rules : Rules S H) (pos : Position) where
         (found_on alone focus runs)
 
     -- or by itself
-    abbrev marking : Call H
-    marking = record (call_of (operation_named name pos) args) { marks = true }
+    abbrev call_telling : Call H
+    call_telling = record (call_of (operation_named name pos) args) { marks = true }
 
-    found_alone : Dispatches rules (plainly (natives_alone name) false) marking s (Found f) new →
+    found_alone : Dispatches rules (plainly (natives_alone name) false) call_telling s (Found f) new →
         CallsFrom rules pos (named_alone rules.setting name pos args) s (Alone f args) new
     unfolding CallsFrom Dispatches
     found_alone runs k = runs k
 
-    pub named_enters_alone : Dispatches rules (plainly (natives_alone name) false) marking s (Found f) new →
+    pub named_enters_alone : Dispatches rules (plainly (natives_alone name) false) call_telling s (Found f) new →
         IsEntered call (Alone f args) → CallsFrom rules pos (named_alone rules.setting name pos args) s call new
     named_enters_alone runs is = entered_from (named_alone rules.setting name pos args) s new (Alone f args) call is (found_alone runs)
 
@@ -131,7 +132,7 @@ module _ {S H : Type 0} (rules : Rules S H) (pos : Position) where
 
     abbrev unless_held : Bool → List (Frame H) → Core H
     unless_held held k =
-        if held then core (Fail held_race) k s.local else core (EnterFunction (entry_of f NoObject true args pos s.local)) k s.local
+        if held then core (Fail held_race) k s.local else core (EnterFunction (entry_of f NoThis true args pos s.local)) k s.local
 
     linked_enters : races s.local.around.cells args ≡ false → CallsFrom rules pos (linked_core f pos args) s (Alone f args) s
     unfolding CallsFrom
@@ -156,13 +157,14 @@ module _ {S H : Type 0} (rules : Rules S H) (pos : Position) where
   module _ (number : ℕ) (operation : Operation) (args : List (Dynamic H)) where
     -- it is asked about on the focus
     pub number_asks_on : (focus : Dynamic H) (s new : State S H) (r : Result (Dynamic H × Bool) (EvalAltResult H)) →
-        call_races true s.local.around.cells (focus ∷ args) ≡ false → MarkedRuns rules (Question (number_on_focus number operation args focus)) s r new →
+        call_races true s.local.around.cells (focus ∷ args) ≡ false → MarkedRuns rules (Question
+        (number_on_focus number operation args focus)) s r new →
         CallsFrom rules pos (numbered_on number operation args focus) s (Ended r) new
     unfolding CallsFrom Steps
     number_asks_on focus s new r free runs k =
         subst (λ (b : Bool). Goes rules
         (with_core (if b then core (Fail (error.ErrorDataRace operation.name operation.at)) k s.local
-        else core (Question (number_on_focus number operation args focus)) k s.local) s) (at (marked r) k new)) (sym free) (runs k)
+        else core (Question (number_on_focus number operation args focus)) k s.local) s) (at (ended_or_changed r) k new)) (sym free) (runs k)
 
     -- unless an argument's cell is held
     pub number_races_on : (focus : Dynamic H) (s : State S H) (e : EvalAltResult H) →
@@ -184,16 +186,16 @@ module _ {S H : Type 0} (rules : Rules S H) (pos : Position) where
     -- and so it is by itself
     asks_alone : (new : State S H) (r : Result (Dynamic H) (EvalAltResult H)) → races s.local.around.cells args ≡ false →
         Runs rules (Question (called args)) s r new →
-        CallsFrom rules pos (number_alone number pos args) s (Ended (with_mark false r)) new
+        CallsFrom rules pos (number_alone number pos args) s (Ended (with_changed false r)) new
     unfolding CallsFrom Steps
-    asks_alone new r free runs k = rw (unmarked_ends r)
+    asks_alone new r free runs k = rw (unchanged_call_ends r)
         (subst (λ (b : Bool). Goes rules
         (with_core (if b then core (Fail race) k s.local else core (Question (called args)) k s.local) s) (at (ended r) k new))
         (sym free) (runs k))
 
     pub number_asks_alone : (all : List (Dynamic H)) → args ≡ all → (new : State S H) (r : Result (Dynamic H) (EvalAltResult H)) →
         races s.local.around.cells args ≡ false → Runs rules (Question (called all)) s r new →
-        CallsFrom rules pos (number_alone number pos args) s (Ended (with_mark false r)) new
+        CallsFrom rules pos (number_alone number pos args) s (Ended (with_changed false r)) new
     number_asks_alone all is new r free runs =
         asks_alone new r free (subst (λ (xs : List (Dynamic H)). Runs rules (Question (called xs)) s r new) (sym is) runs)
 

@@ -19,8 +19,8 @@ use Rattle.rhai_machine.specs.language.Arguments.{linked_core, linked_to, native
 use Rattle.rhai_machine.specs.language.Methods.{Method, CallWord, argument_at, as_method, call_argument, call_core, copied_before}
 use Rattle.rhai_machine.specs.language.Methods.{entry_core, numbered_on, on_focus, own_core, own_entry, pointer_alone, pointer_on}
 use Rattle.rhai_machine.specs.language.Methods.{unlinked_alone, unlinked_on, word_core}
-use Rattle.rhai_dispatch.specs.Pointers.{number_in}
-use Rattle.rhai_dispatch.proofs.Levels.{IsLevel, dispatch_level, either, number_level, on_level, there_level}
+use Rattle.rhai_callees.specs.Pointers.{native_number_of}
+use Rattle.rhai_callees.proofs.Levels.{IsLevel, dispatch_level, either, number_level, on_level, there_level}
 use Rattle.rhai_methods.specs.Calls.{alone_by, on_by}
 use Rattle.rhai_methods.specs.Methods.{came_from}
 use Rattle.rhai_methods.specs.Parts.{all_of, alone_as, alone_with, on_as, on_with}
@@ -37,7 +37,8 @@ module _ {H : Type 0} (k : List (Frame H)) (l : Local H) where
   numbered_level : (number : ℕ) (operation : Operation) (args : List (Dynamic H)) (focus : Dynamic H) →
       IsLevel k l (numbered_on number operation args focus k l)
   numbered_level number operation args focus =
-      either k l (call_races true l.around.cells (focus ∷ args)) _ _ (record { stack = refl; local = refl }) (record { stack = refl; local = refl })
+      either k l (call_races true l.around.cells (focus ∷ args)) _ _ (record { stack = refl; local = refl }) (record
+      { stack = refl; local = refl })
 
   module _ (s : Setting H) where
     pub linked_level : (f : Function H) (at : Position) (args : List (Dynamic H)) → IsLevel k l (linked_core f at args k l)
@@ -64,7 +65,7 @@ module _ {H : Type 0} (k : List (Frame H)) (l : Local H) where
         (focus : Dynamic H) → IsLevel k l (on_as s found p called at args focus k l)
     on_as_level (Some f) p called at args focus = record { stack = refl; local = refl }
     on_as_level None p called at args focus =
-        on_by_level (number_in (out-FnPtr H p).kind) called (out-FnPtr H p).name at (all_of p args) focus
+        on_by_level (native_number_of (out-FnPtr H p).kind) called (out-FnPtr H p).name at (all_of p args) focus
 
     pub on_with_level : (p : FnPtr H) (called : List ℕ) (at : Position) (args : List (Dynamic H)) (focus : Dynamic H) →
         IsLevel k l (on_with s p called at args focus k l)
@@ -74,7 +75,7 @@ module _ {H : Type 0} (k : List (Frame H)) (l : Local H) where
     alone_as_level : (found : Option (Function H)) (p : FnPtr H) (at : Position) (args : List (Dynamic H)) →
         IsLevel k l (alone_as s found p at args k l)
     alone_as_level (Some f) p at args = linked_level f at (all_of p args)
-    alone_as_level None p at args = alone_by_level (number_in (out-FnPtr H p).kind) (out-FnPtr H p).name at (all_of p args)
+    alone_as_level None p at args = alone_by_level (native_number_of (out-FnPtr H p).kind) (out-FnPtr H p).name at (all_of p args)
 
     pub alone_with_level : (p : FnPtr H) (at : Position) (args : List (Dynamic H)) → IsLevel k l (alone_with s p at args k l)
     alone_with_level p at args = alone_as_level (linked_to p (length (all_of p args)) l.around.lib) p at args

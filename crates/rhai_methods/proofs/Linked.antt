@@ -13,9 +13,9 @@ use Rattle.rhai_methods.specs.Parts.{IsLinkedAlone}
 use Rattle.rhai_methods.specs.declared.calls.MethodCall.TheVariants.{Ended, Alone}
 
 module _ {H : Type 0} (cells : Cells H) (f : Function H) (got all : List (Dynamic H)) (is : got ≡ all) (at : Position) where
-  -- memory was wanting
-  pub linked_wants : (e : EvalAltResult H) → is_out_of_memory e ≡ true → IsLinkedAlone cells f all at (Ended (Err e))
-  linked_wants e wants told = let never : true ≡ false = sym wants ∙ told in (cc, cc)
+  -- memory ran out
+  pub linked_runs_out : (e : EvalAltResult H) → is_out_of_memory e ≡ true → IsLinkedAlone cells f all at (Ended (Err e))
+  linked_runs_out e is_out told = let never : true ≡ false = sym is_out ∙ told in (cc, cc)
 
   -- an argument's cell is held
   pub linked_races : (name : List ℕ) (held : Bool) (e : EvalAltResult H) → name ≡ f.def.name → held ≡ races cells got → held ≡ true →

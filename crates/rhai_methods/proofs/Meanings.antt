@@ -12,7 +12,7 @@ use Rattle.rhai_machine.specs.language.Values.{bool_value, mismatch, through}
 use Rattle.rhai_machine.specs.language.Arguments.{pointer_wanted}
 use Rattle.rhai_machine.specs.language.Methods.{Method, MethodWord, CallWord, CurryWord, SharedWord, argument_at, call_argument}
 use Rattle.rhai_machine.specs.language.Methods.{own_core, own_entry, word_core, word_of}
-use Rattle.rhai_calls.specs.Marks.{with_mark}
+use Rattle.rhai_calls.specs.ToldChanges.{with_changed}
 use Rattle.rhai_methods.specs.Calls.{named_on}
 use Rattle.rhai_methods.specs.Copies.{copy_seen, curried_seen, own_copy}
 use Rattle.rhai_methods.specs.Methods.{MethodRuns, CallsFrom}
@@ -95,7 +95,7 @@ module _ {S H : Type 0} (rules : Rules S H) (method : Method) (args : List (Dyna
   -- ---- `curry`
 
   pub curry_goes : (answer : Result (Dynamic H) (EvalAltResult H)) (r : Result (Dynamic H × Bool) (EvalAltResult H)) →
-      r ≡ with_mark false answer → Answers answer (curried_seen rules.setting.host_type old.local.around.cells args method.at
+      r ≡ with_changed false answer → Answers answer (curried_seen rules.setting.host_type old.local.around.cells args method.at
       (through old.local.around.cells focus method.at)) →
       CallsFrom rules method.at (word_core rules.setting CurryWord method args focus) old (Ended r) old
   curry_goes answer r is answers = ends_from rules method.at (word_core rules.setting CurryWord method args focus) old

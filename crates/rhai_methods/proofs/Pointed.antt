@@ -11,7 +11,7 @@ use Rattle.rhai_machine.specs.language.Setting.{Rules}
 use Rattle.rhai_machine.specs.language.State.{State}
 use Rattle.rhai_machine.specs.language.Arguments.{linked_to}
 use Rattle.rhai_machine.specs.machine.Memory.{here}
-use Rattle.rhai_dispatch.specs.Pointers.{number_in}
+use Rattle.rhai_callees.specs.Pointers.{native_number_of}
 use Rattle.rhai_methods.specs.Calls.{alone_by, on_by}
 use Rattle.rhai_methods.specs.Methods.{IsEntered, CallsFrom}
 use Rattle.rhai_methods.specs.Parts.{all_of, alone_as, alone_with, name_called, on_as, on_with, IsLinkedAlone}
@@ -28,7 +28,7 @@ called_is p None own is = is
 module _ {S H : Type 0} (rules : Rules S H) (p : FnPtr H) (at : Position) (args : List (Dynamic H)) (old new : State S H)
     (call : MethodCall H) where
   module _ (number : Option NativeId) (name : List ℕ) (curried : List (Dynamic H)) (named : name ≡ (out-FnPtr H p).name)
-      (has : curried ≡ (out-FnPtr H p).curry) (leads : number ≡ number_in (out-FnPtr H p).kind) where
+      (has : curried ≡ (out-FnPtr H p).curry) (leads : number ≡ native_number_of (out-FnPtr H p).kind) where
     -- what is linked to no function
     pub by_parts_alone : CallsFrom rules at (alone_by rules.setting number name at (curried ++ args)) old call new →
         CallsFrom rules at (alone_as rules.setting None p at args) old call new

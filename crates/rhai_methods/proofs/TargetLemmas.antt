@@ -8,14 +8,14 @@ use Rattle.rhai_places.specs.declared.spot.Spot.{Spot}
 use Rattle.rhai_places.specs.declared.target.Part.TheVariants as part
 use Rattle.rhai_places.specs.PutBack.{put_back, IsNotPut}
 use Rattle.rhai_machine.specs.machine.Machine.{Go}
-use Rattle.rhai_machine.specs.machine.Memory.{here, wanting, ◌⨾◌}
+use Rattle.rhai_machine.specs.machine.Memory.{here, out_before_step, ◌⨾◌}
 use Rattle.rhai_machine.specs.language.Setting.{Rules}
 use Rattle.rhai_machine.specs.language.State.{State}
-use Rattle.rhai_machine.specs.language.Frames.{Frame, core, marked, Back, Changed, Fail, PartMethod}
+use Rattle.rhai_machine.specs.language.Frames.{Frame, core, ended_or_changed, Back, Changed, Fail, PartMethod}
 use Rattle.rhai_machine.specs.language.Members.{focused_on}
 use Rattle.rhai_machine.specs.language.Methods.{Method}
 use Rattle.rhai_machine.specs.language.Runs.{at, Goes}
-use Rattle.rhai_machine.specs.language.Unwinding.{not_put, part_changed}
+use Rattle.rhai_machine.specs.language.Unwinding.{put_back_error, part_changed}
 use Rattle.rhai_steps.proofs.Pieces.{step_by}
 use Rattle.rhai_methods.specs.Methods.{MethodRuns, CallsFrom}
 use Rattle.rhai_methods.specs.Targets.{ComesBack, on_target}
@@ -41,27 +41,27 @@ module _ {S H : Type 0} (rules : Rules S H) where
     comes_down : (e : EvalAltResult H) → Goes rules (at (Fail e) over (working x s)) (at (Fail e) k (working above s))
     comes_down e = step_by rules _ _ (Go (core (Fail e) k (focused_on (Some above) s.local))) refl here
 
-    -- and so it is where a value that is not marked comes up
+    -- and so it is where a value comes up that tells of no change
     comes_up : (v : Dynamic H) → Goes rules (at (Back v) over (working x s)) (at (Back v) k (working above s))
     comes_up v = step_by rules _ _ (Go (core (Back v) k (focused_on (Some above) s.local))) refl here
 
     not_back : (v : Dynamic H) → put_back above spot x ≡ None →
-        Goes rules (at (Changed v) over (working x s)) (at (Fail (not_put rules.setting spot x pos)) k (working above s))
-    not_back v is = step_by rules _ _ (Go (core (Fail (not_put rules.setting spot x pos)) k (focused_on (Some above) s.local)))
+        Goes rules (at (Changed v) over (working x s)) (at (Fail (put_back_error rules.setting spot x pos)) k (working above s))
+    not_back v is = step_by rules _ _ (Go (core (Fail (put_back_error rules.setting spot x pos)) k (focused_on (Some above) s.local)))
         (ap (λ (whole : Option (Dynamic H)). Go (part_changed rules.setting whole above spot pos v k (working x s).local)) is) here
 
     -- and where a part is not taken back
     is_refused : (v : Dynamic H) (e : EvalAltResult H) → IsNotPut rules.setting.host_type above spot x pos e →
         Goes rules (at (Changed v) over (working x s)) (at (Fail e) k (working above s))
-    is_refused v (error.ErrorOutOfMemory p) is = wanting {at = p} (comes_down (error.ErrorOutOfMemory p))
+    is_refused v (error.ErrorOutOfMemory p) is = out_before_step {at = p} (comes_down (error.ErrorOutOfMemory p))
     is_refused v e is = rw (is refl).1 (not_back v (is refl).0)
 
     -- the answer of a method on a part, also of a function that it entered
     pub answer_comes : (answer result : Result (Dynamic H × Bool) (EvalAltResult H)) (left : Dynamic H) →
         ComesBack rules.setting.host_type (part.Of spot x) above pos answer result left →
-        Goes rules (at (marked answer) over (working x s)) (at (marked result) k (working left s))
+        Goes rules (at (ended_or_changed answer) over (working x s)) (at (ended_or_changed result) k (working left s))
     answer_comes (Ok (v, true)) (Ok w) left is =
-        subst (λ (y : Dynamic H × Bool). Goes rules (at (Changed v) over (working x s)) (at (marked (Ok y)) k (working left s))) (sym is.0)
+        subst (λ (y : Dynamic H × Bool). Goes rules (at (Changed v) over (working x s)) (at (ended_or_changed (Ok y)) k (working left s))) (sym is.0)
         (goes_back v left is.1)
     answer_comes (Ok (v, true)) (Err e) left is =
         subst (λ (y : Dynamic H). Goes rules (at (Changed v) over (working x s)) (at (Fail e) k (working y s))) (sym is.0)

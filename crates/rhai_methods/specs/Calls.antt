@@ -16,7 +16,7 @@ module _ {H : Type 0} where
   number_alone number at args k l = numbered_core (record (call_of (operation_named (codes "call") at) args) { number = Some number }) k l
 
   module _ (s : Setting H) where
-    -- a call by name with nothing lent, whose answer is marked
+    -- a call by name with nothing lent, whose answer tells whether it changed its first argument
     abbrev pub named_alone : (name : List ℕ) → Position → (args : List (Dynamic H)) → List (Frame H) → Local H → Core H
     named_alone name at args k l =
         dispatch_core s (plainly (natives_alone name) false) (record (call_of (operation_named name at) args) { marks = true }) k l

@@ -32,6 +32,7 @@ module _ {H : Type 0} where
     curried_in (union.FnPtr pointer) seen = Ok (pointer_with pointer args)
     curried_in _ seen = Err (mismatch (codes "Fn") (type_name_of host cells seen) at)
 
+    -- a copy of the pointer that was seen through a handle, with more arguments, or why nothing was seen
     abbrev pub curried_seen : Result (Dynamic H) (EvalAltResult H) → Result (Dynamic H) (EvalAltResult H)
     curried_seen (Ok v) = curried_in (layer_of v) v
     curried_seen (Err e) = Err e

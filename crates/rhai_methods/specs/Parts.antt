@@ -13,7 +13,7 @@ use Rattle.rhai_machine.specs.language.Values.{Cells}
 use Rattle.rhai_machine.specs.language.Frames.{EnterOnFocus, Frame, Core, core}
 use Rattle.rhai_machine.specs.language.Calls.{races}
 use Rattle.rhai_machine.specs.language.Arguments.{linked_core, linked_to}
-use Rattle.rhai_dispatch.specs.Pointers.{number_in}
+use Rattle.rhai_callees.specs.Pointers.{native_number_of}
 use Rattle.rhai_methods.specs.Calls.{alone_by, on_by}
 use Rattle.rhai_methods.specs.declared.calls.MethodCall.{MethodCall}
 use Rattle.rhai_methods.specs.declared.calls.MethodCall.TheVariants.{Ended, Alone}
@@ -23,22 +23,24 @@ abbrev pub all_of : {H : Type 0} → FnPtr H → (args : List (Dynamic H)) → L
 all_of {H} pointer args = (out-FnPtr H pointer).curry ++ args
 
 module _ {H : Type 0} (s : Setting H) where
-  -- by itself
+  -- a call of a pointer by itself: of the function that it is linked to, or else by its native's number or its name
   abbrev pub alone_as : Option (Function H) → FnPtr H → Position → (args : List (Dynamic H)) → List (Frame H) → Local H → Core H
   alone_as (Some function) pointer at args k l = linked_core function at (all_of pointer args) k l
   alone_as None pointer at args k l =
-      alone_by s (number_in (out-FnPtr H pointer).kind) (out-FnPtr H pointer).name at (all_of pointer args) k l
+      alone_by s (native_number_of (out-FnPtr H pointer).kind) (out-FnPtr H pointer).name at (all_of pointer args) k l
 
+  -- a call of a pointer by itself: the number of arguments and the libraries decide whether it is linked to a function
   abbrev pub alone_with : FnPtr H → Position → (args : List (Dynamic H)) → List (Frame H) → Local H → Core H
   alone_with pointer at args k l = alone_as (linked_to pointer (length (all_of pointer args)) l.around.lib) pointer at args k l
 
-  -- on the focus, by this name where it is a native's number
+  -- a call of a pointer on the focus: of the function that it is linked to, or else by its native's number, under this name, or its name
   abbrev pub on_as : Option (Function H) → FnPtr H → (called : List ℕ) → Position → (args : List (Dynamic H)) → (focus : Dynamic H) →
       List (Frame H) → Local H → Core H
   on_as (Some function) pointer called at args focus k l = core (EnterOnFocus function true (all_of pointer args) at) k l
   on_as None pointer called at args focus k l =
-      on_by s (number_in (out-FnPtr H pointer).kind) called (out-FnPtr H pointer).name at (all_of pointer args) focus k l
+      on_by s (native_number_of (out-FnPtr H pointer).kind) called (out-FnPtr H pointer).name at (all_of pointer args) focus k l
 
+  -- a call of a pointer on the focus: the number of arguments and the libraries decide whether it is linked to a function
   abbrev pub on_with : FnPtr H → (called : List ℕ) → Position → (args : List (Dynamic H)) → (focus : Dynamic H) → List (Frame H) →
       Local H → Core H
   on_with pointer called at args focus k l =
@@ -50,7 +52,7 @@ name_called {H} pointer (Some name) = name
 name_called {H} pointer None = (out-FnPtr H pointer).name
 
 -- what came of a call of a function that a pointer is linked to, by itself: it is entered, unless an argument is the handle of a cell
--- that is held, or memory was wanting
+-- that is held, or memory ran out
 abbrev pub IsLinkedAlone : {H : Type 0} → Cells H → Function H → (all : List (Dynamic H)) → Position → MethodCall H → Type 0
 IsLinkedAlone cells function all at (Ended (Err e)) =
     is_out_of_memory e ≡ false → (races cells all ≡ true) × (e ≡ error.ErrorDataRace function.def.name at)

@@ -1,4 +1,4 @@
--- A method on a target: on a place, on a temporary, or on a part of what a place holds, which goes back into it.
+-- A method on a target: on a place, on a temporary, or on a part of the value at a place, which goes back into it.
 use Rattle.std.specs.Prelude.{◌≡◌, ℕ, Bool, true, List, ◌∷◌, Some, Result, Ok, Err}
 use Rattle.rhai_tree.specs.declared.position.Position.{Position}
 use Rattle.rhai_values.specs.declared.base.value.Dynamic.{Dynamic}
@@ -13,19 +13,19 @@ use Rattle.rhai_machine.specs.language.Methods.{Method, method_core}
 
 module _ {H : Type 0} where
   -- what waits for a method on a target: a part goes back into its place
-  abbrev pub waiting : Part H → (place : Dynamic H) → Position → List (Frame H) → List (Frame H)
-  waiting (part.Of at v) place pos k = PartMethod place at pos ∷ k
-  waiting _ place pos k = k
+  abbrev pub frames_waiting : Part H → (place : Dynamic H) → Position → List (Frame H) → List (Frame H)
+  frames_waiting (part.Of at v) place pos k = PartMethod place at pos ∷ k
+  frames_waiting _ place pos k = k
 
   -- what a chain goes on with behind a method on a target: the temporary, and else the place
-  abbrev pub stands : Part H → (place : Dynamic H) → Dynamic H
-  stands part.Whole place = place
-  stands (part.Temporary v) place = v
-  stands (part.Of at v) place = place
+  abbrev pub value_walked_on : Part H → (place : Dynamic H) → Dynamic H
+  value_walked_on part.Whole place = place
+  value_walked_on (part.Temporary v) place = v
+  value_walked_on (part.Of at v) place = place
 
   -- a method that is called on what a target shows
   abbrev pub on_target : Setting H → Method → (args : List (Dynamic H)) → Part H → (place : Dynamic H) → List (Frame H) → Local H → Core H
-  on_target s method args what place k l = method_core s method args (shown what place) (waiting what place method.at k) l
+  on_target s method args what place k l = method_core s method args (shown what place) (frames_waiting what place method.at k) l
 
   -- a target after a method: of the same kind, and the place of a temporary is left alone
   abbrev pub StaysAlike : Part H → (place : Dynamic H) → (after : Part H) → (left : Dynamic H) → Type 0
@@ -34,8 +34,8 @@ module _ {H : Type 0} where
   StaysAlike (part.Of at v) place (part.Of spot w) left = spot ≡ at
   StaysAlike _ place after left = ⊥
 
-  -- what comes of a method's answer: where it is marked the part goes back into its place, and where that is refused the place stays and
-  -- the refusal is the answer; any other answer changes nothing
+  -- what comes of a method's answer: where it tells of a change the part goes back into its place, and where that is refused the place
+  -- stays and the refusal is the answer; any other answer changes nothing
   abbrev pub ComesBack : (host_name : H → List ℕ) → Part H → (place : Dynamic H) → Position →
       (answer result : Result (Dynamic H × Bool) (EvalAltResult H)) → (left : Dynamic H) → Type 0
   ComesBack host_name what place pos (Ok (v, true)) (Ok w) left = (w ≡ (v, true)) × (propagated what place ≡ Some left)

@@ -1,5 +1,4 @@
-//! The calls that a method makes: of a pointer by itself, and of a pointer on the value that the method
-//! works on.
+//! The calls that a method makes: of a pointer by itself, and of a pointer on the focus.
 
 ghost use Rattle.std.specs.Prelude.{◌≤◌, ◌++◌, false};
 ghost use Rattle.rhai_machine.specs.language.Arguments.{operation_named};
@@ -8,18 +7,18 @@ ghost use Rattle.rhai_machine.specs.language.Setting.{rules_of};
 ghost use Rattle.rhai_steps.specs.Agreement.{KeepsSight};
 ghost use Rattle.rhai_steps.specs.States.{state_of};
 ghost use Rattle.rhai_steps.specs.Offers.{Offers};
-ghost use Rattle.rhai_calls.specs.Marks.{with_mark};
+ghost use Rattle.rhai_calls.specs.ToldChanges.{with_changed};
 ghost use Rattle.rhai_methods.specs.Calls.{alone_by, named_alone, named_on, number_alone, on_by};
-ghost use Rattle.rhai_steps.specs.Marked.{lending};
+ghost use Rattle.rhai_steps.specs.OnFocus.{lending};
 ghost use Rattle.rhai_methods.specs.Methods.{IsEntered, CallsFrom};
 ghost use Rattle.rhai_methods.specs.declared.calls.MethodCall.TheVariants.{Alone, Ended, OnTarget};
 
-use crate::copies::{taken_behind, taken_out};
+use crate::copies::{take_behind, take_out};
+use rhai_call_forms::names::natives_alone;
 use rhai_calls::dispatch::{Dispatched, Seeks, call_races, pass_all, pass_call, races};
-use rhai_calls::native::{Passing, call_number, call_number_alone, call_number_on, marked};
+use rhai_calls::native::{Passing, call_number, call_number_alone, call_number_on, tell_changed};
 use rhai_few::Few;
 use rhai_functions::function::{Function, Offered};
-use rhai_pointers::names::natives_alone;
 use rhai_state::error::EvalAltResult;
 use rhai_state::limits::Limits;
 use rhai_state::state::GlobalRuntimeState;
@@ -34,15 +33,15 @@ use std::alloc::Global;
 /// What comes of a method's call.
 #[derive(Drop)]
 pub enum MethodCall<H> {
-    /// It has ended, and a value has its mark.
+    /// It has ended. With a value it tells whether the focus may have changed.
     Ended(Result<(Dynamic<H>, bool), EvalAltResult<H>>),
-    /// A function of a script is to be entered on the value, with these arguments.
+    /// A function of a script is to be entered on the focus, with these arguments.
     OnTarget(Function<H>, Few<Dynamic<H>>),
     /// One is to be entered by itself.
     Alone(Function<H>, Few<Dynamic<H>>),
 }
 
-/// A native by its number on the target, which is lent to it. It charges nothing.
+/// Calls a native by its number on the focus, which is lent to it. It charges nothing.
 ///
 /// # Errors
 /// `ErrorDataRace` at the call for an argument that is the handle of a cell which is held, and those of
@@ -72,8 +71,8 @@ fn number_on<H: Host, T: NativeTable<H>>(
     MethodCall::Ended(call_number_on(limits, alloc, global, table, id, name, target, args, pos))
 }
 
-/// A call by name on the target, which is lent, and kept from a native that is not pure where it is a
-/// constant. The answer says whether the target may have changed. A function of a script is for the caller to
+/// Makes a call by name on the focus, which is lent. It is kept from a native that is not pure where it is a
+/// constant. The answer tells whether the focus may have changed. A function of a script is for the caller to
 /// enter: the arguments are taken then.
 ///
 /// # Errors
@@ -114,8 +113,8 @@ pub fn call_named_on<H: Host, T: NativeTable<H>>(
     }
 }
 
-/// A function of a script that is to be entered on the target, with what a pointer has already before its
-/// arguments.
+/// Answers that a function of a script is to be entered on the focus. It gets what a pointer has already
+/// before its arguments.
 pub fn on_target<H: Host>(
     alloc: Global,
     function: Function<H>,
@@ -125,7 +124,7 @@ pub fn on_target<H: Host>(
 ) -> MethodCall<H>
     ensures { IsEntered result (OnTarget function (curried ++ args.old)) }
 {
-    match taken_behind(alloc, curried, args, pos) {
+    match take_behind(alloc, curried, args, pos) {
         Ok(all) => MethodCall::OnTarget(function, all),
         Err(error) => {
             drop(function);
@@ -134,8 +133,8 @@ pub fn on_target<H: Host>(
     }
 }
 
-/// The same of one that is to be entered by itself.
-fn by_itself<H: Host>(
+/// Answers that a function of a script is to be entered by itself, with these arguments.
+fn enter_by_itself<H: Host>(
     alloc: Global,
     function: Function<H>,
     args: &mut [Dynamic<H>],
@@ -143,7 +142,7 @@ fn by_itself<H: Host>(
 ) -> MethodCall<H>
     ensures { IsEntered result (Alone function args.old) }
 {
-    match taken_out(alloc, args, pos) {
+    match take_out(alloc, args, pos) {
         Ok(all) => MethodCall::Alone(function, all),
         Err(error) => {
             drop(function);
@@ -152,7 +151,8 @@ fn by_itself<H: Host>(
     }
 }
 
-/// A call on the target by a native's number, under the name by which it was called, or else by a name.
+/// Makes a call on the focus by a native's number, or else by a name. A native by its number is called under
+/// the name `called`.
 fn call_by_on<H: Host, T: NativeTable<H>>(
     limits: &Limits,
     alloc: Global,
@@ -185,7 +185,8 @@ fn call_by_on<H: Host, T: NativeTable<H>>(
     }
 }
 
-/// The same behind the values that a pointer has already. Where it has none no list is made.
+/// Makes a call on the focus behind the values that a pointer has already, as `call_by_on` does. Where it has
+/// none no list is made.
 pub fn call_on<H: Host, T: NativeTable<H>>(
     limits: &Limits,
     alloc: Global,
@@ -215,7 +216,7 @@ pub fn call_on<H: Host, T: NativeTable<H>>(
             limits, alloc, offered, global, table, number, called, name, target, args, pos,
         );
     }
-    match taken_behind(alloc, curried, args, pos) {
+    match take_behind(alloc, curried, args, pos) {
         Ok(all) => {
             let mut all = all;
             let values = all.as_mut_slice();
@@ -229,12 +230,12 @@ pub fn call_on<H: Host, T: NativeTable<H>>(
     }
 }
 
-/// A native by its number, with nothing lent. It charges nothing.
+/// Calls a native by its number, with nothing lent. It charges nothing.
 ///
 /// # Errors
 /// `ErrorDataRace` at the call for an argument that is the handle of a cell which is held, and those of
 /// `rhai_calls::native::call_number`.
-fn number_by_itself<H: Host, T: NativeTable<H>>(
+fn call_number_by_itself<H: Host, T: NativeTable<H>>(
     limits: &Limits,
     alloc: Global,
     global: &mut GlobalRuntimeState<H>,
@@ -249,7 +250,7 @@ fn number_by_itself<H: Host, T: NativeTable<H>>(
         CallsFrom (rules_of limits.now H.name_of offer T.natives) pos
         (number_alone id.number pos args.old)
         (state_of (T.state table.old) global.old scope held)
-        (Ended (with_mark false result)) (state_of (T.state table.new) global.new scope held) }
+        (Ended (with_changed false result)) (state_of (T.state table.new) global.new scope held) }
 {
     if races(&global.cells, args) {
         return Err(data_race_by(alloc, "call", pos));
@@ -260,8 +261,8 @@ fn number_by_itself<H: Host, T: NativeTable<H>>(
     call_number(limits, alloc, global, table, id, "call", first, rest, pos)
 }
 
-/// A call by name, with nothing lent. The answer says whether the native is not pure.
-fn named_by_itself<H: Host, T: NativeTable<H>>(
+/// Makes a call by name, with nothing lent. The answer tells whether the native is not pure.
+fn call_named_by_itself<H: Host, T: NativeTable<H>>(
     limits: &Limits,
     alloc: Global,
     offered: &Offered<'_, H>,
@@ -284,11 +285,11 @@ fn named_by_itself<H: Host, T: NativeTable<H>>(
         limits, alloc, offered, global, table, alone, name, None, args, true, pos,
     ) {
         Dispatched::Ended(result) => MethodCall::Ended(result),
-        Dispatched::Found(function) => by_itself(alloc, function, args, pos),
+        Dispatched::Found(function) => enter_by_itself(alloc, function, args, pos),
     }
 }
 
-/// A call of a pointer by itself: of a native by its number, or else by the pointer's name.
+/// Calls a pointer by itself: a native by its number, or else the pointer's name.
 fn call_by_itself<H: Host, T: NativeTable<H>>(
     limits: &Limits,
     alloc: Global,
@@ -310,14 +311,14 @@ fn call_by_itself<H: Host, T: NativeTable<H>>(
 {
     match number {
         Some(id) => {
-            let result = number_by_itself(limits, alloc, global, table, id, args, pos);
-            MethodCall::Ended(marked(result, false))
+            let result = call_number_by_itself(limits, alloc, global, table, id, args, pos);
+            MethodCall::Ended(tell_changed(result, false))
         }
-        None => named_by_itself(limits, alloc, offered, global, table, name, args, pos),
+        None => call_named_by_itself(limits, alloc, offered, global, table, name, args, pos),
     }
 }
 
-/// The same behind the values that a pointer has already. Where it has none no list is made.
+/// Calls a pointer by itself, behind the values that it has already. Where it has none no list is made.
 pub fn call_alone<H: Host, T: NativeTable<H>>(
     limits: &Limits,
     alloc: Global,
@@ -344,7 +345,7 @@ pub fn call_alone<H: Host, T: NativeTable<H>>(
             limits, alloc, offered, global, table, number, name, args, pos,
         );
     }
-    match taken_behind(alloc, curried, args, pos) {
+    match take_behind(alloc, curried, args, pos) {
         Ok(all) => {
             let mut all = all;
             let values = all.as_mut_slice();

@@ -1,5 +1,4 @@
-//! Pointers that are found in values. A method may change the value that it works on, so what it calls is
-//! a copy.
+//! Pointers that are found in values. A method may change its focus, so what it calls is a copy.
 
 ghost use Rattle.std.specs.Prelude.{◌≡◌, ◌++◌, [], Ok, IfErr, IfOk, codes, false, true};
 ghost use Rattle.std.specs.Option.{option_copied, option_map};
@@ -13,10 +12,10 @@ ghost use Rattle.rhai_machine.specs.language.State.{Answers};
 ghost use Rattle.rhai_machine.specs.language.Values.{mismatch as mismatched, through, used};
 ghost use Rattle.rhai_methods.specs.Copies.{copy_seen, curried_seen, own_copy};
 
-use rhai_dispatch::arguments::join;
+use rhai_call_forms::arguments::keep_argument;
+use rhai_call_forms::pointers::with_curried;
+use rhai_callees::arguments::join;
 use rhai_few::Few;
-use rhai_pointers::arguments::keep_argument;
-use rhai_pointers::pointers::with_curried;
 use rhai_state::error::EvalAltResult;
 use rhai_steps::errors::{data_race, mismatch};
 use rhai_steps::values::{copy, unit_value};
@@ -27,7 +26,7 @@ use rhai_values::cells::CellStore;
 use std::alloc::Global;
 use std::mem::replace;
 
-/// A value, seen through a handle. None where the handle's cell is held.
+/// Looks at a value through a handle. None where the handle's cell is held.
 pub(crate) fn seen<'a, H: Host>(
     cells: &'a CellStore<H>,
     value: &'a Dynamic<H>,
@@ -40,7 +39,7 @@ pub(crate) fn seen<'a, H: Host>(
     }
 }
 
-/// The value that a map has under a name, None where there is no map.
+/// Finds the value that a map has under a name, None where there is no map.
 fn entry_of<'a, H: Host>(value: &'a Dynamic<H>, name: &str) -> Option<&'a Dynamic<H>>
     ensures { option_copied result ≡ entry_in name.now (layer_of value.now) }
 {
@@ -50,7 +49,7 @@ fn entry_of<'a, H: Host>(value: &'a Dynamic<H>, name: &str) -> Option<&'a Dynami
     }
 }
 
-/// The same through a handle. A cell that is held has no such value.
+/// Finds the value that a map has under a name, through a handle. A cell that is held has no such value.
 fn own_entry<'a, H: Host>(
     cells: &'a CellStore<H>,
     value: &'a Dynamic<H>,
@@ -65,8 +64,8 @@ fn own_entry<'a, H: Host>(
     }
 }
 
-/// The pointer that a value is. It is moved.
-fn moved_pointer<H: Host>(value: Dynamic<H>) -> Option<FnPtr<H>>
+/// Moves the pointer out of a value that is one.
+fn move_pointer<H: Host>(value: Dynamic<H>) -> Option<FnPtr<H>>
     ensures { result ≡ pointer_there (layer_of value) }
 {
     let mut value = value;
@@ -79,7 +78,7 @@ fn moved_pointer<H: Host>(value: Dynamic<H>) -> Option<FnPtr<H>>
     }
 }
 
-/// A copy of the pointer that a value without a handle is. Nothing else is copied.
+/// Copies the pointer that a value without a handle is. Nothing else is copied.
 fn plain_copy<H: Host>(
     alloc: Global,
     value: &Dynamic<H>,
@@ -88,12 +87,12 @@ fn plain_copy<H: Host>(
     ensures { Answers result (Ok (option_map copy_pointer (pointer_there (layer_of value.now)))) }
 {
     match &value.value {
-        Union::FnPtr(_) => Ok(moved_pointer(copy(alloc, value, pos)?)),
+        Union::FnPtr(_) => Ok(move_pointer(copy(alloc, value, pos)?)),
         _ => Ok(None),
     }
 }
 
-/// A copy of the pointer that a value is, through a handle. None where it is none.
+/// Copies the pointer that a value is, through a handle. None where it is none.
 ///
 /// # Errors
 /// `ErrorDataRace` at the position, for a handle whose cell is held.
@@ -111,8 +110,8 @@ pub fn pointer_copy<H: Host>(
     }
 }
 
-/// A copy of the pointer that a map has under a name, both seen through their handles. None where there is
-/// none. Nothing else of the map is copied.
+/// Copies the pointer that a map has under a name, both seen through their handles. None where there is none.
+/// Nothing else of the map is copied.
 ///
 /// # Errors
 /// `ErrorDataRace` at the position, where the map has the handle of a cell that is held.
@@ -131,7 +130,7 @@ pub fn own_pointer<H: Host>(
     }
 }
 
-/// No pointer where one is wanted.
+/// Builds the error of a value that is no pointer where one is wanted.
 #[cold]
 #[inline(never)]
 pub fn no_pointer<H: Host>(
@@ -149,12 +148,12 @@ pub fn no_pointer<H: Host>(
     }
 }
 
-/// All arguments, which are taken out of their places. Where there is no memory those that were taken are
-/// let go of.
+/// Takes all arguments out into a list, and leaves `()` for each. Where there is no memory those that were
+/// taken are let go of.
 ///
 /// # Errors
 /// `ErrorOutOfMemory` at the position alone.
-pub fn taken_out<H: Host>(
+pub fn take_out<H: Host>(
     alloc: Global,
     args: &mut [Dynamic<H>],
     pos: Position,
@@ -170,12 +169,12 @@ pub fn taken_out<H: Host>(
     Ok(all)
 }
 
-/// The values that a pointer has already, with the arguments behind them, which are taken out of their
-/// places.
+/// Takes all arguments out and puts them behind the values that a pointer has already. It leaves `()` for
+/// each.
 ///
 /// # Errors
 /// `ErrorOutOfMemory` at the position alone.
-pub fn taken_behind<H: Host>(
+pub fn take_behind<H: Host>(
     alloc: Global,
     curried: Items<Dynamic<H>>,
     args: &mut [Dynamic<H>],
@@ -184,7 +183,7 @@ pub fn taken_behind<H: Host>(
     ensures joined { IfOk result (λ all. all ≡ curried ++ args.old) }
     ensures refused { IfErr result (λ e. is_out_of_memory e ≡ true) }
 {
-    let mut all = taken_out(alloc, args, pos)?;
+    let mut all = take_out(alloc, args, pos)?;
     match join(curried, &mut all, pos) {
         Ok(()) => Ok(all),
         Err(error) => {
@@ -194,7 +193,7 @@ pub fn taken_behind<H: Host>(
     }
 }
 
-/// A copy of the pointer that a value is, through a handle, with more arguments.
+/// Copies the pointer that a value is, through a handle, and gives the copy more arguments.
 fn copied_with<H: Host>(
     alloc: Global,
     cells: &CellStore<H>,
@@ -212,7 +211,8 @@ fn copied_with<H: Host>(
     }
 }
 
-/// The same with arguments that are taken out of their places.
+/// Copies the pointer that a value is, through a handle, and gives the copy these arguments. They are taken
+/// out, and `()` is left for each.
 ///
 /// # Errors
 /// Both at the position: `ErrorDataRace` for a handle whose cell is held, `ErrorMismatchDataType` for what
@@ -227,7 +227,7 @@ pub fn curried<H: Host>(
     ensures { Answers result (curried_seen H.name_of (cells_of cells.now) args.old pos
         (through (cells_of cells.now) value.now pos)) }
 {
-    let mut more = taken_out(alloc, args, pos)?;
+    let mut more = take_out(alloc, args, pos)?;
     let curried = copied_with(alloc, cells, value, &mut more, pos);
     drop(more);
     curried

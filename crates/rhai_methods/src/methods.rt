@@ -1,4 +1,4 @@
-//! A method that is called on a value, by what its name means there.
+//! A method that is called on the focus, by what its name means there.
 
 ghost use Rattle.std.specs.Prelude.{◌≡◌, ◌≤◌, length, None, Ok, IfOk};
 ghost use Rattle.std.specs.Option.{option_copied};
@@ -10,21 +10,21 @@ ghost use Rattle.rhai_machine.specs.language.Values.{through};
 ghost use Rattle.rhai_steps.specs.Agreement.{KeepsSight};
 ghost use Rattle.rhai_steps.specs.States.{state_of};
 ghost use Rattle.rhai_steps.specs.Offers.{Offers};
-ghost use Rattle.rhai_steps.specs.Marked.{lending};
+ghost use Rattle.rhai_steps.specs.OnFocus.{lending};
 ghost use Rattle.rhai_methods.specs.Methods.{IsEntered, MethodRuns, CallsFrom};
 ghost use Rattle.rhai_methods.specs.Parts.{all_of, alone_as, alone_with, name_called, on_as, on_with};
 ghost use Rattle.rhai_methods.specs.Parts.{IsLinkedAlone};
 ghost use Rattle.rhai_methods.specs.declared.calls.MethodCall.TheVariants.{OnTarget};
 
 use crate::calls::{MethodCall, call_alone, call_named_on, call_on, on_target};
-use crate::copies::{curried, no_pointer, own_pointer, pointer_copy, taken_behind};
+use crate::copies::{curried, no_pointer, own_pointer, pointer_copy, take_behind};
 use crate::words::{MethodWord, word_of};
+use rhai_call_forms::linked::function_linked;
+use rhai_call_forms::pointers::pointer_of;
+use rhai_callees::pointer::parts_of;
 use rhai_calls::dispatch::races;
-use rhai_calls::native::marked;
-use rhai_dispatch::pointer::parts_of;
+use rhai_calls::native::tell_changed;
 use rhai_functions::function::{Function, Offered};
-use rhai_pointers::linked::function_linked;
-use rhai_pointers::pointers::pointer_of;
 use rhai_state::error::EvalAltResult;
 use rhai_state::limits::Limits;
 use rhai_state::state::GlobalRuntimeState;
@@ -38,7 +38,7 @@ use rhai_values::cells::CellStore;
 use std::alloc::{AllocError, Global};
 use std::mem::replace;
 
-/// The function that a pointer is linked to, where it takes all that the pointer is called with.
+/// Finds the function that a pointer is linked to, where it takes all that the pointer is called with.
 fn linked_with<H: Host>(
     pointer: &FnPtr<H>,
     args: &[Dynamic<H>],
@@ -50,9 +50,9 @@ fn linked_with<H: Host>(
     function_linked(pointer, args.len(), lib)
 }
 
-/// A function that a pointer is linked to is to be entered by itself, with all that the pointer is called
-/// with.
-fn linked_alone<H: Host>(
+/// Answers that a function which a pointer is linked to is to be entered by itself. It gets all that the
+/// pointer is called with.
+fn enter_linked_alone<H: Host>(
     alloc: Global,
     cells: &CellStore<H>,
     function: Function<H>,
@@ -64,7 +64,7 @@ fn linked_alone<H: Host>(
 {
     let (name, curried, _) = parts_of(pointer);
     drop(name);
-    match taken_behind(alloc, curried, args, pos) {
+    match take_behind(alloc, curried, args, pos) {
         Err(error) => {
             drop(function);
             MethodCall::Ended(Err(error))
@@ -82,7 +82,7 @@ fn linked_alone<H: Host>(
     }
 }
 
-/// A pointer that is no function's is called by itself.
+/// Calls a pointer that is no function's by itself.
 fn unlinked_alone<H: Host, T: NativeTable<H>>(
     limits: &Limits,
     alloc: Global,
@@ -110,7 +110,7 @@ fn unlinked_alone<H: Host, T: NativeTable<H>>(
     call
 }
 
-/// A pointer that the method works on is called by itself, with all its arguments.
+/// Calls the pointer that the focus is by itself, with all its arguments.
 fn call_pointer<H: Host, T: NativeTable<H>>(
     limits: &Limits,
     alloc: Global,
@@ -130,7 +130,14 @@ fn call_pointer<H: Host, T: NativeTable<H>>(
         result (state_of (T.state table.new) global.new scope held) }
 {
     match linked_with(&pointer, args, global.lib.as_slice()) {
-        Ok(Some(function)) => linked_alone(alloc, &global.cells, function, pointer, args, pos),
+        Ok(Some(function)) => enter_linked_alone(
+            alloc,
+            &global.cells,
+            function,
+            pointer,
+            args,
+            pos,
+        ),
         Ok(None) => unlinked_alone(limits, alloc, offered, global, table, pointer, args, pos),
         Err(_) => {
             drop(pointer);
@@ -139,9 +146,9 @@ fn call_pointer<H: Host, T: NativeTable<H>>(
     }
 }
 
-/// A function that a pointer is linked to is to be entered on the target, with all that the pointer is called
-/// with.
-fn linked_on<H: Host>(
+/// Answers that a function which a pointer is linked to is to be entered on the focus. It gets all that the
+/// pointer is called with.
+fn enter_linked_on<H: Host>(
     alloc: Global,
     function: Function<H>,
     pointer: FnPtr<H>,
@@ -155,8 +162,8 @@ fn linked_on<H: Host>(
     on_target(alloc, function, curried, args, pos)
 }
 
-/// A pointer that is no function's is called on the target, a native by its number under this name, or under
-/// the pointer's where there is none.
+/// Calls a pointer that is no function's on the focus. A native by its number is called under this name, or
+/// under the pointer's where there is none.
 fn unlinked_on<H: Host, T: NativeTable<H>>(
     limits: &Limits,
     alloc: Global,
@@ -188,7 +195,7 @@ fn unlinked_on<H: Host, T: NativeTable<H>>(
     call
 }
 
-/// A pointer that is called on the target, with the values that it has already before the arguments.
+/// Calls a pointer on the focus, with the values that it has already before the arguments.
 fn call_pointer_on<H: Host, T: NativeTable<H>>(
     limits: &Limits,
     alloc: Global,
@@ -211,7 +218,7 @@ fn call_pointer_on<H: Host, T: NativeTable<H>>(
         result (state_of (T.state table.new) global.new scope (lending held target.new)) }
 {
     match linked_with(&pointer, args, global.lib.as_slice()) {
-        Ok(Some(function)) => linked_on(alloc, function, pointer, args, pos),
+        Ok(Some(function)) => enter_linked_on(alloc, function, pointer, args, pos),
         Ok(None) => unlinked_on(
             limits, alloc, offered, global, table, pointer, called, target, args, pos,
         ),
@@ -222,7 +229,7 @@ fn call_pointer_on<H: Host, T: NativeTable<H>>(
     }
 }
 
-/// `call` on what is no pointer: the first argument is one, which is called on the target.
+/// Evaluates `call` on what is no pointer: the first argument is one, which is called on the focus.
 fn call_argument<H: Host, T: NativeTable<H>>(
     limits: &Limits,
     alloc: Global,
@@ -266,7 +273,8 @@ fn call_argument<H: Host, T: NativeTable<H>>(
     }
 }
 
-/// `call` on a value: a pointer is called by itself, and on any other value the first argument is.
+/// Evaluates `call` on the focus: a pointer is called by itself, and on any other value the first argument
+/// is.
 fn call_word<H: Host, T: NativeTable<H>>(
     limits: &Limits,
     alloc: Global,
@@ -306,7 +314,8 @@ fn call_word<H: Host, T: NativeTable<H>>(
     }
 }
 
-/// Any other name: a map's own pointer of the name is called on it, and else the name is.
+/// Calls a method of any other name. A map's own pointer of the name is called on the map, and else the name
+/// is.
 fn call_plain<H: Host, T: NativeTable<H>>(
     limits: &Limits,
     alloc: Global,
@@ -338,14 +347,13 @@ fn call_plain<H: Host, T: NativeTable<H>>(
     }
 }
 
-/// A method that is called on a value, its arguments there: `call`, `curry` and `is_shared` on pointers and
-/// handles; a map's own pointer under the name; and else a call by name with the value before the
-/// arguments, which is lent, and kept from a native that is not pure where it is a constant. The answer
-/// says whether a native that is not pure gave it, and so may have changed the value. `is_shared` is told
-/// whether the value was a handle before it was entered. A function of a script, which a name means or a
-/// pointer is linked to, is for the caller to enter. What stands in the places of the arguments afterwards is
-/// not told. Where a native is called by the name no memory is taken.
-/// Ports upstream's `make_method_call`.
+/// Calls a method on the focus, its arguments there. `call`, `curry` and `is_shared` are of pointers and
+/// handles; a map's own pointer under the name is called; and else it is a call by name with the focus before
+/// the arguments, which is lent, and kept from a native that is not pure where it is a constant. The answer
+/// tells whether a native that is not pure gave it, and so may have changed the focus. `is_shared` is told
+/// whether the focus was a handle before it was entered. A function of a script, which a name means or a
+/// pointer is linked to, is for the caller to enter. What is left of the arguments afterwards is not told.
+/// Where a native is called by the name no memory is taken. Ports upstream's `make_method_call`.
 ///
 /// # Errors
 /// At the method: `ErrorDataRace` for a handle whose cell is held, and `ErrorMismatchDataType` for what is
@@ -387,7 +395,7 @@ pub fn call_method<H: Host, T: NativeTable<H>>(
         ),
         MethodWord::Curry => {
             let result = curried(alloc, &global.cells, target, args, pos);
-            MethodCall::Ended(marked(result, false))
+            MethodCall::Ended(tell_changed(result, false))
         }
         MethodWord::Shared => MethodCall::Ended(Ok((bool_value(was_handle), false))),
         MethodWord::Plain => {

@@ -11,9 +11,9 @@ use rhai_tree::position::Position;
 use rhai_values::base::value::{Dynamic, Host};
 use std::alloc::Global;
 
-/// The answer of a method on what a target shows: a part that the method may have changed is put back into
-/// its place, and otherwise the place of a part stays as it is. What the part's value has become is left in
-/// the target.
+/// Puts a part back into its place where a method may have changed it. Otherwise the place of a part stays as
+/// it is. The answer is the method's, or why the part does not go back. What the part's value has become is
+/// left in the target.
 ///
 /// # Errors
 /// `ErrorMismatchDataType` at the method, where a part has become of another type than the one that was read,

@@ -3,7 +3,7 @@
 ghost use Rattle.std.specs.Prelude.{◌≡◌, ◌&&◌, nat_eq, codes};
 ghost use Rattle.std.specs.Str.{bytes_eq};
 ghost use Rattle.rhai_machine.specs.language.Methods.{word_of};
-ghost use Rattle.rhai_methods.specs.Words.{meaning};
+ghost use Rattle.rhai_methods.specs.Words.{machine_word};
 
 /// What a method's name means.
 #[derive(Clone, Copy, Debug, PartialEq, Eq)]
@@ -18,9 +18,9 @@ pub enum MethodWord {
     Plain,
 }
 
-/// What a method's name means with so many arguments. It takes no memory.
+/// Tells what a method's name means with so many arguments. It takes no memory.
 pub fn word_of(name: &str, count: usize) -> MethodWord
-    ensures { meaning result ≡ word_of name.now count }
+    ensures { machine_word result ≡ word_of name.now count }
 {
     if name == "call" {
         return MethodWord::Call;

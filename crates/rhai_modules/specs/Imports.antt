@@ -9,12 +9,12 @@ use Rattle.rhai_machine.specs.language.Imports.{importing, name_asked}
 use Rattle.rhai_machine.specs.language.State.{Local}
 
 module _ {H : Type 0} where
-  -- whether it may, or why not
+  -- whether a module may be imported, or the error that too many are loaded
   abbrev pub importable : Position → (full : Bool) → Result (Unit {0}) (EvalAltResult H)
   importable at true = Err (error.ErrorTooManyModules at)
   importable at false = Ok tt
 
-  -- from one state to another, by the module that is meant
+  -- the module that is meant is there, and its import leads from one state to another
   abbrev pub Imports : Result (Module H) (EvalAltResult H) → (alias : Option Ident) → (old new : Local H) → Type 0
   Imports (Ok m) alias old new = new ≡ importing (name_asked alias) m old
   Imports (Err e) alias old new = ⊥

@@ -1,5 +1,5 @@
-//! The statement `import`, but for the evaluation of its path. Ports `Stmt::Import` of upstream's `eval/stmt.rs`, over the
-//! engine's table in place of a resolver.
+//! The statement `import`, but for the evaluation of its path. Ports `Stmt::Import` of upstream's
+//! `eval/stmt.rs`, over the engine's table instead of a resolver.
 
 ghost use Rattle.std.specs.Prelude.{◌≡◌, Err, IfOk, IsTrue, OnErr, OnOk, false, nat_le, true};
 ghost use Rattle.rhai_tree.specs.Positions.{position_of, start_of};
@@ -13,8 +13,8 @@ ghost use Rattle.rhai_steps.specs.States.{local_of};
 ghost use Rattle.rhai_context.specs.Ends.{came, error_in};
 ghost use Rattle.rhai_modules.specs.Imports.{Imports, importable};
 
+use rhai_call_forms::pointers::text_of;
 use rhai_context::ends::{stop, take_value};
-use rhai_pointers::pointers::text_of;
 use rhai_state::error::EvalAltResult;
 use rhai_state::limits::Limits;
 use rhai_state::state::GlobalRuntimeState;
@@ -24,7 +24,7 @@ use rhai_tree::{Shared, Text};
 use rhai_values::base::value::{Dynamic, Host, Import, Module, ModuleTable};
 use std::alloc::{AllocError, Global};
 
-/// Whether a module may be imported. Where it may not, the run stops.
+/// Checks whether a module may be imported. Where it may not, the run stops.
 ///
 /// # Errors
 /// `ErrorTooManyModules` at the position, where as many are loaded as may be.
@@ -43,7 +43,7 @@ pub fn may_import<H: Host>(
     true
 }
 
-/// The name that an alias asks for, or the empty one.
+/// Returns the name that an alias asks for, or the empty one.
 fn name_of(alloc: Global, alias: &Option<Ident>) -> Result<Shared<Text>, AllocError>
     ensures { IfOk result (λ name. name ≡ name_asked alias.now) }
 {
@@ -53,8 +53,8 @@ fn name_of(alloc: Global, alias: &Option<Ident>) -> Result<Shared<Text>, AllocEr
     }
 }
 
-/// Imports a module behind the others, under the name that is asked for, and counts it. Where there is no memory nothing
-/// is changed.
+/// Adds a module behind the others, under the name that is asked for, and counts it. Where memory runs out
+/// nothing is changed.
 fn push_module<H: Host>(
     alloc: Global,
     global: &mut GlobalRuntimeState<H>,
@@ -74,12 +74,12 @@ fn push_module<H: Host>(
     Ok(())
 }
 
-/// Imports the module that a run's value leads to, which is `()` then. Where that fails the run stops, and nothing but its
-/// value is changed.
+/// Adds the module that a run's value leads to, which is `()` then. Where that fails the run stops, and
+/// nothing but its value is changed.
 ///
 /// # Errors
-/// At the path: `ErrorDataRace` for a handle whose cell is held, `ErrorMismatchDataType` for a value that is no text. At
-/// its start: `ErrorModuleNotFound`, and `ErrorOutOfMemory`.
+/// At the path: `ErrorDataRace` for a handle whose cell is held, `ErrorMismatchDataType` for a value that is
+/// no text. At its start: `ErrorModuleNotFound`, and `ErrorOutOfMemory`.
 pub fn import_module<H: Host>(
     alloc: Global,
     modules: &ModuleTable<H>,

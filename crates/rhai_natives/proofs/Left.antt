@@ -11,7 +11,7 @@ use Rattle.rhai_natives.specs.Listed.{Entry}
 use Rattle.rhai_natives.specs.Responses.{Done}
 use Rattle.rhai_natives.specs.Table.{IsLeft, changed, effect_of, natives_in}
 
--- where the place of the first argument, if there is one, was one of a value and holds another as its loan ends
+-- where the place of the first argument, if there is one, was one of a value and has another as its loan ends
 module _ {H : Type 0} {first after : Option (Dynamic H)} {was now : Dynamic H} (first_was : first ≡ Some was)
     (first_is : after ≡ Some now) where
   left_of : (p : Bool) (left : IsLeft p was now) → after ≡ option_map (changed p left.0) first

@@ -14,14 +14,15 @@ key_in (OfName name first_type count) = Named name
 key_in (OfNumber number) = Numbered number
 
 module _ {K : Type 0} where
+  -- the native of an entry, and whether it is pure
   abbrev pub found_as : Entry K → Found K
   found_as e = record { native = e.native; is_pure = e.is_pure }
 
-  -- the same, of an entry where it stands
+  -- the native of an entry that is borrowed, and whether it is pure
   abbrev pub found_at : Bor (Listed K) → Found K
   found_at place = found_as (entry_of place.now)
 
-  -- the native of a name or a number: the first of that name, and from 1 the one at that place
+  -- the native of a name or a number: the first of that name, or the one of that number, counted from 1
   abbrev pub found : List (Entry K) → Key → Option (Found K)
   found list (Named name) = option_map found_as (find (λ e. bytes_eq e.name name) list)
   found list (Numbered number) = option_map found_as (if number == 0 then None else slice_get list (number - 1))

@@ -5,7 +5,7 @@ use Rattle.rhai_values.specs.declared.base.value.Dynamic.{Dynamic}
 use Rattle.rhai_values.specs.declared.base.value.Union.{Union}
 use Rattle.rhai_values.specs.Cells.{IsNoHandle}
 use Rattle.rhai_state.specs.Native.{Request, Key, Named, Numbered, HasNoHandle, IsAllowed, KeepsFirst, Leaves, Lawful, AreReached}
-use Rattle.rhai_state.specs.Native.{ByFirst, held_by_reply, purity_of}
+use Rattle.rhai_state.specs.Native.{ByFirst, reply_contents, purity_of}
 use Rattle.rhai_natives.specs.declared.response.Datum.{Datum}
 use Rattle.rhai_natives.specs.declared.response.Datum.TheVariants as datum
 use Rattle.rhai_natives.specs.declared.response.Fault.TheVariants as fault
@@ -16,7 +16,7 @@ use Rattle.rhai_natives.specs.Found.{found, is_pure, key_in}
 use Rattle.rhai_natives.specs.Listed.{Entry}
 use Rattle.rhai_natives.specs.Responses.{Done, union_of}
 use Rattle.rhai_natives.specs.Table.{change_in, changed, done_by, effect_for, natives_in, nothing, reply_for}
-use Rattle.rhai_natives.specs.Held.{held-response, held-changed, nothing_in}
+use Rattle.rhai_natives.specs.NoContents.{contents-response, contents-changed, nothing_in}
 
 module _ {H : Type 0} where
   datum_no_handle : (d : Datum H) → IsNoHandle (union_of d)
@@ -77,9 +77,9 @@ module _ {S H : Type 0} (p : Bool) (s : S) (q : Request H) where
   effect_keeps (Some d) = missing_stays p d.response q.first
 
   effect_reached : (done : Option (Done S H)) →
-      AreReached nothing s q (held_by_reply (λ h. []) (effect_for p s done q.first).reply)
+      AreReached nothing s q (reply_contents (λ h. []) (effect_for p s done q.first).reply)
   effect_reached None = nothing_in
-  effect_reached (Some d) = subst (AreReached nothing s q) (sym (held-response d.response)) nothing_in
+  effect_reached (Some d) = subst (AreReached nothing s q) (sym (contents-response d.response)) nothing_in
 
 module _ {S H K : Type 0} (list : List (Entry K)) (does : S → K → List (Union H) → Option (Done S H)) (host : H → List ℕ) where
   -- the purity that is asked for a call is that of the native which it finds
@@ -95,7 +95,7 @@ module _ {S H K : Type 0} (list : List (Entry K)) (does : S → K → List (Unio
     pure_keeps = λ pure.
         let p = sym (asked q.key _ _) ∙ pure in
         subst (λ p. option_map (changed p change) q.first ≡ q.first) (sym p) (pure_stays change q.first);
-    first_reached = held-changed _ change q.first (AreReached nothing s q) nothing_in (λ r held. ByFirst held);
+    first_reached = contents-changed _ change q.first (AreReached nothing s q) nothing_in (λ r held. ByFirst held);
     state_reached = nothing_in;
   }
 

@@ -4,5 +4,5 @@ pub mod Responses
 pub mod Listed
 pub mod Found
 pub mod Table
-pub mod Held
+pub mod NoContents
 pub mod Law

@@ -9,9 +9,11 @@ pub record Entry (K : Type 0) : Type 0 where
   pub is_pure : Bool
   pub native : K
 
+-- a native that leaves its first argument
 abbrev pub pure : {K : Type 0} → List ℕ → K → Entry K
 pure name native = record { name = name; is_pure = true; native = native }
 
+-- a native that may change its first argument
 abbrev pub impure : {K : Type 0} → List ℕ → K → Entry K
 impure name native = record { name = name; is_pure = false; native = native }
 

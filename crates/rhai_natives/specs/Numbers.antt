@@ -15,10 +15,10 @@ module _ {H : Type 0} where
   items_of numbers = map item_of numbers
 
   -- the integer that a value is, nought where it is none
-  abbrev pub number_in : Union H → ℤ
-  number_in (value.Int number) = number
-  number_in _ = pos 0
+  abbrev pub integer_or_zero : Union H → ℤ
+  integer_or_zero (value.Int number) = number
+  integer_or_zero _ = pos 0
 
   -- the integers that items are
   abbrev pub numbers_of : List (Dynamic H) → List ℤ
-  numbers_of items = map (λ v. number_in v.value) items
+  numbers_of items = map (λ v. integer_or_zero v.value) items

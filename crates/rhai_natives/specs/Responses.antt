@@ -19,9 +19,11 @@ pub record Done (S H : Type 0) : Type 0 where
   pub response : Response H
   pub state : S
 
+-- what a native does, by its response and the state after it
 abbrev pub done : {S H : Type 0} → Response H → S → Done S H
 done r s = record { response = r; state = s }
 
+-- the response of what a native does
 abbrev pub response_of : {S H : Type 0} → Done S H → Response H
 response_of d = d.response
 
@@ -58,11 +60,12 @@ module _ {H : Type 0} where
   IsAnswered response.NoMemory wanted = ⊤
   IsAnswered got wanted = got ≡ wanted
 
-  -- the same of responses that may be missing
+  -- there was memory, or there is no response
   abbrev pub HadMemory : Option (Response H) → Type 0
   HadMemory None = ⊤
   HadMemory (Some got) = HasMemory got
 
+  -- two responses that may be missing: both are, or the first is the one wanted, unless there was no memory
   abbrev pub AreAnswered : (got wanted : Option (Response H)) → Type 0
   AreAnswered None None = ⊤
   AreAnswered (Some got) (Some wanted) = IsAnswered got wanted

@@ -5,7 +5,7 @@ use Rattle.rhai_values.specs.declared.base.value.Dynamic.{Dynamic}
 use Rattle.rhai_values.specs.declared.base.value.Union.{Union}
 use Rattle.rhai_values.specs.Copy.{plain}
 use Rattle.rhai_state.specs.Native.{Effect, Natives, Reply, Missing, Gives, Faults, effect}
-use Rattle.rhai_state.specs.Reach.{Holdings}
+use Rattle.rhai_state.specs.ValueContents.{Holdings}
 use Rattle.rhai_natives.specs.declared.listed.Found.{Found}
 use Rattle.rhai_natives.specs.declared.response.Datum.{Datum}
 use Rattle.rhai_natives.specs.declared.response.Response.{Response}
@@ -15,7 +15,7 @@ use Rattle.rhai_natives.specs.Found.{found, is_pure, key_in}
 use Rattle.rhai_natives.specs.Listed.{Entry}
 use Rattle.rhai_natives.specs.Responses.{Done, fault_of, union_of}
 
--- neither the natives' state nor a value of the host's own holds anything
+-- nothing stands in the natives' state or in a value of the host's own
 abbrev pub nothing : {S H : Type 0} → Holdings S H
 nothing = record { of_state = λ s. []; of_host = λ h. [] }
 
@@ -60,6 +60,7 @@ module _ {S H : Type 0} where
     done_by s None arguments = None
     done_by s (Some call) arguments = does s call.native arguments
 
+    -- the effect of a call of the native that was found, if one was
     abbrev pub effect_of : S → Option (Found K) → Option (Dynamic H) → List (Dynamic H) → Effect S H
     effect_of s call first rest = effect_for (is_pure call) s (done_by s call (values_in first rest)) first
 

@@ -16,7 +16,7 @@ pub enum Arguments<'a, H> {
 }
 
 impl<'a, H> Arguments<'a, H> {
-    /// Those of a call.
+    /// Collects the arguments of a call.
     pub fn new(first: Option<&'a Dynamic<H>>, rest: &'a [Dynamic<H>]) -> Arguments<'a, H>
         ensures { given.values_of result ≡ given.values_in (option_map given.now_of first.entry) rest.now }
     {
@@ -31,7 +31,7 @@ impl<'a, H> Arguments<'a, H> {
         }
     }
 
-    /// That there is none.
+    /// Checks that there is no argument.
     pub fn none(&self) -> Option<()>
         ensures { result ≡ given.none_in (given.values_of self.now) }
     {
@@ -41,7 +41,7 @@ impl<'a, H> Arguments<'a, H> {
         }
     }
 
-    /// The only argument, an integer.
+    /// Reads the only argument, an integer.
     pub fn int(&self) -> Option<i64>
         ensures { result ≡ given.int_in (given.values_of self.now) }
     {
@@ -51,7 +51,7 @@ impl<'a, H> Arguments<'a, H> {
         }
     }
 
-    /// Two arguments, both integers.
+    /// Reads two arguments, both integers.
     pub fn ints(&self) -> Option<(i64, i64)>
         ensures { result ≡ given.ints_in (given.values_of self.now) }
     {
@@ -61,7 +61,7 @@ impl<'a, H> Arguments<'a, H> {
         }
     }
 
-    /// The only argument, a value of the host's own type.
+    /// Reads the only argument, a value of the host's own type.
     pub fn host(&self) -> Option<&'a H>
         ensures { option_map (λ h. h.now) result ≡ given.host_in (given.values_of self.now) }
     {
@@ -71,7 +71,7 @@ impl<'a, H> Arguments<'a, H> {
         }
     }
 
-    /// Two arguments, both values of the host's own type.
+    /// Reads two arguments, both values of the host's own type.
     pub fn hosts(&self) -> Option<(&'a H, &'a H)>
         ensures { option_map (λ pair. (pair.0.now, pair.1.now)) result
             ≡ given.hosts_in (given.values_of self.now) }
@@ -82,7 +82,7 @@ impl<'a, H> Arguments<'a, H> {
         }
     }
 
-    /// Two arguments, a value of the host's own type and an integer.
+    /// Reads two arguments, a value of the host's own type and an integer.
     pub fn host_and_int(&self) -> Option<(&'a H, i64)>
         ensures { option_map (λ found. (found.0.now, found.1)) result
             ≡ given.host_and_int_in (given.values_of self.now) }
@@ -93,7 +93,7 @@ impl<'a, H> Arguments<'a, H> {
         }
     }
 
-    /// Three arguments, a value of the host's own type and two integers.
+    /// Reads three arguments, a value of the host's own type and two integers.
     pub fn host_and_ints(&self) -> Option<(&'a H, i64, i64)>
         ensures { option_map (λ found. (found.0.now, found.1, found.2)) result
             ≡ given.host_and_ints_in (given.values_of self.now) }
@@ -104,7 +104,8 @@ impl<'a, H> Arguments<'a, H> {
         }
     }
 
-    /// Two arguments, a value of the host's own type and an array, of which these are the items.
+    /// Reads two arguments, a value of the host's own type and an array. Of the array it answers the
+    /// items.
     pub fn host_and_array(&self) -> Option<(&'a H, &'a [Dynamic<H>])>
         ensures { option_map (λ found. (found.0.now, found.1.now)) result
             ≡ given.host_and_array_in (given.values_of self.now) }

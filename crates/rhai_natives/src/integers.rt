@@ -30,7 +30,7 @@ impl<H> Model for Integers<H> {
 }
 
 impl<H> Integers<H> {
-    /// The array.
+    /// Turns the array into a value.
     pub(crate) fn into_union(self) -> Union<H>
         ensures { result ≡ value.Array (items_of self) }
     {
@@ -40,7 +40,7 @@ impl<H> Integers<H> {
 }
 
 impl<H: Drop> Integers<H> {
-    /// The array of these integers.
+    /// Builds the array of these integers.
     pub fn new(alloc: Global, numbers: &[i64]) -> Result<Integers<H>, AllocError>
         ensures { IfOk result (λ a. a ≡ numbers.now) }
     {

@@ -79,7 +79,7 @@ pub(crate) struct Found<K> {
     pub is_pure: bool,
 }
 
-/// The first native of a name in a list.
+/// Finds the first native of a name in a list.
 #[inline(always)]
 pub(crate) fn find_named<K: Copy>(listed: &[Listed<K>], name: &str) -> Option<Found<K>>
     ensures { result ≡ found (map entry_of listed.now) (Named name.now) }
@@ -87,7 +87,7 @@ pub(crate) fn find_named<K: Copy>(listed: &[Listed<K>], name: &str) -> Option<Fo
     found_at(named(listed, name))
 }
 
-/// The native of a number in a list.
+/// Finds the native of a number in a list.
 pub(crate) fn find_numbered<K: Copy>(listed: &[Listed<K>], id: NativeId) -> Option<Found<K>>
     ensures { result ≡ found (map entry_of listed.now) (Numbered id.number) }
 {

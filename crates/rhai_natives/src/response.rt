@@ -1,4 +1,4 @@
-//! What a listed native answers: only values that hold no cell, script function or constant.
+//! What a listed native answers: only values with no cell, script function or constant in them.
 
 ghost use Rattle.std.specs.Prelude.{◌≡◌, IfOk};
 ghost use Rattle.rhai_natives.specs.Responses.{IsAnswered, union_of};
@@ -11,7 +11,7 @@ use rhai_tree::{Boxed, Shared, Text};
 use rhai_values::base::value::Union;
 use std::alloc::{AllocError, Global};
 
-/// A value that holds no cell, script function or constant.
+/// A value with no cell, script function or constant in it.
 #[derive(Drop)]
 pub enum Datum<H> {
     Unit,
@@ -24,7 +24,7 @@ pub enum Datum<H> {
 }
 
 impl<H> Datum<H> {
-    /// The value.
+    /// Turns the datum into a value.
     pub fn into_union(self) -> Union<H>
         ensures { result ≡ union_of self }
     {
@@ -40,8 +40,8 @@ impl<H> Datum<H> {
     }
 }
 
-/// A fault that a listed native may answer. It stands nowhere, so that the evaluator gives it the place
-/// of the call.
+/// A fault that a listed native may answer. It stands nowhere, so that the evaluator gives it the
+/// position of the call.
 #[derive(Drop)]
 pub enum Fault<H> {
     Arithmetic(Shared<Text>),
@@ -63,7 +63,7 @@ pub enum Response<H> {
 }
 
 impl<H> Response<H> {
-    /// `()`, and the first argument as it is from now on.
+    /// Answers `()`, and the first argument as it is from now on.
     pub fn changing(first: Datum<H>) -> Response<H>
         ensures { result ≡ response.Changes datum.Unit first }
     {
@@ -73,7 +73,7 @@ impl<H> Response<H> {
         }
     }
 
-    /// A text.
+    /// Answers a text.
     pub fn text(alloc: Global, text: &str) -> Response<H>
         ensures { IsAnswered result (response.Gives (datum.Text text.now)) }
     {
@@ -83,7 +83,7 @@ impl<H> Response<H> {
         }
     }
 
-    /// An `ErrorArithmetic` with a text.
+    /// Answers an `ErrorArithmetic` with a text.
     pub fn arithmetic(alloc: Global, text: &str) -> Response<H>
         ensures { IsAnswered result (response.Faults (fault.Arithmetic text.now)) }
     {
@@ -95,7 +95,7 @@ impl<H> Response<H> {
 }
 
 impl<H: Drop> Response<H> {
-    /// An array of these integers.
+    /// Answers an array of these integers.
     pub fn integers(alloc: Global, numbers: &[i64]) -> Response<H>
         ensures { IsAnswered result (response.Gives (datum.Integers numbers.now)) }
     {
@@ -105,7 +105,7 @@ impl<H: Drop> Response<H> {
         }
     }
 
-    /// A value of the host's own.
+    /// Answers a value of the host's own.
     pub fn host(alloc: Global, value: H) -> Response<H>
         ensures { IsAnswered result (response.Gives (datum.Host value)) }
     {
@@ -115,7 +115,7 @@ impl<H: Drop> Response<H> {
         }
     }
 
-    /// `()`, and a value of the host's own as the first argument from now on.
+    /// Answers `()`, and a value of the host's own as the first argument from now on.
     pub fn changing_host(alloc: Global, first: H) -> Response<H>
         ensures { IsAnswered result (response.Changes datum.Unit (datum.Host first)) }
     {

@@ -26,7 +26,7 @@ pub struct Natives<N> {
 }
 
 impl<N> Natives<N> {
-    /// The table of these natives.
+    /// Creates the table of these natives.
     pub fn new(alloc: Global, natives: N) -> Natives<N>
         ensures { result.natives ≡ natives }
     {
@@ -85,7 +85,7 @@ impl<H: Host, N: ListedNatives<H>> NativeTable<H> for Natives<N> {
     ghost lawful = { lawful_list N.list N.does H.name_of };
 }
 
-/// Whether a native is pure. What is not there is.
+/// Tells whether a native is pure. What is not there is.
 fn is_pure<K: Copy>(found: Option<Found<K>>) -> bool
     ensures { result ≡ purity_of found }
 {
@@ -115,7 +115,7 @@ fn call_with<H: Host, N: ListedNatives<H>>(
     let Some(response) = natives.call(alloc, found.native, &arguments) else {
         return Answer::Missing;
     };
-    let (answer, change) = answered(alloc, response);
+    let (answer, change) = answer_of_response(alloc, response);
     apply(found.is_pure, change, first);
     answer
 }
@@ -137,13 +137,16 @@ fn call_without<H: Host, N: ListedNatives<H>>(
     let Some(response) = natives.call(alloc, found.native, &arguments) else {
         return Answer::Missing;
     };
-    let (answer, _) = answered(alloc, response);
+    let (answer, _) = answer_of_response(alloc, response);
     answer
 }
 
-/// What a table answers for a response, and what becomes of the first argument.
+/// Turns a response into what a table answers, and into what becomes of the first argument.
 #[inline(always)]
-fn answered<H: Drop>(alloc: Global, response: Response<H>) -> (Answer<H>, Option<Datum<H>>)
+fn answer_of_response<H: Drop>(
+    alloc: Global,
+    response: Response<H>,
+) -> (Answer<H>, Option<Datum<H>>)
     ensures reply { IsReplied response (reply_of result.0) }
     ensures change { result.1 ≡ change_in response }
 {
@@ -153,13 +156,13 @@ fn answered<H: Drop>(alloc: Global, response: Response<H>) -> (Answer<H>, Option
             Answer::Value(Dynamic::new(value.into_union())),
             Some(first),
         ),
-        Response::Faults(fault) => (failed(alloc, fault), None),
+        Response::Faults(fault) => (answer_of_fault(alloc, fault), None),
         Response::NoMemory => (Answer::NoMemory, None),
     }
 }
 
-/// What a table answers for a fault.
-fn failed<H: Drop>(alloc: Global, fault: Fault<H>) -> Answer<H>
+/// Turns a fault into what a table answers.
+fn answer_of_fault<H: Drop>(alloc: Global, fault: Fault<H>) -> Answer<H>
     ensures { IsReplied (response.Faults fault) (reply_of result) }
 {
     let at = Position::NONE;

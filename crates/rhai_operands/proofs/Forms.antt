@@ -10,7 +10,7 @@ use Rattle.rhai_state.specs.declared.scope.Scope.{Scope}
 use Rattle.rhai_state.specs.declared.state.GlobalRuntimeState.{GlobalRuntimeState}
 use Rattle.rhai_functions.specs.declared.function.Offered.{Offered}
 use Rattle.rhai_machine.specs.machine.Point.{after}
-use Rattle.rhai_machine.specs.machine.Memory.{next, wanting}
+use Rattle.rhai_machine.specs.machine.Memory.{next, out_before_step}
 use Rattle.rhai_machine.specs.language.Setting.{Globals, Rules, globals_of}
 use Rattle.rhai_machine.specs.language.State.{Answers, Held}
 use Rattle.rhai_machine.specs.language.Frames.{OpenExpr}
@@ -35,7 +35,7 @@ module _ {S H : Type 0} (rules : Rules S H) where
       form_runs (layer.Unit pos) answers k = next (told rules r _ answers k _)
       form_runs (layer.ThisPtr pos) answers k = next (told rules r _ answers k _)
       form_runs (layer.Variable offset name namespace pos) answers k = next (told rules r _ answers k _)
-      form_runs _ answers k = wanting {at = none} (told rules r _ answers k _)
+      form_runs _ answers k = out_before_step {at = none} (told rules r _ answers k _)
 
       -- an expression runs to what is read of it
       pub read_runs : (offered : Offered H) → Offers rules.setting.offer offered →

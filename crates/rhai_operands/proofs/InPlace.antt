@@ -42,7 +42,7 @@ use Rattle.rhai_steps.specs.States.{state_of}
 use Rattle.rhai_steps.proofs.Pieces.{step_by}
 use Rattle.rhai_steps.proofs.Operating.{built}
 use Rattle.rhai_operators.specs.Direct.{integer_in, truth_given, truth_in}
-use Rattle.rhai_operands.specs.Standing.{compared, compared_known, integer_of, standing, truth_answered, two_in, unless_handle}
+use Rattle.rhai_operands.specs.Standing.{compared, compared_known, integer_of, standing, truth_answered, operand_pair, unless_handle}
 use Rattle.rhai_operands.proofs.Standing.{argument_goes, argument_refused, standing_plain}
 
 module _ {S H : Type 0} (rules : Rules S H) where
@@ -108,7 +108,7 @@ module _ {H : Type 0} where
   pub assign_copied : (token : Token) (x y : Dynamic H) → op_assign_of token x (copy_of y) ≡ op_assign_of token x y
   assign_copied token x y = ap answer (assign_at_copied token x.value y.value)
 
--- a truth value holds no data
+-- a truth value has no data
 truth_sizes : (H : Type 0) (b : Bool) → data_sizes (bool_value {H = H} b) ≡ sizes 0 0 0
 truth_sizes H b = rw (fold_out-Dynamic, fold_out-Union, outs-Bool) refl
 
@@ -176,7 +176,7 @@ module _ {H : Type 0} (token : Token) where
   compared_stands (Some x) (Some y) holds is = (x, y, refl, refl, truth_is (binary_at token x.value y.value) holds is)
 
 -- a call's two operands are all that it has
-pub two_args : (args : List Expr) (left right : Expr) → Some (left, right) ≡ two_in args → args ≡ left ∷ right ∷ []
+pub two_args : (args : List Expr) (left right : Expr) → Some (left, right) ≡ operand_pair args → args ≡ left ∷ right ∷ []
 two_args [] left right is = cc
 two_args (x ∷ []) left right is = cc
 two_args (x ∷ y ∷ []) left right is = let same : (left, right) ≡ (x, y) = cc in

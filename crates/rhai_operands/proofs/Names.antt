@@ -39,7 +39,8 @@ module _ (call : FnCallExpr) (pos : Position) (frame : Frame) (h : IsTrue (resol
   pub operands_of_call : IsTrue (all_resolve_exprs (map tests_of call.args) frame)
   operands_of_call =
       let opened = fold_out-FnCallExpr (walk.Seen sound) (walk.SeenStmt sound) (walk.SeenConditional sound) (walk.SeenCall sound)
-      (walk.SeenEntry sound) (walk.Seen sound) (walk.expr_step sound) (walk.stmt_step sound) (walk.conditional_step sound) (walk.call_step sound)
+      (walk.SeenEntry sound) (walk.Seen sound) (walk.expr_step sound) (walk.stmt_step sound) (walk.conditional_step sound)
+      (walk.call_step sound)
       (walk.entry_step sound) (walk.block_step sound) call in
       (both _ _ (fails_then _ _ (subst (λ (s : walk.SeenCall sound). IsTrue (s.value pos frame)) opened h)).1).1
 

@@ -19,9 +19,9 @@ use Rattle.rhai_operands.specs.declared.operands.Operand.{Operand}
 use Rattle.rhai_operands.specs.declared.operands.Operand.TheVariants as operand
 
 -- the operands of a call that has two
-abbrev pub two_in : List Expr → Option (Expr × Expr)
-two_in (left ∷ right ∷ []) = Some (left, right)
-two_in _ = None
+abbrev pub operand_pair : List Expr → Option (Expr × Expr)
+operand_pair (left ∷ right ∷ []) = Some (left, right)
+operand_pair _ = None
 
 module _ {H : Type 0} where
   -- the value of an operand in the code
@@ -46,7 +46,7 @@ module _ {H : Type 0} where
   integer_of (Some v) = integer_in v.value
   integer_of None = None
 
-  -- a truth value that was answered
+  -- the truth value that an operator answered, None where it answered something else
   abbrev pub truth_answered : Answer H → Option Bool
   truth_answered (Some (Ok v)) = truth_in v.value
   truth_answered _ = None
@@ -56,26 +56,28 @@ module _ {H : Type 0} where
   operated token (Some x) (Some y) = binary_of token x y
   operated token _ _ = None
 
-  -- the truth value that it says of them
+  -- the truth value that an operator gives for two operands that stand
   abbrev pub compared : Token → Option (Dynamic H) → Option (Dynamic H) → Option Bool
   compared token left right = truth_answered (operated token left right)
 
-  -- what a condition says that compares two operands which stand
+  -- the truth value that an operator gives for a call's two operands, where both stand
   abbrev pub compared_by : Option Token → Option (Expr × Expr) → List (ScopeEntry H) → Option Bool
   compared_by (Some token) (Some pair) entries =
       compared token (standing (out-Expr pair.0) entries) (standing (out-Expr pair.1) entries)
   compared_by _ _ entries = None
 
-  abbrev pub said : ExprLayer → List (ScopeEntry H) → Option Bool
-  said (layer.Expr::FnCall call pos) entries = compared_by call.op_token (two_in call.args) entries
-  said form entries = None
+  -- the truth value of a condition that compares two operands which stand, None for any other expression
+  abbrev pub condition_truth : ExprLayer → List (ScopeEntry H) → Option Bool
+  condition_truth (layer.Expr::FnCall call pos) entries = compared_by call.op_token (operand_pair call.args) entries
+  condition_truth form entries = None
 
--- what it says of two integers
+-- the truth value that an operator gives for two integers
 abbrev pub compared_known : (H : Type 0) → Token → Option ℤ → Option ℤ → Option Bool
 compared_known H token (Some x) (Some y) = truth_given {H = H} (of_integers token x y)
 compared_known H token _ _ = None
 
 module _ {H : Type 0} where
+  -- an integer as a value
   abbrev pub integer_valued : Option ℤ → Option (Dynamic H)
   integer_valued (Some z) = Some (plain (value.Int z))
   integer_valued None = None

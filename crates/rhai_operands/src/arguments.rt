@@ -24,7 +24,7 @@ use rhai_tree::expr::Expr;
 use rhai_values::base::value::{Dynamic, Host};
 use std::alloc::Global;
 
-/// Whether an expression is a literal.
+/// Tells whether an expression is a literal.
 fn is_literal<H: Host>(expr: &Expr) -> bool
     ensures { result ≡ is_some (literal_of {H = H} (out-Expr expr.now)) }
 {
@@ -39,7 +39,7 @@ fn is_literal<H: Host>(expr: &Expr) -> bool
     )
 }
 
-/// The value of a literal, None for any other expression.
+/// Builds the value of a literal, None for any other expression.
 fn literal_value<H: Host>(
     alloc: Global,
     expr: &Expr,
@@ -59,7 +59,7 @@ fn literal_value<H: Host>(
     }
 }
 
-/// An argument that is a literal, as `literal_arg` has it.
+/// Charges an argument that is a literal and reads its value, as `read_literal` does.
 ///
 /// # Errors
 /// `ErrorTooManyOperations` at the literal where the count has reached the limit.
@@ -96,14 +96,13 @@ fn charge_literal<H: Host, T: NativeTable<H>>(
     }
 }
 
-/// An argument that is a literal: charged at its start, and then its value. None for any other
-/// expression: then nothing is charged. The table is not called.
-/// How it ended stands in the run's places.
+/// Charges an argument that is a literal at its start, and then reads its value. None for any other
+/// expression: then nothing is charged. The table is not called. How it ended stands in the run's places.
 ///
 /// # Errors
 /// `ErrorTooManyOperations` at the literal where the count has reached the limit.
 #[inline(always)]
-pub fn literal_arg<H: Host, T: NativeTable<H>>(
+pub fn read_literal<H: Host, T: NativeTable<H>>(
     limits: &Limits,
     alloc: Global,
     global: &mut GlobalRuntimeState<H>,

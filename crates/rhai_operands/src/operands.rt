@@ -7,12 +7,12 @@ ghost use Rattle.rhai_tree.specs.Frame.{resolves_expr};
 ghost use Rattle.rhai_state.specs.Scope.{entries_of};
 ghost use Rattle.rhai_operators.specs.Direct.{integer_in};
 ghost use Rattle.rhai_steps.specs.Agreement.{AgreesAt};
-ghost use Rattle.rhai_operands.specs.Standing.{integer_of, standing, two_in, value_of};
+ghost use Rattle.rhai_operands.specs.Standing.{integer_of, standing, operand_pair, value_of};
 
 use rhai_state::scope::Scope;
 use rhai_state::state::GlobalRuntimeState;
 use rhai_steps::values::{bool_value, char_value, int_value, is_bare_handle, unit_value};
-use rhai_steps::variables::{entry_of_variable, place_by_offset};
+use rhai_steps::variables::{entry_of_variable, index_by_offset};
 use rhai_tree::expr::{Expr, FnCallExpr};
 use rhai_values::base::value::{Dynamic, Host, Union};
 
@@ -26,7 +26,7 @@ pub enum Operand<'a, H> {
 }
 
 impl<'a, H> Operand<'a, H> {
-    /// Its value.
+    /// Returns the value of the operand.
     pub fn value(&self) -> &Dynamic<H>
         ensures { result.now ≡ value_of self.now }
     {
@@ -37,8 +37,9 @@ impl<'a, H> Operand<'a, H> {
     }
 }
 
-/// An operand as it stands: a literal that takes no memory, or a variable without a path that is no handle, and None
-/// for any other expression. Asked: the expression resolves to the variables of the scope.
+/// Reads an operand as it stands: a literal that takes no memory, or a variable. None for a variable that has
+/// a path, that no entry has or that is a handle, and for any other expression. Asked: the expression
+/// resolves to the variables of the scope.
 pub fn operand_in_place<'a, H: Host>(
     global: &GlobalRuntimeState<H>,
     scope: &'a Scope<H>,
@@ -69,7 +70,7 @@ pub fn operand_in_place<'a, H: Host>(
     }
 }
 
-/// The integer that a value is, None where it is of another type.
+/// Returns the integer that a value is, None where it is of another type.
 #[inline(always)]
 pub fn integer_at<H>(value: &Dynamic<H>) -> Option<i64>
     ensures { result ≡ integer_in value.now.value }
@@ -80,8 +81,9 @@ pub fn integer_at<H>(value: &Dynamic<H>) -> Option<i64>
     }
 }
 
-/// The integer that an operand as it stands is. None where it is of another type, has to be evaluated, or is a variable
-/// behind a path or one that is to be searched for. Asked: the expression resolves to the variables of the scope.
+/// Reads the integer that an operand as it stands is. None where it is of another type, has to be evaluated,
+/// or is a variable behind a path or one that is to be searched for. Asked: the expression resolves to the
+/// variables of the scope.
 #[inline(always)]
 pub fn integer_in_place<H: Host>(
     global: &GlobalRuntimeState<H>,
@@ -100,16 +102,16 @@ pub fn integer_in_place<H: Host>(
             namespace,
             ..
         } => {
-            let index = place_by_offset(global, scope, *offset, name, namespace)?;
+            let index = index_by_offset(global, scope, *offset, name, namespace)?;
             integer_at(scope.value_at(index))
         }
         _ => None,
     }
 }
 
-/// The operands of a call that has two.
+/// Returns the operands of a call that has two, None for any other call.
 pub(crate) fn two_operands(call: &FnCallExpr) -> Option<(&Expr, &Expr)>
-    ensures { option_map (λ pair. (pair.0.now, pair.1.now)) result ≡ two_in call.now.args }
+    ensures { option_map (λ pair. (pair.0.now, pair.1.now)) result ≡ operand_pair call.now.args }
 {
     let args = call.args.as_slice();
     if args.len() != 2 {

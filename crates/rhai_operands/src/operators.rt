@@ -15,7 +15,7 @@ ghost use Rattle.rhai_steps.specs.Agreement.{AgreesAt, KeepsSight};
 ghost use Rattle.rhai_steps.specs.States.{state_of};
 ghost use Rattle.rhai_operators.specs.Direct.{integer_in};
 ghost use Rattle.rhai_operands.specs.Standing.{assigned_known, compared, compared_known, integer_of};
-ghost use Rattle.rhai_operands.specs.Standing.{operated, said, standing, truth_answered};
+ghost use Rattle.rhai_operands.specs.Standing.{operated, condition_truth, standing, truth_answered};
 ghost use Rattle.rhai_operands.specs.Tests.{Tests};
 ghost use Rattle.rhai_context.specs.Ends.{came, came_test, error_in};
 
@@ -38,17 +38,17 @@ use rhai_tree::token::Token;
 use rhai_values::base::value::{Dynamic, Host, Union};
 use std::alloc::Global;
 
-/// The value that an operator gives for two integers, None where one of them is none, or the operator gives
-/// no integer, or may not stand before an `=`.
+/// Computes the value that an operator gives for two integers. None where one of them is none, or the
+/// operator gives no integer, or may not stand before an `=`.
 #[inline(always)]
-pub fn assign_known<H: Host>(token: Token, x: Option<i64>, y: Option<i64>) -> Option<Dynamic<H>>
+pub fn compute_known<H: Host>(token: Token, x: Option<i64>, y: Option<i64>) -> Option<Dynamic<H>>
     ensures { result ≡ assigned_known token x y }
 {
     let number = assign_integers::<H>(token, x?, y?)?;
     Some(int_value(&number))
 }
 
-/// An operator on two operands as they stand, of any type.
+/// Applies an operator to two operands as they stand, of any type.
 #[inline(never)]
 fn operate_values<H: Host, T: NativeTable<H>>(
     limits: &Limits,
@@ -92,7 +92,7 @@ fn operate_values<H: Host, T: NativeTable<H>>(
     Some(applied(alloc, limits, outcome, pos))
 }
 
-/// The same, where how it ended goes into the run's places.
+/// Applies an operator as `operate_values` does. How it ended goes into the run's places.
 #[inline(never)]
 fn operate_others<H: Host, T: NativeTable<H>>(
     limits: &Limits,
@@ -133,7 +133,7 @@ fn operate_others<H: Host, T: NativeTable<H>>(
     }
 }
 
-/// Whether an expression may be an operand as it stands: a literal that takes no memory, or a variable.
+/// Tells whether an expression may be an operand as it stands: a literal that takes no memory, or a variable.
 fn may_stand<H>(expr: &Expr) -> bool
     ensures { (entries : _) → result ≡ false → standing {H = H} (out-Expr expr.now) entries ≡ None }
 {
@@ -147,8 +147,9 @@ fn may_stand<H>(expr: &Expr) -> bool
     )
 }
 
-/// Puts what an operator gives for two operands that are integers as they stand, which are charged at once, into
-/// its place. False where that is not so, or the limit has no room for both: then nothing is charged.
+/// Puts what an operator gives for two operands that are integers as they stand into its place. The operands
+/// are charged at once. False where that is not so, or the limit has no room for both: then nothing is
+/// charged.
 #[inline(always)]
 fn operate_integers<H: Host>(
     limits: &Limits,
@@ -178,7 +179,7 @@ fn operate_integers<H: Host>(
     if second.is_none() {
         return false;
     }
-    let Some(value) = assign_known(token, first, second) else {
+    let Some(value) = compute_known(token, first, second) else {
         return false;
     };
     if !charge_all(limits, global, 2) {
@@ -189,9 +190,9 @@ fn operate_integers<H: Host>(
     true
 }
 
-/// A binary operator on two operands as they stand; how it ended stands in the run's places. None where one of
-/// them has to be evaluated, or there is no built-in for them: then nothing is charged. The table is not called. Of
-/// two integers no value is looked at.
+/// Applies a binary operator to two operands as they stand. How it ended stands in the run's places. None
+/// where one of them has to be evaluated, or there is no built-in for them: then nothing is charged. The
+/// table is not called. Of two integers no value is looked at.
 ///
 /// # Errors
 /// `ErrorTooManyOperations` at an operand where the count has reached the limit. At the operator:
@@ -239,8 +240,9 @@ pub fn operate_in_place<H: Host, T: NativeTable<H>>(
     )
 }
 
-/// Where a value and that of a run are integers, what an operator gives for them becomes the value of the run. Whether
-/// it did: it does not where one of them is none, or the operator gives no integer, or may not stand before an `=`.
+/// Replaces the value of a run by what an operator gives for another value and that one. It tells whether it
+/// did: it does not where one of them is no integer, or the operator gives no integer, or may not stand
+/// before an `=`.
 #[inline(always)]
 pub fn operate_known<H: Host>(token: Token, left: &Dynamic<H>, out: &mut Dynamic<H>) -> bool
     ensures known { IsTrue result →
@@ -249,7 +251,7 @@ pub fn operate_known<H: Host>(token: Token, left: &Dynamic<H>, out: &mut Dynamic
         assigned_known {H = H} token (integer_in left.now.value) (integer_in out.old.value) ≡ None }
     ensures same { result ≡ false → out.new ≡ out.old }
 {
-    match assign_known(token, integer_at(left), integer_at(&*out)) {
+    match compute_known(token, integer_at(left), integer_at(&*out)) {
         Some(value) => {
             put_number(out, value);
             true
@@ -258,7 +260,7 @@ pub fn operate_known<H: Host>(token: Token, left: &Dynamic<H>, out: &mut Dynamic
     }
 }
 
-/// The truth value that an operator gave, None where it gave something else.
+/// Returns the truth value that an operator gave, None where it gave something else.
 fn truth_given<H: Host>(outcome: &Result<Dynamic<H>, EvalAltResult<H>>) -> Option<bool>
     ensures { result ≡ truth_answered (Some outcome.now) }
 {
@@ -271,8 +273,8 @@ fn truth_given<H: Host>(outcome: &Result<Dynamic<H>, EvalAltResult<H>>) -> Optio
     }
 }
 
-/// What an operator says of two operands that are integers as they stand and need not be searched for. None for others,
-/// and where the operator gives no truth value.
+/// Compares two operands that are integers as they stand and need not be searched for. None for others, and
+/// where the operator gives no truth value.
 #[inline(always)]
 fn compare_known<H: Host>(
     global: &GlobalRuntimeState<H>,
@@ -292,8 +294,8 @@ fn compare_known<H: Host>(
     compare_integers::<H>(token, x, y)
 }
 
-/// What an operator says of two operands as they stand, None where one of them has to be evaluated
-/// or the operator gives no truth value.
+/// Compares two operands as they stand. None where one of them has to be evaluated or the operator gives no
+/// truth value.
 #[inline(never)]
 fn compare_values<H: Host>(
     alloc: Global,
@@ -316,7 +318,8 @@ fn compare_values<H: Host>(
     holds
 }
 
-/// The same, which tries first whether both are integers: then no value is made.
+/// Compares two operands as `compare_values` does, but tries first whether both are integers. Then no value
+/// is made.
 #[inline(always)]
 fn compare_in_place<H: Host>(
     alloc: Global,
@@ -337,13 +340,14 @@ fn compare_in_place<H: Host>(
     compare_values(alloc, global, scope, token, left, right)
 }
 
-/// A condition that compares two operands as they stand; None in Some where it stopped the run. None where it is
-/// another expression, or an operand has to be evaluated: then nothing is charged. The table is not called.
+/// Tells whether a condition is true that compares two operands as they stand. None in Some where it stopped
+/// the run. None where the test is another expression, an operand has to be evaluated, or the operator gives
+/// no truth value: then nothing is charged. The table is not called.
 ///
 /// # Errors
 /// `ErrorTooManyOperations` at the operator or an operand where the count has reached the limit.
 #[inline(always)]
-pub fn holds_in_place<H: Host, T: NativeTable<H>>(
+pub fn truth_in_place<H: Host, T: NativeTable<H>>(
     limits: &Limits,
     alloc: Global,
     global: &mut GlobalRuntimeState<H>,
@@ -353,7 +357,7 @@ pub fn holds_in_place<H: Host, T: NativeTable<H>>(
     test: &Expr,
 ) -> Option<Option<bool>>
     requires { AgreesAt global.old scope.now (resolves_expr test.now) }
-    ensures found { is_some result ≡ is_some (said (out-Expr test.now) (entries_of scope.now)) }
+    ensures found { is_some result ≡ is_some (condition_truth (out-Expr test.now) (entries_of scope.now)) }
     ensures left_alone { result ≡ None → global.new ≡ global.old }
     ensures charges { IfSome result (λ told. IfSome told (λ _.
         global.old.num_operations < global.new.num_operations)) }

@@ -25,7 +25,7 @@ use rhai_tree::expr::Expr;
 use rhai_values::base::value::{Dynamic, Host};
 use std::alloc::Global;
 
-/// The same for any of these forms, as `read_expr` does it.
+/// Reads a literal, a variable or `this`, as `read_expr` does.
 ///
 /// # Errors
 /// Those of `read_expr`.
@@ -88,13 +88,13 @@ fn read_any<H: Host>(
     }
 }
 
-/// Puts the value of a literal, of a variable or of `this` into its place, where the expression is charged
-/// already. Asked: the expression resolves to the variables of the scope. What is made of other expressions is the
-/// caller's: here it counts as one that finds no memory.
+/// Reads a literal, a variable or `this` that is charged already, and puts its value into its place. Asked:
+/// the expression resolves to the variables of the scope. What is made of other expressions is the caller's:
+/// here each counts as one that finds no memory.
 ///
 /// # Errors
-/// At a variable: `ErrorVariableNotFound`, and `ErrorDataRace` where it is the handle of a cell that is held. At the
-/// path of one: `ErrorModuleNotFound` and `ErrorVariableNotFound`. At `this`: `ErrorUnboundThis`.
+/// At a variable: `ErrorVariableNotFound`, and `ErrorDataRace` where it is the handle of a cell that is held.
+/// At the path of one: `ErrorModuleNotFound` and `ErrorVariableNotFound`. At `this`: `ErrorUnboundThis`.
 #[inline(never)]
 pub fn read_expr<H: Host>(
     alloc: Global,

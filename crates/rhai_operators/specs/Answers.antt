@@ -13,7 +13,7 @@ use Rattle.rhai_operators.specs.declared.integers.ArithmeticFault.{ArithmeticFau
 use Rattle.rhai_operators.specs.declared.integers.ArithmeticFault.TheVariants as fault
 use Rattle.rhai_operators.specs.Operators.{Outcome, unary_at, binary_at, op_assign_at}
 
--- the text of an error
+-- the text of a fault's error
 abbrev pub message : ArithmeticFault → List ℕ
 message fault.Overflow = codes "integer overflow"
 message fault.DivisionByZero = codes "division by zero"
@@ -25,32 +25,35 @@ abbrev pub Answer : Type 0 → Type 0
 Answer H = Option (Result (Dynamic H) (EvalAltResult H))
 
 module _ {H : Type 0} where
+  -- the error of a fault: its text, without a position
   abbrev pub arithmetic_error : ArithmeticFault → EvalAltResult H
   arithmetic_error why = error.ErrorArithmetic (message why) none
 
+  -- the answer with an operator's value, which is read-write, or with the error of its fault
   abbrev pub answer : Outcome H → Answer H
   answer None = None
   answer (Some (Ok v)) = Some (Ok (plain v))
   answer (Some (Err why)) = Some (Err (arithmetic_error why))
 
-  -- before one operand
+  -- a built-in's answer before one operand
   abbrev pub unary_of : Token → Dynamic H → Answer H
   unary_of op x = answer (unary_at op x.value)
 
-  -- between two operands
+  -- a built-in's answer between two operands
   abbrev pub binary_of : Token → Dynamic H → Dynamic H → Answer H
   binary_of op x y = answer (binary_at op x.value y.value)
 
-  -- before an `=`
+  -- a built-in's answer before an `=`, between the variable's value and the other operand
   abbrev pub op_assign_of : Token → Dynamic H → Dynamic H → Answer H
   op_assign_of op x y = answer (op_assign_at op x.value y.value)
 
-  -- no answer for want of memory
+  -- the answer does not say that memory ran out
   abbrev pub HasMemory : Answer H → Type 0
   HasMemory None = ⊤
   HasMemory (Some (Ok v)) = ⊤
   HasMemory (Some (Err e)) = is_out_of_memory e ≡ false
 
+  -- whether a value is a text
   abbrev pub is_text : Union H → Bool
   is_text (value.Str text) = true
   is_text v = false
@@ -67,7 +70,7 @@ module _ {H : Type 0} where
   IsUnplaced (Some (Ok v)) = ⊤
   IsUnplaced (Some (Err e)) = position_of e ≡ none
 
--- the result is the answer that is wanted, unless memory was wanting; there is one exactly where one is wanted, and no want of memory
+-- the result is the answer that is wanted, unless memory ran out; there is one exactly where one is wanted, and memory does not run out
 -- where it takes none
 pub record IsAnswer {H : Type 0} (result wanted : Answer H) : Type 0 where
   pub value : HasMemory result → result ≡ wanted

@@ -5,10 +5,12 @@ use Rattle.rhai_values.specs.declared.base.value.Union.TheVariants as value
 use Rattle.rhai_operators.specs.Operators.{Outcome}
 
 module _ {H : Type 0} where
+  -- the truth value that a value is, None for a value of another type
   abbrev pub truth_in : Union H → Option Bool
   truth_in (value.Bool b) = Some b
   truth_in _ = None
 
+  -- the integer that a value is, None for a value of another type
   abbrev pub integer_in : Union H → Option ℤ
   integer_in (value.Int z) = Some z
   integer_in _ = None

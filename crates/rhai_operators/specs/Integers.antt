@@ -15,12 +15,15 @@ fits (negsuc n) = nat_lt n (2 ^ 63)
 abbrev pub if_fits : ℤ → Result ℤ ArithmeticFault
 if_fits z = if fits z then Ok z else Err fault.Overflow
 
+-- the sum, where it fits
 abbrev pub sum : ℤ → ℤ → Result ℤ ArithmeticFault
 sum x y = if_fits (x +ℤ y)
 
+-- the difference, where it fits
 abbrev pub difference : ℤ → ℤ → Result ℤ ArithmeticFault
 difference x y = if_fits (x -ℤ y)
 
+-- the product, where it fits
 abbrev pub product : ℤ → ℤ → Result ℤ ArithmeticFault
 product x y = if_fits (x *ℤ y)
 
@@ -61,6 +64,7 @@ abbrev pub right_if : Bool → ℤ → ℕ → Result ℤ ArithmeticFault
 right_if true x n = Ok (int_shr x n)
 right_if false x n = Err fault.BadShift
 
+-- a shift goes by 0 to 63 bits
 abbrev pub shifted_right : ℤ → ℤ → Result ℤ ArithmeticFault
 shifted_right x (pos n) = right_if (nat_lt n 64) x n
 shifted_right x (negsuc n) = Err fault.BadShift

@@ -36,22 +36,24 @@ assigns_integers token.Pipe = true
 assigns_integers token.XOr = true
 assigns_integers _ = false
 
--- those on truth values
+-- the operators on truth values that may stand before an `=`
 abbrev pub assigns_truths : Token → Bool
 assigns_truths token.Ampersand = true
 assigns_truths token.Pipe = true
 assigns_truths token.XOr = true
 assigns_truths _ = false
 
--- those onto a text
+-- the operators onto a text that may stand before an `=`
 abbrev pub assigns_texts : Token → Bool
 assigns_texts token.Plus = true
 assigns_texts _ = false
 
 module _ {H : Type 0} where
+  -- the operator gives this value
   abbrev pub gives : Union H → Outcome H
   gives v = Some (Ok v)
 
+  -- the operator gives this truth value
   abbrev pub truth : Bool → Outcome H
   truth b = gives (value.Bool b)
 
@@ -65,6 +67,7 @@ module _ {H : Type 0} where
   number (Ok z) = gives (value.Int z)
   number (Err why) = Some (Err why)
 
+  -- two integers: arithmetic, bits, comparisons, and ranges from the first to the second
   abbrev pub of_integers : Token → ℤ → ℤ → Outcome H
   of_integers token.Plus x y = number (integer.sum x y)
   of_integers token.Minus x y = number (integer.difference x y)
@@ -105,6 +108,7 @@ module _ {H : Type 0} where
   of_characters token.Plus x y = gives (value.Str (text_of x ++ text_of y))
   of_characters op x y = if_compares (comparison_of_order op (nat_cmp x y))
 
+  -- two texts in their order; their sum is the first with the second behind it
   abbrev pub of_texts : Token → List ℕ → List ℕ → Outcome H
   of_texts token.Plus x y = gives (value.Str (x ++ y))
   of_texts op x y = if_compares (comparison_of_order op (text_order x y))
@@ -114,7 +118,7 @@ module _ {H : Type 0} where
   of_mixed token.Plus x y = gives (value.Str (x ++ y))
   of_mixed op x y = if_compares (comparison_of_types op)
 
-  -- the table
+  -- what an operator between two operands gives: the table, by the types of both
   abbrev pub binary_at : Token → Union H → Union H → Outcome H
   binary_at op (value.Int x) (value.Int y) = of_integers op x y
   binary_at op (value.Bool x) (value.Bool y) = of_truths op x y
@@ -125,6 +129,7 @@ module _ {H : Type 0} where
   binary_at op value.Unit value.Unit = if_compares (comparison_of_order op Equal)
   binary_at op x y = of_types (differ (type_of x) (type_of y)) op
 
+  -- the minus of an integer is its opposite, the bang of a truth value the other one
   abbrev pub unary_at : Token → Union H → Outcome H
   unary_at token.Minus (value.Int x) = number (integer.opposite x)
   unary_at token.UnaryMinus (value.Int x) = number (integer.opposite x)
@@ -139,10 +144,11 @@ module _ {H : Type 0} where
   assigns op (value.Str x) (value.Char y) = assigns_texts op
   assigns op x y = false
 
+  -- what an operator gives, if it may stand before an `=`
   abbrev pub if_assigns : Bool → Outcome H → Outcome H
   if_assigns true outcome = outcome
   if_assigns false outcome = None
 
-  -- an operator before an `=` gives what it gives alone
+  -- an operator before an `=` gives what it gives alone, where it may stand there
   abbrev pub op_assign_at : Token → Union H → Union H → Outcome H
   op_assign_at op x y = if_assigns (assigns op x y) (binary_at op x y)

@@ -14,7 +14,7 @@ use rhai_tree::{Shared, Text};
 use rhai_values::base::value::{Dynamic, Host, Union};
 use std::alloc::{AllocError, Global};
 
-/// The text of an error.
+/// Returns the text of a fault's error.
 fn message<'a>(fault: ArithmeticFault) -> &'a str
     ensures { result.now ≡ spec.message fault }
 {
@@ -26,7 +26,7 @@ fn message<'a>(fault: ArithmeticFault) -> &'a str
     }
 }
 
-/// A text of its own.
+/// Copies a text into a shared text of its own.
 fn shared_text(alloc: Global, text: &str) -> Result<Shared<Text>, AllocError>
     ensures { IfOk result (λ shared. shared ≡ text.now) }
 {
@@ -34,7 +34,7 @@ fn shared_text(alloc: Global, text: &str) -> Result<Shared<Text>, AllocError>
     Shared::new(alloc, text)
 }
 
-/// The error of a fault, `ErrorOutOfMemory` where there is no memory for its text.
+/// Builds the error of a fault, `ErrorOutOfMemory` where there is no memory for its text.
 #[cold]
 #[inline(never)]
 fn arithmetic_error<H: Host>(alloc: Global, fault: ArithmeticFault) -> EvalAltResult<H>
@@ -47,7 +47,7 @@ fn arithmetic_error<H: Host>(alloc: Global, fault: ArithmeticFault) -> EvalAltRe
     }
 }
 
-/// The answer with an operator's value, or with the error of its fault.
+/// Builds the answer with an operator's value, or with the error of its fault.
 pub(crate) fn answer<H: Host>(
     alloc: Global,
     outcome: Option<Result<Union<H>, ArithmeticFault>>,

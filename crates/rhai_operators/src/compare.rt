@@ -7,7 +7,7 @@ use rhai_tree::token::Token;
 use rhai_values::base::value::Union;
 use std::cmp::Ordering;
 
-/// What a comparison says of an order, `None` for an operator that does not compare.
+/// Tells what a comparison says of an order, `None` for an operator that does not compare.
 pub(crate) fn comparison_of_order(op: Token, order: Ordering) -> Option<bool>
     ensures { result ≡ spec.comparison_of_order op order }
 {
@@ -22,7 +22,7 @@ pub(crate) fn comparison_of_order(op: Token, order: Ordering) -> Option<bool>
     }
 }
 
-/// What a comparison says of two values of different types, `None` for an operator that does not
+/// Tells what a comparison says of two values of different types, `None` for an operator that does not
 /// compare.
 pub(crate) fn comparison_of_types(op: Token) -> Option<bool>
     ensures { result ≡ spec.comparison_of_types op }
@@ -38,7 +38,7 @@ pub(crate) fn comparison_of_types(op: Token) -> Option<bool>
     }
 }
 
-/// A number for each type of values, `None` for a host value and for a cell's handle.
+/// Returns the number of a value's type, `None` for a host value and for a cell's handle.
 fn type_of<H>(value: &Union<H>) -> Option<u8>
     ensures { result ≡ spec.type_of value.now }
 {
@@ -59,7 +59,7 @@ fn type_of<H>(value: &Union<H>) -> Option<u8>
     }
 }
 
-/// Whether two values are of different types, both of them known.
+/// Tells whether two values are of different types, both of them known.
 pub(crate) fn differ<H>(x: &Union<H>, y: &Union<H>) -> bool
     ensures { result ≡ spec.differ (spec.type_of x.now) (spec.type_of y.now) }
 {

@@ -11,7 +11,7 @@ use crate::integers::{ArithmeticFault, power, quotient, remainder, shifted_left,
 use rhai_tree::token::Token;
 use rhai_values::base::value::Host;
 
-/// The truth value that an operator gives for two integers, None where it gives none.
+/// Finds the truth value that an operator gives for two integers, None where it gives none.
 #[inline(always)]
 pub fn compare_integers<H: Host>(op: Token, x: i64, y: i64) -> Option<bool>
     ensures { result ≡ truth_given {H = H} (spec.of_integers op x y) }
@@ -27,21 +27,21 @@ pub fn compare_integers<H: Host>(op: Token, x: i64, y: i64) -> Option<bool>
     }
 }
 
-/// The integer that an operator before an `=` gives for two integers, None where it gives none: it may
-/// not stand there, the integer does not fit, or the operands are not allowed.
+/// Computes the integer that an operator before an `=` gives for two integers. None where it gives none: it
+/// may not stand there, the integer does not fit, or the operands are not allowed.
 #[inline(always)]
 pub fn assign_integers<H: Host>(op: Token, x: i64, y: i64) -> Option<i64>
     ensures { result ≡ integer_given {H = H} (spec.op_assign_at op (value.Int x) (value.Int y)) }
 {
     match op {
-        Token::Plus => added::<H>(x, y),
-        Token::Minus => subtracted::<H>(x, y),
-        Token::Multiply => multiplied::<H>(x, y),
-        Token::Divide => fitting::<H>(quotient(x, y)),
-        Token::Modulo => fitting::<H>(remainder(x, y)),
-        Token::PowerOf => fitting::<H>(power(x, y)),
-        Token::LeftShift => fitting::<H>(shifted_left(x, y)),
-        Token::RightShift => fitting::<H>(shifted_right(x, y)),
+        Token::Plus => checked_sum::<H>(x, y),
+        Token::Minus => checked_difference::<H>(x, y),
+        Token::Multiply => checked_product::<H>(x, y),
+        Token::Divide => integer_or_none::<H>(quotient(x, y)),
+        Token::Modulo => integer_or_none::<H>(remainder(x, y)),
+        Token::PowerOf => integer_or_none::<H>(power(x, y)),
+        Token::LeftShift => integer_or_none::<H>(shifted_left(x, y)),
+        Token::RightShift => integer_or_none::<H>(shifted_right(x, y)),
         Token::Ampersand => Some(x & y),
         Token::Pipe => Some(x | y),
         Token::XOr => Some(x ^ y),
@@ -49,32 +49,32 @@ pub fn assign_integers<H: Host>(op: Token, x: i64, y: i64) -> Option<i64>
     }
 }
 
-/// The sum, None where it does not fit.
+/// Adds two integers, None where the sum does not fit.
 #[inline(always)]
-fn added<H: Host>(x: i64, y: i64) -> Option<i64>
+fn checked_sum<H: Host>(x: i64, y: i64) -> Option<i64>
     ensures { result ≡ integer_given {H = H} (spec.number (exact.sum x y)) }
 {
     x.checked_add(y)
 }
 
-/// The difference, None where it does not fit.
+/// Subtracts the second integer from the first, None where the difference does not fit.
 #[inline(always)]
-fn subtracted<H: Host>(x: i64, y: i64) -> Option<i64>
+fn checked_difference<H: Host>(x: i64, y: i64) -> Option<i64>
     ensures { result ≡ integer_given {H = H} (spec.number (exact.difference x y)) }
 {
     x.checked_sub(y)
 }
 
-/// The product, None where it does not fit.
+/// Multiplies two integers, None where the product does not fit.
 #[inline(always)]
-fn multiplied<H: Host>(x: i64, y: i64) -> Option<i64>
+fn checked_product<H: Host>(x: i64, y: i64) -> Option<i64>
     ensures { result ≡ integer_given {H = H} (spec.number (exact.product x y)) }
 {
     x.checked_mul(y)
 }
 
-/// An integer, None where there is none.
-fn fitting<H: Host>(value: Result<i64, ArithmeticFault>) -> Option<i64>
+/// Takes the integer of a result, None where there is none.
+fn integer_or_none<H: Host>(value: Result<i64, ArithmeticFault>) -> Option<i64>
     ensures { result ≡ integer_given {H = H} (spec.number value) }
 {
     match value {

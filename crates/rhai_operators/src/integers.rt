@@ -13,28 +13,28 @@ pub enum ArithmeticFault {
     BadExponent,
 }
 
-/// The sum.
+/// Adds two integers.
 pub(crate) fn sum(x: i64, y: i64) -> Result<i64, ArithmeticFault>
     ensures { result ≡ exact.sum x y }
 {
     x.checked_add(y).ok_or(ArithmeticFault::Overflow)
 }
 
-/// The difference.
+/// Subtracts the second integer from the first.
 pub(crate) fn difference(x: i64, y: i64) -> Result<i64, ArithmeticFault>
     ensures { result ≡ exact.difference x y }
 {
     x.checked_sub(y).ok_or(ArithmeticFault::Overflow)
 }
 
-/// The product.
+/// Multiplies two integers.
 pub(crate) fn product(x: i64, y: i64) -> Result<i64, ArithmeticFault>
     ensures { result ≡ exact.product x y }
 {
     x.checked_mul(y).ok_or(ArithmeticFault::Overflow)
 }
 
-/// The quotient, rounded towards zero.
+/// Divides the first integer by the second, rounded towards zero.
 pub(crate) fn quotient(x: i64, y: i64) -> Result<i64, ArithmeticFault>
     ensures { result ≡ exact.quotient x y }
 {
@@ -44,7 +44,7 @@ pub(crate) fn quotient(x: i64, y: i64) -> Result<i64, ArithmeticFault>
     x.checked_div(y).ok_or(ArithmeticFault::Overflow)
 }
 
-/// What the quotient leaves.
+/// Computes what the quotient leaves.
 pub(crate) fn remainder(x: i64, y: i64) -> Result<i64, ArithmeticFault>
     ensures { result ≡ exact.remainder x y }
 {
@@ -54,14 +54,14 @@ pub(crate) fn remainder(x: i64, y: i64) -> Result<i64, ArithmeticFault>
     x.checked_rem(y).ok_or(ArithmeticFault::Overflow)
 }
 
-/// The opposite.
+/// Negates an integer.
 pub(crate) fn opposite(x: i64) -> Result<i64, ArithmeticFault>
     ensures { result ≡ exact.opposite x }
 {
     x.checked_neg().ok_or(ArithmeticFault::Overflow)
 }
 
-/// The power.
+/// Raises the first integer to the power of the second.
 pub(crate) fn power(x: i64, y: i64) -> Result<i64, ArithmeticFault>
     ensures { result ≡ exact.power x y }
 {
@@ -71,7 +71,7 @@ pub(crate) fn power(x: i64, y: i64) -> Result<i64, ArithmeticFault>
     }
 }
 
-/// The bits moved towards the top.
+/// Moves the bits of an integer towards the top.
 pub(crate) fn shifted_left(x: i64, y: i64) -> Result<i64, ArithmeticFault>
     ensures { result ≡ exact.shifted_left x y }
 {
@@ -82,7 +82,7 @@ pub(crate) fn shifted_left(x: i64, y: i64) -> Result<i64, ArithmeticFault>
     }
 }
 
-/// The bits moved towards the bottom.
+/// Moves the bits of an integer towards the bottom.
 pub(crate) fn shifted_right(x: i64, y: i64) -> Result<i64, ArithmeticFault>
     ensures { result ≡ exact.shifted_right x y }
 {

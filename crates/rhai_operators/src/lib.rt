@@ -23,7 +23,7 @@ use rhai_values::base::value::{Dynamic, Host, Union};
 use std::alloc::Global;
 use std::cmp::Ordering;
 
-/// What an operator before one operand gives, `None` where there is no built-in for it. Ports
+/// Computes what an operator before one operand gives, `None` where there is no built-in for it. Ports
 /// upstream's arithmetic and logic packages, as far as they have such operators.
 ///
 /// Errors have no position: `ErrorArithmetic` where an integer overflows, and `ErrorOutOfMemory`
@@ -38,7 +38,7 @@ pub fn builtin_unary<H: Host>(
     answer(alloc, unary(op, &x.value))
 }
 
-/// What an operator between two operands gives, `None` where there is no built-in for them. Ports
+/// Computes what an operator between two operands gives, `None` where there is no built-in for them. Ports
 /// upstream's `get_builtin_binary_op_fn`.
 ///
 /// Errors have no position: `ErrorArithmetic` where an integer overflows, and for a divisor, a
@@ -55,8 +55,8 @@ pub fn builtin_binary<H: Host>(
     binary(alloc, op, &x.value, &y.value)
 }
 
-/// What an operator before an `=` gives, which is what it gives between the two operands, `None`
-/// where there is no built-in assignment for them. Ports upstream's `get_builtin_op_assignment_fn`.
+/// Computes what an operator before an `=` gives, `None` where there is no built-in assignment for its
+/// operands. That is what it gives between the two operands. Ports upstream's `get_builtin_op_assignment_fn`.
 ///
 /// Errors are those of `builtin_binary`.
 pub fn builtin_op_assign<H: Host>(
@@ -74,7 +74,7 @@ pub fn builtin_op_assign<H: Host>(
     }
 }
 
-/// What an operator gives between two operands: the table, by its rows.
+/// Computes what an operator gives between two operands: the table, by its rows.
 fn binary<H: Host>(
     alloc: Global,
     op: Token,

@@ -13,14 +13,14 @@ use crate::integers::{
 use rhai_tree::token::Token;
 use rhai_values::base::value::Union;
 
-/// A truth value.
+/// Wraps a truth value as what an operator gives.
 pub(crate) fn truth<H>(value: bool) -> Option<Result<Union<H>, ArithmeticFault>>
     ensures { result ≡ spec.truth value }
 {
     Some(Ok(Union::Bool(value)))
 }
 
-/// What a comparison says, where the operator compares.
+/// Wraps what a comparison says as what an operator gives, where the operator compares.
 pub(crate) fn if_compares<H>(value: Option<bool>) -> Option<Result<Union<H>, ArithmeticFault>>
     ensures { result ≡ spec.if_compares value }
 {
@@ -30,7 +30,7 @@ pub(crate) fn if_compares<H>(value: Option<bool>) -> Option<Result<Union<H>, Ari
     }
 }
 
-/// An integer, or why there is none.
+/// Wraps an integer, or why there is none, as what an operator gives.
 fn number<H>(value: Result<i64, ArithmeticFault>) -> Option<Result<Union<H>, ArithmeticFault>>
     ensures { result ≡ spec.number value }
 {
@@ -40,7 +40,7 @@ fn number<H>(value: Result<i64, ArithmeticFault>) -> Option<Result<Union<H>, Ari
     }
 }
 
-/// What an operator gives for two integers.
+/// Computes what an operator gives for two integers.
 pub(crate) fn of_integers<H>(op: Token, x: i64, y: i64) -> Option<Result<Union<H>, ArithmeticFault>>
     ensures { result ≡ spec.of_integers op x y }
 {
@@ -68,7 +68,7 @@ pub(crate) fn of_integers<H>(op: Token, x: i64, y: i64) -> Option<Result<Union<H
     }
 }
 
-/// What an operator gives for two truth values. False comes before true.
+/// Computes what an operator gives for two truth values. False comes before true.
 pub(crate) fn of_truths<H>(op: Token, x: bool, y: bool) -> Option<Result<Union<H>, ArithmeticFault>>
     ensures { result ≡ spec.of_truths op x y }
 {
@@ -80,7 +80,7 @@ pub(crate) fn of_truths<H>(op: Token, x: bool, y: bool) -> Option<Result<Union<H
     }
 }
 
-/// What an operator gives for two values that have no row of their own.
+/// Tells what an operator gives for two values that have no row of their own.
 pub(crate) fn of_types<H>(
     op: Token,
     x: &Union<H>,
@@ -95,7 +95,7 @@ pub(crate) fn of_types<H>(
     }
 }
 
-/// What an operator gives before one operand.
+/// Computes what an operator gives before one operand.
 pub(crate) fn unary<H>(op: Token, x: &Union<H>) -> Option<Result<Union<H>, ArithmeticFault>>
     ensures { result ≡ spec.unary_at op x.now }
 {
@@ -112,7 +112,7 @@ pub(crate) fn unary<H>(op: Token, x: &Union<H>) -> Option<Result<Union<H>, Arith
     }
 }
 
-/// Whether an operator on two integers may stand before an `=`.
+/// Tells whether an operator on two integers may stand before an `=`.
 fn assigns_integers(op: Token) -> bool
     ensures { result ≡ spec.assigns_integers op }
 {
@@ -132,14 +132,14 @@ fn assigns_integers(op: Token) -> bool
     )
 }
 
-/// Whether an operator on two truth values may stand before an `=`.
+/// Tells whether an operator on two truth values may stand before an `=`.
 fn assigns_truths(op: Token) -> bool
     ensures { result ≡ spec.assigns_truths op }
 {
     matches!(op, Token::Ampersand | Token::Pipe | Token::XOr)
 }
 
-/// Whether an operator may stand before an `=` for two operands.
+/// Tells whether an operator may stand before an `=` for two operands.
 pub(crate) fn assigns<H>(op: Token, x: &Union<H>, y: &Union<H>) -> bool
     ensures { result ≡ spec.assigns op x.now y.now }
 {

@@ -17,7 +17,7 @@ use rhai_tree::{Shared, Text};
 use rhai_values::base::value::{Dynamic, Host, Union};
 use std::alloc::{AllocError, Global};
 
-/// Two texts as one.
+/// Joins two texts into one.
 fn joined(alloc: Global, x: &str, y: &str) -> Result<Shared<Text>, AllocError>
     ensures { IfOk result (λ text. text ≡ x.now ++ y.now) }
 {
@@ -27,7 +27,7 @@ fn joined(alloc: Global, x: &str, y: &str) -> Result<Shared<Text>, AllocError>
     Shared::new(alloc, Text::from_string(text))
 }
 
-/// The sum of two texts.
+/// Adds two texts, for an operator's answer: the first, and behind it the second.
 fn sum<H: Host>(alloc: Global, x: &str, y: &str) -> Option<Result<Dynamic<H>, EvalAltResult<H>>>
     ensures { IsAnswer result (spec.answer (rows.gives (value.Str (x.now ++ y.now)))) }
 {
@@ -37,7 +37,7 @@ fn sum<H: Host>(alloc: Global, x: &str, y: &str) -> Option<Result<Dynamic<H>, Ev
     }
 }
 
-/// What an operator gives for two characters.
+/// Computes what an operator gives for two characters.
 pub(crate) fn of_characters<H: Host>(
     alloc: Global,
     op: Token,
@@ -56,7 +56,7 @@ pub(crate) fn of_characters<H: Host>(
     }
 }
 
-/// What an operator gives for two texts.
+/// Computes what an operator gives for two texts.
 pub(crate) fn of_texts<H: Host>(
     alloc: Global,
     op: Token,
@@ -71,7 +71,7 @@ pub(crate) fn of_texts<H: Host>(
     }
 }
 
-/// What an operator gives for a text and a character, or for a character and a text, both as texts.
+/// Computes what an operator gives for a text and a character, in either order, both as texts.
 pub(crate) fn of_mixed<H: Host>(
     alloc: Global,
     op: Token,

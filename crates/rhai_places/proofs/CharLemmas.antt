@@ -92,7 +92,7 @@ module _ (text : List ℕ) (utf8 : IsUtf8 text) where
   rest_chars n offset rest is cut =
       ap chars (is ∙ cut) ∙ chars-encodes (drop n (chars text)) (scalars-drop n (chars text) (scalars-chars text utf8))
 
-  -- a text with another character at a place
+  -- a text with another character at a position
   pub char_put : (at c : ℕ) → at < length (chars text) →
       encode_utf8_all (take at (chars text)) ++ encode_utf8 c ++ encode_utf8_all (drop (at + 1) (chars text)) ≡ with_char text at c
   char_put at c lt =
@@ -102,7 +102,7 @@ module _ (text : List ℕ) (utf8 : IsUtf8 text) where
       ∙ sym (encodes-append (take at (chars text) ++ (c ∷ [])) (drop (at + 1) (chars text)))
       ∙ ap encode_utf8_all (sym (set-split (chars text) at c lt))
 
-  -- a text with others in the place of some of its characters
+  -- a text with others instead of some of its characters
   pub slice_put : (start end : ℕ) (new : List ℕ) → IsUtf8 new →
       encode_utf8_all (take start (chars text)) ++ new ++ encode_utf8_all (drop end (chars text)) ≡ with_slice text start end new
   slice_put start end new utf8_new =

@@ -26,7 +26,7 @@ integer some = cast_signed w64 (number some)
 abbrev pub bit : ℤ → ℕ → Bool
 bit n at = slice_index_or (bits n) at false
 
--- an integer with another bit at a place
+-- an integer with another bit at a position
 abbrev pub with_bit : ℤ → ℕ → Bool → ℤ
 with_bit n at on = integer (slice_set (bits n) at on)
 
@@ -38,6 +38,6 @@ field_of some = if length some == 64 then integer some else pos (number some)
 abbrev pub field : ℤ → (start end : ℕ) → ℤ
 field n start end = field_of (slice_range (bits n) start end)
 
--- an integer with the low bits of another in the place of its bits from one up to another
+-- an integer with the low bits of another instead of its bits from one up to another
 abbrev pub with_field : ℤ → (start end : ℕ) → ℤ → ℤ
 with_field n start end v = integer (replace_range (bits n) start end (take (end - start) (bits v)))

@@ -15,11 +15,12 @@ use Rattle.rhai_places.specs.Refusals.{IsTold, refused}
 use Rattle.rhai_places.specs.Targets.{place_at, with_place, part_at}
 
 module _ {H : Type 0} where
-  -- a value, or of a handle the value of its cell; none where the cell is held
+  -- a value by its kind: of a handle the value of its cell, None where that cell is held
   abbrev pub through_layer : List (Option (Dynamic H)) → Dynamic H → UnionLayer H → Option (Dynamic H)
   through_layer cells d (layer.Cell id) = value_of_cell cells id.number
   through_layer cells d _ = Some d
 
+  -- a value, or of a handle the value of its cell; None where that cell is held
   abbrev pub through : List (Option (Dynamic H)) → Dynamic H → Option (Dynamic H)
   through cells d = through_layer cells d (layer_of d)
 
@@ -34,6 +35,7 @@ module _ {H : Type 0} where
       (record source { value = value.Map (with_entry key (plain value.Unit) entries) }, spot.Value (rank key entries.0))
   with_key source _ _ = (source, spot.Missing)
 
+  -- an index is a text
   abbrev pub IsText : UnionLayer H → Type 0
   IsText (layer.Str key) = ⊤
   IsText _ = ⊥
@@ -52,20 +54,22 @@ module _ {H : Type 0} where
         (source, spot.Missing))
 
     module _ (host_name : H → List ℕ) (cells : List (Option (Dynamic H))) where
-      abbrev pub settled : Dynamic H → Dynamic H → Result Spot Refusal → Result (Dynamic H × Spot) (EvalAltResult H)
-      settled source index (Ok spot.Missing) = without_key source index
-      settled source index (Ok at) = Ok (source, at)
-      settled source index (Err refusal) = Err (refused host_name cells how source index refusal)
+      -- what comes of where an index leads: a missing key as `without_key` says, another spot as it is, a refusal as its error
+      abbrev pub spot_or_error : Dynamic H → Dynamic H → Result Spot Refusal → Result (Dynamic H × Spot) (EvalAltResult H)
+      spot_or_error source index (Ok spot.Missing) = without_key source index
+      spot_or_error source index (Ok at) = Ok (source, at)
+      spot_or_error source index (Err refusal) = Err (refused host_name cells how source index refusal)
 
-      -- the spot that an index leads to, in the source once a missing key is inserted, or the error
+      -- the spot that an index leads to, in the value once a missing key is inserted, or the error
       abbrev pub indexed : (source index : Dynamic H) → Result (Dynamic H × Spot) (EvalAltResult H)
-      indexed source index = settled source index (located (layer_of source) (layer_of index))
+      indexed source index = spot_or_error source index (located (layer_of source) (layer_of index))
 
-      -- the same of an index that may be a handle
+      -- what an index leads to, once it is read through its handle; a cell that is held is a race
       abbrev pub found_by : (source : Dynamic H) → Option (Dynamic H) → Result (Dynamic H × Spot) (EvalAltResult H)
       found_by source (Some index) = indexed source index
       found_by source None = Err (error.ErrorDataRace [] how.idx_pos)
 
+      -- the spot that an index leads to which may be a handle, in the value once a missing key is inserted, or the error
       abbrev pub found : (source index : Dynamic H) → Result (Dynamic H × Spot) (EvalAltResult H)
       found source index = found_by source (through cells index)
 
@@ -76,12 +80,12 @@ module _ {H : Type 0} where
   IsFound (Ok (source, at)) place part = (place_at source at ≡ Some place) × (part ≡ part_at source at)
   IsFound (Err e) place part = ⊥
 
-  -- an error is the one of what was not found, or no memory was left
+  -- an error is the one of what was not found, or memory ran out
   abbrev pub IsMissed : Result (Dynamic H × Spot) (EvalAltResult H) → EvalAltResult H → Type 0
   IsMissed (Ok found) e = is_out_of_memory e ≡ true
   IsMissed (Err told) e = IsTold told e
 
-  -- what the source ends as, where the place of the target ends as it was changed
+  -- what the value ends as, where the place of the target ends as it was changed
   abbrev pub EndsBy : Result (Dynamic H × Spot) (EvalAltResult H) → (place source : Dynamic H) → Type 0
   EndsBy (Ok (source, at)) place end = end ≡ with_place source at place
   EndsBy (Err e) place end = ⊥
@@ -93,6 +97,7 @@ spot_takes_memory how (Ok (spot.Slice start end)) = true
 spot_takes_memory how (Ok at) = false
 spot_takes_memory how (Err refusal) = true
 
+-- whether an index takes memory, once it is read through its handle; the error of a race does
 abbrev pub takes_memory : {H : Type 0} → Access → (source : Dynamic H) → Option (Dynamic H) → Bool
 takes_memory how source (Some index) = spot_takes_memory how (located (layer_of source) (layer_of index))
 takes_memory how source None = true

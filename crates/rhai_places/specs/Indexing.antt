@@ -11,10 +11,11 @@ use Rattle.rhai_places.specs.Types.{Refusal, Spot}
 use Rattle.rhai_places.specs.declared.spot.Spot.TheVariants as spot
 use Rattle.rhai_places.specs.declared.spot.Refusal.TheVariants as refusal
 
+-- what an error of an index tells: the length, and the index
 abbrev pub bounds : ℕ → ℤ → Bounds
 bounds length index = record { length = length; index = index }
 
--- the place of an index in a sequence: from the start, or from the end where it is negative
+-- the position of an index in a sequence: from the start, or from the end where it is negative
 abbrev pub index_in : (length : ℕ) → ℤ → Option ℕ
 index_in length (pos i) = if nat_lt i length then Some i else None
 index_in length (negsuc i) = if nat_lt i length then Some (length - suc i) else None
@@ -60,32 +61,37 @@ slice_spot count start (Some from) end = Ok (spot.Slice from (max from end))
 
 -- ---- each kind of value, with an index
 
--- the value of a key, or no value
+-- the value of a key, by the key's position, or no value
 abbrev pub key_spot : Option ℕ → Spot
 key_spot (Some at) = spot.Value at
 key_spot None = spot.Missing
 
 module _ {H : Type 0} where
+  -- an index into an integer: one of its 64 bits, or the bits of a range
   abbrev pub in_integer : UnionLayer H → Result Spot Refusal
   in_integer (layer.Int i) = ok_or (option_map (λ at. spot.Bit at) (index_in 64 i)) (refusal.BitFieldBounds (bounds 64 i))
   in_integer (layer.ExclusiveRange start end) = bit_field start end (bit_bound 63 start) (bit_end 64 end)
   in_integer (layer.InclusiveRange start last) = bit_field start last (bit_bound 63 start) (option_map (λ end. end + 1) (bit_end 63 last))
   in_integer _ = Err refusal.WantsInteger
 
+  -- an index into a text of so many characters: a character, or the characters of a range
   abbrev pub in_text : (count : ℕ) → UnionLayer H → Result Spot Refusal
   in_text count (layer.Int i) = ok_or (option_map (λ at. spot.Char at) (index_in count i)) (refusal.StringBounds (bounds count i))
   in_text count (layer.ExclusiveRange start end) = slice_spot count start (slice_start count start) (slice_end count end)
   in_text count (layer.InclusiveRange start last) = slice_spot count start (slice_start count start) (slice_last count last)
   in_text count _ = Err refusal.WantsInteger
 
+  -- an index into an array of so many items
   abbrev pub in_array : (count : ℕ) → UnionLayer H → Result Spot Refusal
   in_array count (layer.Int i) = ok_or (option_map (λ at. spot.Item at) (index_in count i)) (refusal.ArrayBounds (bounds count i))
   in_array count _ = Err refusal.WantsInteger
 
+  -- an index into a blob of so many bytes
   abbrev pub in_blob : (count : ℕ) → UnionLayer H → Result Spot Refusal
   in_blob count (layer.Int i) = ok_or (option_map (λ at. spot.Byte at) (index_in count i)) (refusal.ArrayBounds (bounds count i))
   in_blob count _ = Err refusal.WantsInteger
 
+  -- an index into a map with these keys: a text, which may be no key of it
   abbrev pub in_map : (keys : List (List ℕ)) → UnionLayer H → Result Spot Refusal
   in_map keys (layer.Str key) = Ok (key_spot (place_of key keys))
   in_map keys _ = Err refusal.WantsText

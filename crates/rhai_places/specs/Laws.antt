@@ -5,6 +5,7 @@ use Rattle.rhai_places.specs.Types.{Dynamic, Spot}
 use Rattle.rhai_places.specs.Parts.{IsPlace, value_at, with_value}
 
 module _ (H : Type 0) where
+  -- what is written at a place is read there, and what stands at another place stays
   pub record PlaceLaws : Type 0 where
     pub written : (source v : Dynamic H) (at : Spot) → IsPlace (layer_of source) at → value_at (with_value source at v) at ≡ Some v
     pub stays : (source v : Dynamic H) (at other : Spot) → IsPlace (layer_of source) at → (at ≡ other → ⊥) →

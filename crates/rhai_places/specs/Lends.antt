@@ -26,12 +26,12 @@ module _ (H : RattleType) where
   result_name (Ok t) = maybe.some t.at.ghost_name
   result_name (Err e) = maybe.none
 
-  -- the place of a target ends with what it was changed to, and at an error the source stays
+  -- the place of a target ends with what it was changed to, and at an error the value stays
   abbrev pub lends_spot : MutBor (Dynamic H.Denot) → Spot → Result (Target H.Denot) (EvalAltResult H.Denot) → Fml
   lends_spot s at r = follows_so (dynamic.the_row H) (dynamic.the_row H) s.ghost_name (result_name r)
       (λ x n. IsOk r → n ≡ with_place s.now at x) (λ n. OnErr r (n ≡ s.now))
 
-  -- the same of what was found
+  -- the place of a target that was found ends with what it was changed to, and at an error the value stays
   abbrev pub lends_found : MutBor (Dynamic H.Denot) → Result (Dynamic H.Denot × Spot) (EvalAltResult H.Denot) →
       Result (Target H.Denot) (EvalAltResult H.Denot) → Fml
   lends_found s found r = follows_so (dynamic.the_row H) (dynamic.the_row H) s.ghost_name (result_name r)

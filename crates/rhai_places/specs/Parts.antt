@@ -1,4 +1,4 @@
--- Spots in a value: the places that hold a value, and the parts that are read.
+-- Spots in a value: the places where a value stands, and the parts that are read.
 use Rattle.std.specs.Prelude.{ℕ, ◌<◌, ◌≤◌, nat_lt, nat_le, pos, ⊤, Bool, true, false, ◌&&◌, length, slice_get, slice_set, slice_index}
 use Rattle.std.specs.Prelude.{Option, None}
 use Rattle.std.specs.Str.{chars}
@@ -10,25 +10,29 @@ use Rattle.rhai_places.specs.declared.spot.Spot.TheVariants as spot
 use Rattle.rhai_places.specs.Bits.{bit, field}
 use Rattle.rhai_places.specs.Characters.{char_of, slice_of}
 
--- the spots of an integer, of a text, an array, a blob and a map of so many characters, items, bytes and entries
+-- a spot of an integer: one of its 64 bits, or those from one up to another
 abbrev pub IsOfBits : Spot → Type 0
 IsOfBits (spot.Bit at) = at < 64
 IsOfBits (spot.BitField start end) = (start ≤ end) × (end ≤ 64)
 IsOfBits _ = ⊥
 
+-- a spot of a text of so many characters: one of them, or those from one up to another
 abbrev pub IsOfText : ℕ → Spot → Type 0
 IsOfText count (spot.Char at) = at < count
 IsOfText count (spot.Slice start end) = start ≤ end
 IsOfText count _ = ⊥
 
+-- a spot of an array of so many items
 abbrev pub IsOfArray : ℕ → Spot → Type 0
 IsOfArray count (spot.Item at) = at < count
 IsOfArray count _ = ⊥
 
+-- a spot of a blob of so many bytes
 abbrev pub IsOfBlob : ℕ → Spot → Type 0
 IsOfBlob count (spot.Byte at) = at < count
 IsOfBlob count _ = ⊥
 
+-- a spot of a map of so many entries: the value of one, or of a key that it does not have
 abbrev pub IsOfMap : ℕ → Spot → Type 0
 IsOfMap count (spot.Value at) = at < count
 IsOfMap count spot.Missing = ⊤
@@ -44,7 +48,7 @@ module _ {H : Type 0} where
   IsThere (layer.Map entries) at = IsOfMap (length entries.1) at
   IsThere _ at = ⊥
 
-  -- a spot that holds a value
+  -- a spot where a value stands
   abbrev pub IsPlace : UnionLayer H → Spot → Type 0
   IsPlace source (spot.Item at) = IsThere source (spot.Item at)
   IsPlace source (spot.Value at) = IsThere source (spot.Value at)
@@ -57,7 +61,7 @@ module _ {H : Type 0} where
   IsPart source spot.Missing = ⊥
   IsPart source other = IsThere source other
 
-  -- and whether it is one
+  -- whether a spot is one that is read and put back
   abbrev pub is_part : UnionLayer H → Spot → Bool
   is_part (layer.Int n) (spot.Bit at) = nat_lt at 64
   is_part (layer.Int n) (spot.BitField start end) = nat_le start end && nat_le end 64
@@ -99,7 +103,7 @@ module _ {H : Type 0} where
   part_in (layer.Blob bytes) (spot.Byte at) = value.Int (pos (slice_index bytes at))
   part_in _ _ = value.Unit
 
-  -- a part of a value, with the access mode of its source
+  -- a part of a value, with that value's access mode
   abbrev pub part_of : Dynamic H → Spot → Dynamic H
   part_of source at = record { value = part_in (layer_of source) at; mode = source.mode }
 

@@ -4,6 +4,7 @@ use Rattle.rhai_values.specs.declared.base.value.Dynamic.{Dynamic}
 use Rattle.rhai_places.specs.Paths.{IsPlain, IsSimple, Parts, Rooted, Step, gone_back, next, read, write}
 
 module _ (H : Type 0) where
+  -- what is written at a path's end is read there, what stands off it stays, and going back step by step writes it at once
   pub record PathLaws : Type 0 where
     pub written : (root : Rooted H) (path : List Step) (u w : Dynamic H) → IsSimple path → read root path ≡ Some u →
         read (write root path w) path ≡ Some w

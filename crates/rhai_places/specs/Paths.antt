@@ -36,6 +36,7 @@ abbrev pub Parts : List Step → List Step → Type 0
 Parts (ToPlace at ∷ path) (ToPlace other ∷ others) = (at ≡ other → ⊥) ⊎ ((at ≡ other) × Parts path others)
 Parts _ _ = ⊥
 
+-- the cells by their numbers: the value of each, None where it is held
 abbrev pub Cells : Type 0 → Type 0
 Cells H = List (Option (Dynamic H))
 
@@ -45,7 +46,7 @@ pub record Rooted (H : Type 0) : Type 0 where
   pub cells : Cells H
 
 module _ {H : Type 0} where
-  -- a value is the handle of a cell
+  -- whether a value is the handle of a cell
   abbrev pub leads_to : Union H → ℕ → Bool
   leads_to (value.Cell id) number = nat_eq id.number number
   leads_to _ number = false
@@ -55,15 +56,17 @@ module _ {H : Type 0} where
   next cells v (ToPlace at) = value_at v at
   next cells v (ToCell number) = if leads_to v.value number then value_of_cell cells number else None
 
+  -- the value that one step leads to from a value, if there is one
   abbrev pub next_of : Cells H → Option (Dynamic H) → Step → Option (Dynamic H)
   next_of cells None step = None
   next_of cells (Some v) step = next cells v step
 
-  -- the value that a path leads to
+  -- the value that a path leads to from a value, if there is one
   abbrev pub read_from : Cells H → Option (Dynamic H) → List Step → Option (Dynamic H)
   read_from cells v [] = v
   read_from cells v (step ∷ path) = read_from cells (next_of cells v step) path
 
+  -- the value that a path leads to from a root
   abbrev pub read : Rooted H → List Step → Option (Dynamic H)
   read root path = read_from root.cells (Some root.value) path
 

@@ -33,7 +33,7 @@ is_of_text (spot.Slice start end) = true
 is_of_text _ = false
 
 module _ {H : Type 0} where
-  -- a source with a part put back; none where the part is of another type than the one that was read
+  -- a value with a part put back; none where the part is of another type than the one that was read
   abbrev pub put_in : (source : UnionLayer H) → Spot → (part : UnionLayer H) → Option (Union H)
   put_in (layer.Int n) (spot.Bit at) (layer.Bool on) = Some (value.Int (with_bit n at on))
   put_in (layer.Int n) (spot.BitField start end) (layer.Int v) = Some (value.Int (with_field n start end v))
@@ -46,11 +46,11 @@ module _ {H : Type 0} where
   abbrev pub put : (source : Dynamic H) → Spot → (part : UnionLayer H) → Option (Dynamic H)
   put source at part = option_map (λ u. record source { value = u }) (put_in (layer_of source) at part)
 
-  -- the same of any spot: a value that has no such part stays as it is
+  -- a value with a part put back at any spot: one that has no such part stays as it is
   abbrev pub put_back : (source : Dynamic H) → Spot → (part : Dynamic H) → Option (Dynamic H)
   put_back source at part = if is_part (layer_of source) at then put source at (layer_of part) else Some source
 
-  -- why a part was not put back: it is of another type, unless no memory was left
+  -- why a part was not put back: it is of another type, unless memory ran out
   abbrev pub IsNotPut : (host_name : H → List ℕ) → (source : Dynamic H) → Spot → (part : Dynamic H) → Position → EvalAltResult H → Type 0
   IsNotPut host_name source at part position e =
       is_out_of_memory e ≡ false → (put_back source at part ≡ None) ×

@@ -1,4 +1,4 @@
--- The errors of what is refused, and what holds of an error where memory may have been wanting.
+-- The errors of what is refused, and what holds of an error where memory may have run out.
 use Rattle.std.specs.Prelude.{◌≡◌, ℕ, false, List, Option, codes}
 use Rattle.rhai_places.specs.Types.{Access, Dynamic, EvalAltResult, Position, Refusal}
 use Rattle.rhai_state.specs.Errors.{indexing_text, is_out_of_memory}
@@ -7,16 +7,17 @@ use Rattle.rhai_state.specs.declared.error.EvalAltResult.TheVariants as error
 use Rattle.rhai_places.specs.declared.spot.Refusal.TheVariants as refusal
 
 module _ {H : Type 0} where
-  -- an error is the one told, or no memory was left
+  -- an error is the one told, or memory ran out
   abbrev pub IsTold : (told e : EvalAltResult H) → Type 0
   IsTold told e = is_out_of_memory e ≡ false → e ≡ told
 
-  -- a value of another type than the one that is wanted
+  -- the error of a value of another type than the one that is wanted
   abbrev pub mismatch : (wanted found : List ℕ) → Position → EvalAltResult H
   mismatch wanted found position = error.ErrorMismatchDataType (record { wanted = wanted; found = found }) position
 
   -- the error of an index that is refused
   module _ (host_name : H → List ℕ) (cells : List (Option (Dynamic H))) (how : Access) (source index : Dynamic H) where
+    -- the error, by why the index is refused
     abbrev pub refused : Refusal → EvalAltResult H
     refused (refusal.ArrayBounds bounds) = error.ErrorArrayBounds bounds how.idx_pos
     refused (refusal.BitFieldBounds bounds) = error.ErrorBitFieldBounds bounds how.idx_pos

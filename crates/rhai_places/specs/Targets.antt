@@ -13,13 +13,13 @@ use Rattle.rhai_places.specs.PutBack.{put_back, is_of_text, IsNotPut}
 module _ {H : Type 0} where
   -- ---- the target of a spot
 
-  -- what the place holds that is lent for a spot: an item or a value of a map, else the source itself
+  -- the value that is lent for a spot: an item, or an entry of a map, else the whole value
   abbrev pub place_at : Dynamic H → Spot → Option (Dynamic H)
   place_at source (spot.Item at) = value_at source (spot.Item at)
   place_at source (spot.Value at) = value_at source (spot.Value at)
   place_at source _ = Some source
 
-  -- a source whose place for a spot was changed
+  -- a value, once what was lent of it for a spot was changed
   abbrev pub with_place : Dynamic H → Spot → Dynamic H → Dynamic H
   with_place source (spot.Item at) v = with_value source (spot.Item at) v
   with_place source (spot.Value at) v = with_value source (spot.Value at) v
@@ -34,6 +34,7 @@ module _ {H : Type 0} where
 
   -- ---- what a target shows
 
+  -- the value that a target shows: its place, or the temporary or the part beside it
   abbrev pub shown : Part H → (place : Dynamic H) → Dynamic H
   shown part.Whole place = place
   shown (part.Temporary v) place = v
@@ -46,25 +47,27 @@ module _ {H : Type 0} where
   with_shown (part.Of at w) v = part.Of at v
 
   -- what is taken of it: a copy of a place, anything else as it is
-  abbrev pub taken : Part H → (place : Dynamic H) → Dynamic H
-  taken part.Whole place = copy_of place
-  taken (part.Temporary v) place = v
-  taken (part.Of at v) place = v
+  abbrev pub taken_value : Part H → (place : Dynamic H) → Dynamic H
+  taken_value part.Whole place = copy_of place
+  taken_value (part.Temporary v) place = v
+  taken_value (part.Of at v) place = v
 
+  -- whether a target shows its place itself
   abbrev pub is_place : Part H → Bool
   is_place part.Whole = true
   is_place _ = false
 
+  -- whether a target shows a temporary
   abbrev pub is_temporary : Part H → Bool
   is_temporary (part.Temporary v) = true
   is_temporary _ = false
 
-  -- a value is a handle of a cell
+  -- whether a value is a handle of a cell
   abbrev pub is_handle : UnionLayer H → Bool
   is_handle (layer.Cell id) = true
   is_handle _ = false
 
-  -- a target is a handle of a cell; a part never is
+  -- whether a target is a handle of a cell; a part never is
   abbrev pub is_shared : Part H → (place : Dynamic H) → Bool
   is_shared part.Whole place = is_handle (layer_of place)
   is_shared (part.Temporary v) place = is_handle (layer_of v)
@@ -72,7 +75,7 @@ module _ {H : Type 0} where
 
   -- ---- put-back
 
-  -- a part is one of what the place holds
+  -- a part is one of the value at the place
   abbrev pub IsFit : Part H → (place : Dynamic H) → Type 0
   IsFit (part.Of at v) place = IsPart (layer_of place) at
   IsFit _ place = ⊤
@@ -82,7 +85,7 @@ module _ {H : Type 0} where
   propagated (part.Of at v) place = put_back place at v
   propagated _ place = Some place
 
-  -- a part of a text, which takes memory to be put back
+  -- whether a part is one of a text, which takes memory to be put back
   abbrev pub is_of_a_text : Part H → Bool
   is_of_a_text (part.Of at v) = is_of_text at
   is_of_a_text _ = false

@@ -1,4 +1,4 @@
--- The types that the definitions here speak of, from one place.
+-- The types that the definitions here speak of, in one file.
 pub use Rattle.rhai_places.specs.declared.spot.Access.{Access}
 pub use Rattle.rhai_places.specs.declared.spot.Refusal.{Refusal}
 pub use Rattle.rhai_places.specs.declared.spot.Spot.{Spot}

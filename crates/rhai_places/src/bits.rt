@@ -4,7 +4,7 @@
 ghost use Rattle.std.specs.Prelude.{◌≡◌, ◌<◌, ◌≤◌, ◌-◌, ◌^◌};
 ghost use Rattle.rhai_places.specs.Bits as spec;
 
-/// A bit of an integer, counted from the lowest.
+/// Reads a bit of an integer, counted from the lowest.
 pub fn bit(number: i64, at: usize) -> bool
     requires { at < 64 }
     ensures { result ≡ spec.bit number at }
@@ -12,7 +12,7 @@ pub fn bit(number: i64, at: usize) -> bool
     (number.cast_unsigned() >> at) & 1 == 1
 }
 
-/// An integer with another bit at a place.
+/// Returns an integer with another bit at a position.
 pub fn with_bit(number: i64, at: usize, on: bool) -> i64
     requires { at < 64 }
     ensures { result ≡ spec.with_bit number at on }
@@ -26,8 +26,8 @@ pub fn with_bit(number: i64, at: usize, on: bool) -> i64
     }
 }
 
-/// The bits of an integer from one up to another: a number from zero, or the integer itself where
-/// they are all.
+/// Reads the bits of an integer from one up to another. They make a number from zero, or the integer itself
+/// where they are all.
 pub fn field(number: i64, start: usize, end: usize) -> i64
     requires within { end ≤ 64 }
     requires ordered { start ≤ end }
@@ -43,7 +43,7 @@ pub fn field(number: i64, start: usize, end: usize) -> i64
     }
 }
 
-/// An integer with the low bits of another in the place of its bits from one up to another.
+/// Replaces the bits of an integer from one up to another by the low bits of a second one.
 pub fn with_field(number: i64, start: usize, end: usize, value: i64) -> i64
     requires within { end ≤ 64 }
     requires ordered { start ≤ end }
@@ -57,7 +57,7 @@ pub fn with_field(number: i64, start: usize, end: usize, value: i64) -> i64
     ((number.cast_unsigned() & !mask) | new).cast_signed()
 }
 
-/// So many ones, from the lowest bit on.
+/// Builds so many ones, from the lowest bit on.
 fn ones(width: usize) -> u64
     requires { width ≤ 64 }
     ensures { result ≡ 2 ^ width - 1 }

@@ -1,5 +1,5 @@
 //! The characters of texts: how many there are, one of them, some of them, and texts with others
-//! in their place. The contracts cite specs/Characters.antt.
+//! instead of them. The contracts cite specs/Characters.antt.
 
 ghost use Rattle.std.specs.Prelude.{◌≡◌, ◌<◌, ◌≤◌, length, take, drop, IfOk};
 ghost use Rattle.std.specs.Str.{chars, encode_utf8_all, IsCharBoundary};
@@ -8,14 +8,14 @@ ghost use Rattle.rhai_places.specs.Characters as spec;
 use rhai_tree::Text;
 use std::alloc::{AllocError, Global};
 
-/// How many characters a text has.
+/// Counts the characters of a text.
 pub fn char_count(text: &str) -> usize
     ensures { result ≡ length (chars text.now) }
 {
     text.chars().count()
 }
 
-/// Where so many characters of a text end: at its end where it has no more.
+/// Finds where so many characters of a text end: at its end where it has no more.
 fn char_offset(text: &str, count: usize) -> usize
     ensures boundary { IsCharBoundary text.now result }
     ensures front { take result text.now ≡ encode_utf8_all (take count (chars text.now)) }
@@ -37,7 +37,7 @@ fn char_offset(text: &str, count: usize) -> usize
     offset
 }
 
-/// A character of a text.
+/// Reads a character of a text.
 pub fn char_at(text: &str, at: usize) -> char
     requires { at < length (chars text.now) }
     ensures { result ≡ spec.char_of text.now at }
@@ -48,7 +48,7 @@ pub fn char_at(text: &str, at: usize) -> char
     }
 }
 
-/// The characters of a text from one up to another.
+/// Copies the characters of a text from one up to another.
 pub fn slice(alloc: Global, text: &str, start: usize, end: usize) -> Result<Text, AllocError>
     requires { start ≤ end }
     ensures { IfOk result (λ t. t ≡ spec.slice_of text.now start end) }
@@ -58,19 +58,19 @@ pub fn slice(alloc: Global, text: &str, start: usize, end: usize) -> Result<Text
     Text::from_str(alloc, &rest[..length])
 }
 
-/// A text with another character at a place.
+/// Copies a text with another character at a position.
 pub fn with_char(alloc: Global, text: &str, at: usize, c: char) -> Result<Text, AllocError>
     requires { at < length (chars text.now) }
     ensures { IfOk result (λ t. t ≡ spec.with_char text.now at c) }
 {
-    let (front, back) = around(text, at, at + 1);
+    let (front, back) = split_around(text, at, at + 1);
     let mut joined = String::from_str(alloc, front)?;
     joined.push(c)?;
     joined.push_str(back)?;
     Ok(Text::from_string(joined))
 }
 
-/// A text with others in the place of its characters from one up to another.
+/// Copies a text with others instead of its characters from one up to another.
 pub fn with_slice(
     alloc: Global,
     text: &str,
@@ -81,15 +81,15 @@ pub fn with_slice(
     requires { start ≤ end }
     ensures { IfOk result (λ t. t ≡ spec.with_slice text.now start end new.now) }
 {
-    let (front, back) = around(text, start, end);
+    let (front, back) = split_around(text, start, end);
     let mut joined = String::from_str(alloc, front)?;
     joined.push_str(new)?;
     joined.push_str(back)?;
     Ok(Text::from_string(joined))
 }
 
-/// What stands before a character, and what stands from another one on.
-fn around(text: &str, start: usize, end: usize) -> (&str, &str)
+/// Splits off what stands before a character, and what stands from another one on.
+fn split_around(text: &str, start: usize, end: usize) -> (&str, &str)
     requires { start ≤ end }
     ensures front { result.0.now ≡ encode_utf8_all (take start (chars text.now)) }
     ensures back { result.1.now ≡ encode_utf8_all (drop end (chars text.now)) }

@@ -1,4 +1,4 @@
-//! The making of errors. Where there is no memory for one the answer is want of memory.
+//! The making of errors. Where there is no memory for one the answer is that memory ran out.
 
 ghost use Rattle.std.specs.Prelude.{◌≡◌, [], ◌++◌, codes, IfOk};
 ghost use Rattle.rhai_values.specs.Cells.{cells_of};
@@ -15,7 +15,7 @@ use rhai_values::base::value::{Dynamic, Host};
 use rhai_values::cells::CellStore;
 use std::alloc::{AllocError, Global};
 
-/// The error of an index that is refused.
+/// Builds the error of an index that is refused.
 pub fn indexing_error<H: Host>(
     alloc: Global,
     cells: &CellStore<H>,
@@ -66,7 +66,7 @@ fn refusal_error<H: Host>(
     }
 }
 
-/// The text of an object and an index that do not go together.
+/// Writes the text of a value and an index that do not go together.
 pub fn indexing_text(alloc: Global, object: &str, index: &str) -> Result<Text, AllocError>
     ensures { IfOk result (λ t. t ≡ indexed_text object.now index.now) }
 {
@@ -91,7 +91,7 @@ fn type_mismatch<H>(
     Ok(EvalAltResult::ErrorMismatchDataType(types, position))
 }
 
-/// A value of another type than the one that is wanted.
+/// Builds the error of a value of another type than the one that is wanted.
 pub fn mismatch<H>(alloc: Global, wanted: &str, found: &str, position: Position) -> EvalAltResult<H>
     ensures { IsTold (spec.mismatch wanted.now found.now position) result }
 {
@@ -101,7 +101,7 @@ pub fn mismatch<H>(alloc: Global, wanted: &str, found: &str, position: Position)
     }
 }
 
-/// A key that a map does not have.
+/// Builds the error of a key that a map does not have.
 pub fn property_not_found<H>(key: &Shared<Text>, position: Position) -> EvalAltResult<H>
     ensures { IsTold (error.ErrorPropertyNotFound key.now position) result }
 {
@@ -111,7 +111,7 @@ pub fn property_not_found<H>(key: &Shared<Text>, position: Position) -> EvalAltR
     }
 }
 
-/// A race for the cell that a handle leads to.
+/// Builds the error of a race for the cell that a handle leads to.
 pub fn data_race<H>(alloc: Global, position: Position) -> EvalAltResult<H>
     ensures { IsTold (error.ErrorDataRace [] position) result }
 {

@@ -33,10 +33,10 @@ use rhai_values::base::value::{Dynamic, Host, Union};
 use rhai_values::cells::CellStore;
 use std::alloc::{AllocError, Global};
 
-/// The target that an index leads to: an item of an array, the value of a key, a byte of a blob, a
-/// bit or some bits of an integer, a character or some characters of a text. A negative index
-/// counts from the end. A key that a map does not have is inserted with `()` where that is asked,
-/// else the target is a temporary `()`. An index that is a handle counts as its cell's value.
+/// Finds the target that an index leads to. That is an item of an array, the value of a key, a byte of a
+/// blob, a bit or some bits of an integer, a character or some characters of a text. A negative index counts
+/// from the end. A key that a map does not have is inserted with `()` where that is asked, else the target is
+/// a temporary `()`. An index that is a handle counts as its cell's value.
 ///
 /// An index in range of an array, a blob or an integer, one character, and a key that is there
 /// take no memory.
@@ -69,7 +69,7 @@ pub fn get_indexed_mut<'t, H: Host>(
     }
 }
 
-/// An index, or the value of the cell that it is a handle of; None where that cell is held.
+/// Returns an index, or the value of the cell that it is a handle of. None where that cell is held.
 pub fn value_of_index<'a, H>(
     cells: &'a CellStore<H>,
     index: &'a Dynamic<H>,
@@ -82,7 +82,7 @@ pub fn value_of_index<'a, H>(
     }
 }
 
-/// The target that an index leads to which is no handle.
+/// Finds the target that an index leads to which is no handle.
 fn get_by_value<'t, H: Host>(
     source: &'t mut Dynamic<H>,
     alloc: Global,
@@ -107,7 +107,7 @@ fn get_by_value<'t, H: Host>(
     }
 }
 
-/// The target of a key that a map does not have yet.
+/// Inserts a key that a map does not have yet, and finds its target.
 fn get_added<'t, H: Host>(
     source: &'t mut Dynamic<H>,
     index: &Dynamic<H>,
@@ -126,8 +126,8 @@ fn get_added<'t, H: Host>(
     open(source, Spot::Value(at), Part::Whole)
 }
 
-/// Inserts `()` under a key that a map does not have. Answers the place of the key. At an error, which
-/// is want of memory, the map stays as it was.
+/// Inserts `()` under a key that a map does not have. Answers the position of the key. At an error, where
+/// memory ran out, the map stays as it was.
 pub fn add_key<H: Host>(source: &mut Dynamic<H>, index: &Dynamic<H>) -> Result<usize, AllocError>
     requires { IsKeyless (layer_of source.old) (layer_of index.now) }
     ensures ok { IfOk result (λ at. with_key source.old (layer_of source.old) (layer_of index.now)
@@ -160,7 +160,7 @@ fn insert_unit<H: Host>(
     }
 }
 
-/// The error of a key that a map does not have: `ErrorPropertyNotFound` at the start of the index.
+/// Builds the error of a key that a map does not have: `ErrorPropertyNotFound` at the start of the index.
 pub fn missing_key<H: Host>(index: &Dynamic<H>, how: Access) -> EvalAltResult<H>
     requires { IsText (layer_of index.now) }
     ensures { IsTold (error.ErrorPropertyNotFound (text_of (layer_of index.now)) how.idx_pos) result }
@@ -171,7 +171,7 @@ pub fn missing_key<H: Host>(index: &Dynamic<H>, how: Access) -> EvalAltResult<H>
     }
 }
 
-/// The target of a spot.
+/// Builds the target of a spot.
 fn open_spot<'t, H: Host>(
     source: &'t mut Dynamic<H>,
     alloc: Global,
@@ -191,7 +191,7 @@ fn open_spot<'t, H: Host>(
     open(source, spot, part)
 }
 
-/// What a target shows of a spot.
+/// Reads what a target shows of a spot.
 fn part_at<H: Host>(alloc: Global, source: &Dynamic<H>, spot: Spot) -> Result<Part<H>, AllocError>
     requires { IsThere (layer_of source.now) spot }
     ensures part { IfOk result (λ part. part ≡ part_of_spot source.now spot) }
@@ -204,7 +204,7 @@ fn part_at<H: Host>(alloc: Global, source: &Dynamic<H>, spot: Spot) -> Result<Pa
     }
 }
 
-/// The target of a spot that shows a part.
+/// Builds the target of a spot that shows a part.
 fn open<'t, H: Host>(
     source: &'t mut Dynamic<H>,
     spot: Spot,

@@ -16,7 +16,7 @@ use rhai_state::error::Bounds;
 use rhai_tree::Table;
 use rhai_values::base::value::{Dynamic, Union};
 
-/// Where an index leads in a value, or why it leads nowhere. A negative index counts from the end.
+/// Finds where an index leads in a value, or why it leads nowhere. A negative index counts from the end.
 pub fn locate<H>(source: &Dynamic<H>, index: &Dynamic<H>) -> Result<Spot, Refusal>
     ensures spot { result ≡ located (layer_of source.now) (layer_of index.now) }
     ensures there { IfOk result (λ at. IsThere (layer_of source.now) at) }
@@ -57,7 +57,7 @@ fn locate_bits<H>(index: &Union<H>) -> Result<Spot, Refusal>
     }
 }
 
-/// A bound of a field of bits.
+/// Checks a bound of a field of bits, None where it is out of range.
 fn bit_bound(most: usize, bound: i64) -> Option<usize>
     requires { most ≤ 64 }
     ensures value { result ≡ spec.bit_bound most bound }
@@ -69,7 +69,7 @@ fn bit_bound(most: usize, bound: i64) -> Option<usize>
     }
 }
 
-/// The end of a field of bits. The greatest integer means the top.
+/// Checks the end of a field of bits. The greatest integer means the top.
 fn bit_end(most: usize, end: i64) -> Option<usize>
     requires { most ≤ 64 }
     ensures value { result ≡ spec.bit_end most end }
@@ -111,7 +111,7 @@ fn locate_text<H>(text: &str, index: &Union<H>) -> Result<Spot, Refusal>
     }
 }
 
-/// The slice from a start, which is cut to the text, up to an end.
+/// Finds the slice from a start, which is cut to the text, up to an end.
 fn slice(count: usize, start: i64, end: usize) -> Result<Spot, Refusal>
     ensures spot { result ≡ slice_spot count start (slice_start count start) end }
     ensures there { IfOk result (λ at. IsOfText count at) }
@@ -129,7 +129,7 @@ fn slice(count: usize, start: i64, end: usize) -> Result<Spot, Refusal>
     Ok(Spot::Slice(from, from.max(end)))
 }
 
-/// Where a slice ends whose end is left out.
+/// Finds where a slice ends whose end is left out.
 fn slice_end(count: usize, end: i64) -> usize
     ensures { result ≡ spec.slice_end count end }
 {
@@ -140,7 +140,7 @@ fn slice_end(count: usize, end: i64) -> usize
     }
 }
 
-/// Where a slice ends whose end is taken in.
+/// Finds where a slice ends whose end is taken in.
 fn slice_last(count: usize, last: i64) -> usize
     ensures { result ≡ spec.slice_last count last }
 {
@@ -197,15 +197,15 @@ fn bounds(length: usize, index: i64) -> Bounds
     Bounds { length, index }
 }
 
-/// How far an index stands from zero.
+/// Tells how far an index stands from zero.
 fn distance(index: i64) -> usize
     ensures { result ≡ unsigned_abs index }
 {
     index.unsigned_abs() as usize
 }
 
-/// The place of an index in a sequence, counted from the end where it is negative. Ports
-/// upstream's function of that name.
+/// Finds the position of an index in a sequence, counted from the end where it is negative. Ports upstream's
+/// function of that name.
 fn calc_index(length: usize, index: i64) -> Option<usize>
     ensures at { result ≡ index_in length index }
     ensures within { IfSome result (λ at. at < length) }

@@ -12,7 +12,7 @@ use rhai_tree::{Items, Shared};
 use rhai_values::base::value::{Dynamic, Union};
 use std::alloc::{AllocError, Global};
 
-/// The part of a value at a spot, with the access mode of the value. Only a slice takes memory.
+/// Reads the part of a value at a spot, with the access mode of the value. Only a slice takes memory.
 pub fn read_part<H>(
     alloc: Global,
     source: &Dynamic<H>,
@@ -46,7 +46,7 @@ fn byte_at(bytes: &Items<u8>, at: usize) -> i64
     i64::from(bytes.as_slice()[at])
 }
 
-/// Whether a spot is a part of a value that is read and put back.
+/// Tells whether a spot is a part of a value that is read and put back.
 pub fn is_part<H>(source: &Dynamic<H>, spot: Spot) -> bool
     ensures { IsTrue result ↔ IsPart (layer_of source.now) spot }
 {

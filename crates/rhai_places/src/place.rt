@@ -10,7 +10,7 @@ ghost use Rattle.rhai_places.specs.Lends.{lends_place};
 use crate::spot::Spot;
 use rhai_values::base::value::{Dynamic, Union};
 
-/// The item or the value at a place. What it is changed to stands there afterwards.
+/// Lends the item or the value at a place. What it is changed to stands there afterwards.
 pub fn place_mut<H>(source: &mut Union<H>, spot: Spot) -> &mut Dynamic<H>
     requires { IsPlace (out-Union H source.old) spot }
     ensures* writes_back { sem 𝓛 (lends_place H.row source.entry spot result) }

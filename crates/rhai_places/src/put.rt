@@ -22,14 +22,13 @@ use rhai_tree::position::Position;
 use rhai_values::base::value::{Dynamic, Host, Union};
 use std::alloc::{AllocError, Global};
 
-/// Puts a part back in the place of the one that was read. A bit takes a truth value; a field
-/// takes the low bits of an integer, and an empty field changes nothing; a byte takes the low
-/// eight bits of an integer; a character takes a character, and a slice a text. Only parts of
-/// texts take memory. Asked: the source has a part there.
+/// Puts a part back where it was read. A bit takes a truth value; a field takes the low bits of an integer,
+/// and an empty field changes nothing; a byte takes the low eight bits of an integer; a character takes a
+/// character, and a slice a text. Only parts of texts take memory. Asked: the value has a part there.
 ///
 /// # Errors
-/// A part of another type is `ErrorMismatchDataType` at the position, and the source stays. Where
-/// there is no memory the source stays too.
+/// A part of another type is `ErrorMismatchDataType` at the position, and the value stays. Where
+/// there is no memory the value stays too.
 pub fn put_part<H: Host>(
     alloc: Global,
     source: &mut Dynamic<H>,
@@ -46,7 +45,7 @@ pub fn put_part<H: Host>(
     put_there(alloc, source, spot, part, position)
 }
 
-/// The same, told of a part that is there.
+/// Puts a part back that is there, which `put_part` tells of any spot.
 fn put_there<H: Host>(
     alloc: Global,
     source: &mut Dynamic<H>,
@@ -78,7 +77,7 @@ fn put_there<H: Host>(
     }
 }
 
-/// The name of the type that a part has.
+/// Returns the name of the type that a part has.
 fn wanted(spot: Spot) -> &'static str
     ensures { result.now ≡ wanted_by spot }
 {
@@ -121,7 +120,7 @@ fn put_byte<H>(source: &mut Dynamic<H>, at: usize, new: i64)
     }
 }
 
-/// The low eight bits of an integer.
+/// Takes the low eight bits of an integer.
 fn low_byte(number: i64) -> u8
     ensures { result ≡ low_byte_of number }
 {

@@ -8,7 +8,7 @@ use rhai_tree::position::Position;
 pub enum Spot {
     /// An item of an array.
     Item(usize),
-    /// The value of a map at a place in the order of the keys.
+    /// The value of a map at a position in the order of the keys.
     Value(usize),
     /// A key that a map does not have.
     Missing,

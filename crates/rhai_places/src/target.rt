@@ -5,7 +5,7 @@ ghost use Rattle.std.specs.Prelude.{◌≡◌, Some, true, false, IfErr, IfOk, I
 ghost use Rattle.std.specs.Borrow.{sem};
 ghost use Rattle.rhai_tree.specs.Position.{none};
 ghost use Rattle.rhai_state.specs.declared.error.EvalAltResult.TheVariants as error;
-ghost use Rattle.rhai_places.specs.Targets.{is_place, taken};
+ghost use Rattle.rhai_places.specs.Targets.{is_place, taken_value};
 
 use crate::part::is_part;
 use crate::put::put_part;
@@ -22,8 +22,8 @@ pub enum Part<H> {
     Whole,
     /// A value that stands in no place. What the target borrows is not touched.
     Temporary(Dynamic<H>),
-    /// A bit, a bit field, a byte, a character or a slice of what the place holds, as it was read
-    /// or has been changed since.
+    /// A bit, a bit field, a byte, a character or a slice of the value at the place, as it was
+    /// read or has been changed since.
     Of(Spot, Dynamic<H>),
 }
 
@@ -31,8 +31,8 @@ impl<H> Part<H> {
     ghost use Rattle.rhai_places.specs.Lends.{lends_shown};
     ghost use Rattle.rhai_places.specs.Targets.{is_place, shown};
 
-    /// The value that is shown beside the place, to be changed: a temporary, or a part as it was read. When
-    /// the borrow ends it is what it was changed to. Asked: it is not the place that is shown.
+    /// Lends the value shown beside the place, to be changed: a temporary, or a part as it was read. When the
+    /// borrow ends it is what it was changed to. Asked: it is not the place that is shown.
     pub fn value_mut(&mut self) -> &mut Dynamic<H>
         requires { is_place self.old ≡ false }
         ensures* writes_back { sem 𝓛 (lends_shown H.row self.entry result) }
@@ -46,7 +46,7 @@ impl<H> Part<H> {
     }
 }
 
-/// A borrowed place, a temporary, or a part of what a borrowed place holds. Ports upstream's
+/// A borrowed place, a temporary, or a part of the value at a borrowed place. Ports upstream's
 /// `Target`.
 #[derive(Drop)]
 pub struct Target<'t, H> {
@@ -57,7 +57,7 @@ pub struct Target<'t, H> {
 impl<'t, H> Target<'t, H> {
     ghost use Rattle.rhai_places.specs.Targets.{shown, is_place, is_temporary, is_shared as shows_handle};
 
-    /// The value that the target shows.
+    /// Returns the value that the target shows.
     pub fn as_ref(&self) -> &Dynamic<H>
         ensures { result.now ≡ shown self.now.part self.now.at.now }
     {
@@ -68,8 +68,9 @@ impl<'t, H> Target<'t, H> {
         }
     }
 
-    /// The value that the target shows, to be changed: the place, or what `Part::value_mut` lends, whose
-    /// clause tells what becomes of it. A part that was changed is put back by `propagate_changed_value`.
+    /// Lends the value that the target shows, to be changed. It is the place, or what `Part::value_mut`
+    /// lends, whose clause tells what becomes of it. A part that was changed is put back by
+    /// `propagate_changed_value`.
     pub fn as_mut(&mut self) -> &mut Dynamic<H>
         ensures { result.now ≡ shown self.old.part self.old.at.now }
     {
@@ -80,21 +81,21 @@ impl<'t, H> Target<'t, H> {
         }
     }
 
-    /// Whether the target is a borrowed place.
+    /// Tells whether the target is a borrowed place.
     pub fn is_ref(&self) -> bool
         ensures { result ≡ is_place self.now.part }
     {
         matches!(&self.part, Part::Whole)
     }
 
-    /// Whether the target is a temporary value.
+    /// Tells whether the target is a temporary value.
     pub fn is_temp_value(&self) -> bool
         ensures { result ≡ is_temporary self.now.part }
     {
         matches!(&self.part, Part::Temporary(_))
     }
 
-    /// Whether the target is a handle of a shared cell. A part never is.
+    /// Tells whether the target is a handle of a shared cell. A part never is.
     pub fn is_shared(&self) -> bool
         ensures { result ≡ shows_handle self.now.part self.now.at.now }
     {
@@ -106,8 +107,8 @@ impl<'t, H> Target<'t, H> {
     }
 }
 
-/// What a target shows of a place, taken: a copy of the place, or a temporary or a part as it is. The place
-/// stays as it is. `Target::take_or_clone` calls this with its two fields.
+/// Takes what a target shows of its place. That is a copy of the place, or a temporary or a part as it is.
+/// The place stays as it is. `Target::take_or_clone` calls this with its two fields.
 ///
 /// # Errors
 /// Where there is no memory for a copy it is `ErrorOutOfMemory`.
@@ -116,7 +117,7 @@ pub fn take_shown<H: Host>(
     part: Part<H>,
     alloc: Global,
 ) -> Result<Dynamic<H>, EvalAltResult<H>>
-    ensures ok { IfOk result (λ value. value ≡ taken part at.old) }
+    ensures ok { IfOk result (λ value. value ≡ taken_value part at.old) }
     ensures err { IfErr result (λ e. e ≡ error.ErrorOutOfMemory none) }
     ensures memory { OnErr result (is_place part ≡ true) }
     ensures place { at.new ≡ at.old }
@@ -132,16 +133,16 @@ pub fn take_shown<H: Host>(
 }
 
 impl<'t, H: Host> Target<'t, H> {
-    ghost use Rattle.rhai_places.specs.Targets.{is_of_a_text, is_place, propagated, taken, IsFit};
+    ghost use Rattle.rhai_places.specs.Targets.{is_of_a_text, is_place, propagated, taken_value, IsFit};
     ghost use Rattle.rhai_places.specs.Targets.{IsNotPropagated};
 
-    /// The value of the target: a copy of a place, a temporary or a part as it is. The place stays as it is:
-    /// that is said by `take_shown`, which this calls.
+    /// Takes the value of the target: a copy of a place, a temporary or a part as it is. The place stays as
+    /// it is: that is said by `take_shown`, which this calls.
     ///
     /// # Errors
     /// Where there is no memory for a copy it is `ErrorOutOfMemory`.
     pub fn take_or_clone(self, alloc: Global) -> Result<Dynamic<H>, EvalAltResult<H>>
-        ensures ok { IfOk result (λ value. value ≡ taken self.entry.part self.entry.at.now) }
+        ensures ok { IfOk result (λ value. value ≡ taken_value self.entry.part self.entry.at.now) }
         ensures err { IfErr result (λ e. e ≡ error.ErrorOutOfMemory none) }
         ensures memory { OnErr result (is_place self.entry.part ≡ true) }
     {
@@ -149,9 +150,9 @@ impl<'t, H: Host> Target<'t, H> {
         take_shown(at, part, alloc)
     }
 
-    /// Puts a changed part back into its place: a bit takes a truth value, a bit field and a byte
-    /// an integer, a character a character, and a slice a text. Of a place and a temporary nothing
-    /// is to be put back, and a place that has no such part stays as it is.
+    /// Puts a changed part back into its place. A bit takes a truth value, a bit field and a byte an integer,
+    /// a character a character, and a slice a text. Of a place and a temporary nothing is to be put back, and
+    /// a place that has no such part stays as it is.
     ///
     /// # Errors
     /// A part that has become of another type is `ErrorMismatchDataType` at the position, and the

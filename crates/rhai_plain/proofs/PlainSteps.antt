@@ -29,7 +29,7 @@ use Rattle.rhai_machine.specs.machine.Machine.{Go}
 use Rattle.rhai_machine.specs.language.Setting.{Setting}
 use Rattle.rhai_machine.specs.language.State.{Local}
 use Rattle.rhai_machine.specs.language.Values.{Cells}
-use Rattle.rhai_machine.specs.language.Activations.{NoObject}
+use Rattle.rhai_machine.specs.language.Activations.{NoThis}
 use Rattle.rhai_machine.specs.language.Arguments.{arguments_core, arguments_there, function_core, keyword_named, keyword_of}
 use Rattle.rhai_machine.specs.language.Arguments.{named_move, this_in}
 use Rattle.rhai_machine.specs.language.Calls.{call_of, called_core, entry_of, is_held, named_core, plainly, races}
@@ -142,7 +142,8 @@ no_keyword name count m = rw (m.no_call, m.no_pointer, m.no_curry, m.no_sharing,
 module _ {H : Type 0} where
   pub plain_named : (token : Option Token) (name : List ℕ) (operation : Operation) (args : List Expr) (captures : Bool) (k : List (Frame H))
       (l : Local H) → token ≡ None → has_own_meaning name ≡ false →
-      function_core (keyword_of token name (length args)) operation args captures k l ≡ core (CallNamed operation [] args captures false) k l
+      function_core (keyword_of token name (length args)) operation args captures k l ≡ core (CallNamed operation [] args
+      captures false) k l
   plain_named token name operation args captures k l is plain = rw (is, no_keyword name (length args) (means_nothing name plain)) refl
 
   -- what is passed by its value is not `this`, and no variable
@@ -202,7 +203,7 @@ module _ {H : Type 0} (s : Setting H) where
     -- none is, and the function is entered
     pub plain_enters : l.around.lib ≡ lib → length values ≡ length call.args → races l.around.cells values ≡ false →
         arguments_there s (ToCall operation [] (plainly false false)) values k l
-        ≡ core (EnterFunction (entry_of function NoObject true values pos l)) k l
+        ≡ core (EnterFunction (entry_of function NoThis true values pos l)) k l
     plain_enters lib_is count free =
         let found : found_function (key_by call.name (length values) None) s.offer l.around ≡ Some function =
         plain_found call.name (length values) function l (rw (lib_is, count) plain.found) in

@@ -8,7 +8,7 @@ use Rattle.rhai_tree.specs.Forms.{is_unqualified}
 use Rattle.rhai_tree.specs.Layers.{ExprLayer}
 use Rattle.rhai_machine.specs.language.Functions.{in_libraries, key_by}
 
--- a name that means something besides functions: a keyword's, a type's, a compiler's, and whether a function is there
+-- one of the eight names that mean something besides functions
 abbrev pub has_own_meaning : List ℕ → Bool
 has_own_meaning name = bytes_eq name (codes "call") || (bytes_eq name (codes "Fn") || (bytes_eq name (codes "curry")
     || (bytes_eq name (codes "is_shared") || (bytes_eq name (codes "is_def_var") || (bytes_eq name (codes "type_of")
@@ -20,7 +20,7 @@ is_by_value (layer.Variable offset name namespace pos) = false
 is_by_value (layer.ThisPtr pos) = false
 is_by_value _ = true
 
--- the first argument, if there is one, is
+-- the first argument, if there is one, is passed by its value whatever it is
 abbrev pub starts_by_value : List Expr → Bool
 starts_by_value [] = true
 starts_by_value (arg ∷ args) = is_by_value (out-Expr arg)

@@ -13,7 +13,7 @@ use rhai_tree::checked::CheckedFn;
 use rhai_tree::expr::{Expr, FnCallExpr};
 use rhai_values::base::value::Host;
 
-/// Whether a name means something besides functions.
+/// Tells whether a name means something besides functions.
 pub fn has_own_meaning(name: &str) -> bool
     ensures { result ≡ own_meaning name.now }
 {
@@ -27,8 +27,8 @@ pub fn has_own_meaning(name: &str) -> bool
         || name == "is_def_fn"
 }
 
-/// Whether the first argument, if there is one, is passed by its value whatever it is: it is no variable and not
-/// `this`.
+/// Tells whether the first argument, if there is one, is passed by its value whatever it is. Then it is no
+/// variable and not `this`.
 fn starts_by_value(args: &[Expr]) -> bool
     ensures { result ≡ by_value args.now }
 {
@@ -38,8 +38,8 @@ fn starts_by_value(args: &[Expr]) -> bool
     !matches!(first, Expr::Variable { .. } | Expr::ThisPtr(..))
 }
 
-/// Whether a call is one by its name alone: no operator, none behind a path, and none that captures its caller's
-/// variables.
+/// Tells whether a call is one by its name alone. It is no operator, stands behind no path, and captures none
+/// of its caller's variables.
 #[inline(always)]
 pub fn is_by_name(call: &FnCallExpr) -> bool
     ensures token { IsTrue result → call.now.op_token ≡ None }
@@ -49,10 +49,11 @@ pub fn is_by_name(call: &FnCallExpr) -> bool
     call.op_token.is_none() && !call.capture_parent_scope && is_plain(&call.namespace)
 }
 
-/// The function of a run's libraries that a call means whatever its arguments come to, with an owner of its own. None
-/// where that is not known before they are evaluated: of an operator, a call behind a path, one that captures its
-/// caller's variables, one whose first argument is a variable or `this`, a name that means something besides
-/// functions, and a function with an environment. It takes no memory.
+/// Finds the function of a run's libraries that a call means whatever its arguments come to. The answer has
+/// an owner of its own. None where the function is not known before they are evaluated: of an operator, a
+/// call behind a path, one that captures its caller's variables, one whose first argument is a variable or
+/// `this`, a name that means something besides functions, and a function with an environment. It takes no
+/// memory.
 pub fn plain_callee<H: Host>(
     global: &GlobalRuntimeState<H>,
     call: &FnCallExpr,

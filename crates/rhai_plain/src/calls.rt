@@ -34,7 +34,8 @@ use rhai_values::base::value::{Dynamic, EncapsulatedEnviron, Host};
 use rhai_values::cells::CellStore;
 use std::alloc::Global;
 
-/// Whether a call stops since a parameter is the handle of a cell that is held. The error stands in its place then.
+/// Stops a call where a parameter is the handle of a cell that is held. It tells whether it did: the error
+/// stands in its place then.
 ///
 /// # Errors
 /// `ErrorDataRace` at the call, under its name.
@@ -58,8 +59,8 @@ pub fn stops_by_race<H: Host>(
     false
 }
 
-/// How a call ends before its body, and None where the body is to be entered: it is charged, and is only so deep
-/// and with only so many parameters, and a body without statements makes `()` of it.
+/// Ends a call before its body, and answers None where the body is to be entered. The call is charged, and is
+/// only so deep and with only so many parameters, and a body without statements makes `()` of it.
 ///
 /// # Errors
 /// All at the call: `ErrorTooManyOperations`, `ErrorStackOverflow`, then `ErrorTooManyVariables`.
@@ -108,7 +109,8 @@ pub struct PlainCall<H> {
     pub caller: Caller<H>,
 }
 
-/// A plain call's body is entered, one level deeper: its parameters are its only variables, and there is no `this`.
+/// Enters the body of a plain call, one level deeper. Its parameters are its only variables, and there is no
+/// `this`.
 #[inline(always)]
 pub fn enter_plain<H: Host>(run: &mut Context<H>, variables: Items<ScopeEntry<H>>) -> PlainCall<H>
     ensures exit { (any : _) → result.exit ≡ record (exit_seen run.old.global any) { scope_length = 0 } }
@@ -125,8 +127,8 @@ pub fn enter_plain<H: Host>(run: &mut Context<H>, variables: Items<ScopeEntry<H>
     PlainCall { exit, caller }
 }
 
-/// The environment of a function that has none. A `None` that is handed on as it is written, as an `Option<&T>`, has no
-/// lifetime that the borrow checker's part of the proof finds.
+/// Returns the environment of a function that has none. A `None` that is handed on as it is written, as an
+/// `Option<&T>`, has no lifetime that the borrow checker's part of the proof finds.
 #[inline(always)]
 fn no_environ<H: Host>(_def: &ScriptFuncDef) -> Option<&EncapsulatedEnviron<H>>
     ensures { option_copied result ≡ None }
@@ -134,8 +136,9 @@ fn no_environ<H: Host>(_def: &ScriptFuncDef) -> Option<&EncapsulatedEnviron<H>>
     None
 }
 
-/// A plain call's body is left, which put what came of it into the run's places, where what comes of the call goes.
-/// Its caller's variables and `this` are there again, and the room of its own is kept for another call.
+/// Leaves the body of a plain call, which put what came of it into the run's places. What comes of the call
+/// goes there too. Its caller's variables and `this` are there again, and the room of its own is kept for
+/// another call.
 ///
 /// # Errors
 /// Those of `close_function`.
@@ -156,7 +159,7 @@ pub fn leave_plain<H: Host>(
         (outcome_of end (came done run.old.value run.old.error)) }
     ensures value { IsTrue done →
         came result run.new.value run.new.error ≡ came done run.old.value run.old.error }
-    ensures wanting { result ≡ false → is_out_of_memory (error_in run.new.error) ≡ true →
+    ensures ran_out { result ≡ false → is_out_of_memory (error_in run.new.error) ≡ true →
         error_in run.new.error ≡ error.ErrorOutOfMemory pos }
 {
     let PlainCall { exit, caller } = entered;

@@ -27,7 +27,7 @@ use rhai_values::base::value::{Dynamic, Host, Union};
 use rhai_values::cells::CellStore;
 use std::alloc::Global;
 
-/// A run stops at an argument for which there is no memory.
+/// Stops a run at an argument that finds no memory.
 #[cold]
 #[inline(never)]
 fn stop_without_room<H: Host>(place: &mut Option<EvalAltResult<H>>, arg: &Expr) -> bool
@@ -37,7 +37,7 @@ fn stop_without_room<H: Host>(place: &mut Option<EvalAltResult<H>>, arg: &Expr) 
     stop(place, EvalAltResult::ErrorOutOfMemory(arg.position()))
 }
 
-/// The value of a run that is an integer becomes a function's next parameter, which may be written.
+/// Adds an integer, which is the value of a run, as a function's next parameter, which may be written.
 #[inline(always)]
 fn push_number<H: Host>(
     place: &mut Option<EvalAltResult<H>>,
@@ -60,7 +60,7 @@ fn push_number<H: Host>(
     }
 }
 
-/// The value of a run, flattened, becomes a function's next parameter, which may be written.
+/// Flattens the value of a run and adds it as a function's next parameter, which may be written.
 #[inline(never)]
 fn push_flattened<H: Host>(
     alloc: Global,
@@ -90,8 +90,8 @@ fn push_flattened<H: Host>(
     }
 }
 
-/// The value of a run, flattened, becomes a function's next parameter, which may be written. Whether it went well;
-/// an error stands in the run's place. Asked: there is a parameter for it.
+/// Adds the value of a run, flattened, as a function's next parameter, which may be written. It tells whether
+/// that went well; an error stands in the run's place. Asked: there is a parameter for it.
 ///
 /// # Errors
 /// `ErrorDataRace` at the argument, where it is the handle of a cell that is held.
@@ -118,7 +118,7 @@ pub fn push_parameter<H: Host>(
     }
 }
 
-/// Whether a variable is the handle of a cell that is held.
+/// Tells whether a variable is the handle of a cell that is held.
 pub fn variables_race<H: Host>(cells: &CellStore<H>, variables: &[ScopeEntry<H>]) -> bool
     ensures { result ≡ races (cells_of cells.now) (map value_of variables.now) }
 {
@@ -130,7 +130,7 @@ pub fn variables_race<H: Host>(cells: &CellStore<H>, variables: &[ScopeEntry<H>]
     false
 }
 
-/// A run stops since a call's argument is the handle of a cell that is held.
+/// Stops a run since a call's argument is the handle of a cell that is held.
 #[cold]
 #[inline(never)]
 pub fn stop_race<H: Host>(

@@ -16,7 +16,7 @@ use rhai_tree::literal::Literal;
 use rhai_tree::token::Token;
 use std::alloc::{AllocError, Global};
 
-/// `try { throw 42; } catch (e) { e }`
+/// Builds `try { throw 42; } catch (e) { e }`.
 pub fn thrown_value_caught(alloc: Global) -> Result<Items<Stmt>, AllocError> {
     let mut tree = Builder::new(alloc);
     let body = tree.block([throw_stmt(Some(int(42, 13)), 7)], 5, 17);
@@ -26,7 +26,7 @@ pub fn thrown_value_caught(alloc: Global) -> Result<Items<Stmt>, AllocError> {
     tree.finish([try_catching(body, caught, branch, 1)])
 }
 
-/// `let x = 1; let f = || x; loop { break x; }`
+/// Builds `let x = 1; let f = || x; loop { break x; }`.
 pub fn shared_variable_at_a_break(alloc: Global) -> Result<TreeParts, AllocError> {
     let mut tree = Builder::new(alloc);
     let x = tree.variable("x", 1, 23);
@@ -43,7 +43,8 @@ pub fn shared_variable_at_a_break(alloc: Global) -> Result<TreeParts, AllocError
     tree.finish_with_functions([start, f, loop_stmt(body, 26)])
 }
 
-/// `const x = 1;`, and then what shares `x`, `x`, `q` and `x`, each two columns behind the one before.
+/// Builds `const x = 1;`, and then what shares `x`, `x`, `q` and `x`. Each stands two columns behind the one
+/// before.
 pub fn names_shared_in_order(alloc: Global) -> Result<Items<Stmt>, AllocError> {
     let mut tree = Builder::new(alloc);
     let x = tree.const_stmt("x", 7, int(1, 11), 1);
@@ -55,7 +56,7 @@ pub fn names_shared_in_order(alloc: Global) -> Result<Items<Stmt>, AllocError> {
     tree.finish([x, Stmt::Share(variables)])
 }
 
-/// `let x = (); x?.foo`
+/// Builds `let x = (); x?.foo`.
 pub fn property_of_unit(alloc: Global) -> Result<Items<Stmt>, AllocError> {
     let mut tree = Builder::new(alloc);
     let x = tree.let_stmt("x", 5, unit(9), 1);
@@ -65,7 +66,8 @@ pub fn property_of_unit(alloc: Global) -> Result<Items<Stmt>, AllocError> {
     tree.finish([x, Stmt::Expr(found)])
 }
 
-/// `switch v { "hello" => 10, 'x' => 20, true => 30, _ => 99 }`, with `true` in the place of `v`.
+/// Builds a `switch` over `true`.
+/// It is `switch v { "hello" => 10, 'x' => 20, true => 30, _ => 99 }`, with `true` instead of `v`.
 pub fn truth_chosen(alloc: Global) -> Result<Items<Stmt>, AllocError> {
     let mut tree = Builder::new(alloc);
     let text = tree.text_case("hello");
@@ -84,7 +86,7 @@ pub fn truth_chosen(alloc: Global) -> Result<Items<Stmt>, AllocError> {
     tree.finish([choice])
 }
 
-/// `switch 5 { 5 if false => 1, 0..9 => 2, _ => 3 }`
+/// Builds `switch 5 { 5 if false => 1, 0..9 => 2, _ => 3 }`.
 pub fn range_after_a_case(alloc: Global) -> Result<Items<Stmt>, AllocError> {
     let mut tree = Builder::new(alloc);
     let results = [
@@ -98,7 +100,7 @@ pub fn range_after_a_case(alloc: Global) -> Result<Items<Stmt>, AllocError> {
     tree.finish([choice])
 }
 
-/// `` `a${1}b` ``
+/// Builds `` `a${1}b` ``.
 pub fn joined_parts(alloc: Global) -> Result<Items<Stmt>, AllocError> {
     let mut tree = Builder::new(alloc);
     let first = tree.text("a", 2);
@@ -108,7 +110,7 @@ pub fn joined_parts(alloc: Global) -> Result<Items<Stmt>, AllocError> {
     tree.finish([Stmt::Expr(text)])
 }
 
-/// `[1, "x", #{k: 'c'}]`
+/// Builds `[1, "x", #{k: 'c'}]`.
 pub fn items_of_three_types(alloc: Global) -> Result<Items<Stmt>, AllocError> {
     let mut tree = Builder::new(alloc);
     let mut map = MapParts::new(alloc);
@@ -118,7 +120,7 @@ pub fn items_of_three_types(alloc: Global) -> Result<Items<Stmt>, AllocError> {
     tree.finish([Stmt::Expr(items)])
 }
 
-/// `fn bump(n) { x += n; } let x = 1; bump!(4); x`
+/// Builds `fn bump(n) { x += n; } let x = 1; bump!(4); x`.
 pub fn variable_of_the_caller_increased(alloc: Global) -> Result<TreeParts, AllocError> {
     let mut tree = Builder::new(alloc);
     let x = tree.variable("x", 0, 14);
@@ -131,12 +133,12 @@ pub fn variable_of_the_caller_increased(alloc: Global) -> Result<TreeParts, Allo
     tree.finish_with_functions([x, Stmt::Expr(call), Stmt::Expr(last)])
 }
 
-/// `let v = 5; let t = "a"; v.kind() * 10 + t.kind()`, where `kind` of an integer answers 1, and of any other
-/// value 2.
+/// Builds `let v = 5; let t = "a"; v.kind() * 10 + t.kind()`. There `kind` of an integer answers 1, and of
+/// any other value 2.
 pub fn functions_for_types(alloc: Global) -> Result<TreeParts, AllocError> {
     let mut tree = Builder::new(alloc);
     let body = tree.block([Stmt::Expr(int(1, 1))], 1, 1);
-    tree.function_on("i64", "kind", &[], body);
+    tree.define_on("i64", "kind", &[], body);
     let body = tree.block([Stmt::Expr(int(2, 1))], 1, 1);
     tree.function("kind", &[], body);
     let v = tree.let_stmt("v", 5, int(5, 9), 1);
@@ -153,7 +155,7 @@ pub fn functions_for_types(alloc: Global) -> Result<TreeParts, AllocError> {
     tree.finish_with_functions([v, t, Stmt::Expr(sum)])
 }
 
-/// A private function `f` of integers with the parameters `a` and `b`, and without statements.
+/// Builds a private function `f` of integers with the parameters `a` and `b`, and without statements.
 pub fn private_function(alloc: Global) -> Result<ScriptFuncDef, AllocError> {
     let body = no_block(alloc);
     script_function(
@@ -166,7 +168,8 @@ pub fn private_function(alloc: Global) -> Result<ScriptFuncDef, AllocError> {
     )
 }
 
-/// `let n = 0; do { n += 1; if n < 5 { continue; } } until n >= 1; n`
+/// Builds a `do` with a `continue` in its body.
+/// It is `let n = 0; do { n += 1; if n < 5 { continue; } } until n >= 1; n`.
 pub fn continued_until(alloc: Global) -> Result<Items<Stmt>, AllocError> {
     let mut tree = Builder::new(alloc);
     let start = tree.let_stmt("n", 5, int(0, 9), 1);
@@ -183,27 +186,28 @@ pub fn continued_until(alloc: Global) -> Result<Items<Stmt>, AllocError> {
     tree.finish([start, do_until(body, enough, 12), n])
 }
 
-/// `return 5; 6`
+/// Builds `return 5; 6`.
 pub fn return_at_the_top(alloc: Global) -> Result<Items<Stmt>, AllocError> {
     let returned = return_stmt(Some(int(5, 8)), 1);
     Builder::new(alloc).finish([returned, Stmt::Expr(int(6, 11))])
 }
 
-/// `true || 1`
+/// Builds `true || 1`.
 pub fn true_or_integer(alloc: Global) -> Result<Items<Stmt>, AllocError> {
     let mut tree = Builder::new(alloc);
     let either = tree.or(6, [truth(true, 1), int(1, 9)]);
     tree.finish([Stmt::Expr(either)])
 }
 
-/// `1 && true`
+/// Builds `1 && true`.
 pub fn integer_and_true(alloc: Global) -> Result<Items<Stmt>, AllocError> {
     let mut tree = Builder::new(alloc);
     let both = tree.and(3, [int(1, 1), truth(true, 6)]);
     tree.finish([Stmt::Expr(both)])
 }
 
-/// `let n = 1000000; while n > 0 { n -= 1; }`, with as many turns in the place of the million.
+/// Builds a loop that decrements a number to zero.
+/// It is `let n = 1000000; while n > 0 { n -= 1; }`, with `turns` instead of the million.
 pub fn decrements(alloc: Global, turns: i64) -> Result<Items<Stmt>, AllocError> {
     let mut tree = Builder::new(alloc);
     let start = tree.let_stmt("n", 5, int(turns, 9), 1);
@@ -215,14 +219,14 @@ pub fn decrements(alloc: Global, turns: i64) -> Result<Items<Stmt>, AllocError> 
     tree.finish([start, while_stmt(left, body, 18)])
 }
 
-/// `() ?? 5`
+/// Builds `() ?? 5`.
 pub fn unit_or_integer(alloc: Global) -> Result<Items<Stmt>, AllocError> {
     let mut tree = Builder::new(alloc);
     let first = tree.coalesce(4, [unit(1), int(5, 7)]);
     tree.finish([Stmt::Expr(first)])
 }
 
-/// `x.a.b`, whose first dot says that the chain ends there.
+/// Builds `x.a.b`, whose first dot says that the chain ends there.
 pub fn dot_that_ends_and_goes_on(alloc: Global) -> Result<Items<Stmt>, AllocError> {
     let mut tree = Builder::new(alloc);
     let x = tree.variable("x", 0, 1);
@@ -233,7 +237,7 @@ pub fn dot_that_ends_and_goes_on(alloc: Global) -> Result<Items<Stmt>, AllocErro
     tree.finish([Stmt::Expr(chain)])
 }
 
-/// `x.f()`, with a module in front of the method's name.
+/// Builds `x.f()`, with a module in front of the method's name.
 pub fn method_of_a_module(alloc: Global) -> Result<Items<Stmt>, AllocError> {
     let mut tree = Builder::new(alloc);
     let x = tree.variable("x", 0, 1);
@@ -242,7 +246,8 @@ pub fn method_of_a_module(alloc: Global) -> Result<Items<Stmt>, AllocError> {
     tree.finish([Stmt::Expr(chain)])
 }
 
-/// `fn f() { this += 1; throw 0; } let a = [1]; try { a[0].f(); } catch {} a[0]`
+/// Builds a method that changes an item and throws.
+/// It is `fn f() { this += 1; throw 0; } let a = [1]; try { a[0].f(); } catch {} a[0]`.
 pub fn method_that_throws(alloc: Global) -> Result<TreeParts, AllocError> {
     let mut tree = Builder::new(alloc);
     let added = assign(Some(Token::Plus), 15, this(10), int(1, 18));
@@ -261,7 +266,8 @@ pub fn method_that_throws(alloc: Global) -> Result<TreeParts, AllocError> {
     tree.finish_with_functions([declared, try_stmt(body, branch, 45), Stmt::Expr(item)])
 }
 
-/// `let s = 0; for (v, i) in [5, 6] { s += v * 10 + i; } s`
+/// Builds a `for` that sums up items with their counter.
+/// It is `let s = 0; for (v, i) in [5, 6] { s += v * 10 + i; } s`.
 pub fn items_and_counter_summed(alloc: Global) -> Result<Items<Stmt>, AllocError> {
     let mut tree = Builder::new(alloc);
     let start = tree.let_stmt("s", 5, int(0, 9), 1);
@@ -278,7 +284,7 @@ pub fn items_and_counter_summed(alloc: Global) -> Result<Items<Stmt>, AllocError
     tree.finish([start, walk, Stmt::Expr(s)])
 }
 
-/// `for x in 5 {}`
+/// Builds `for x in 5 {}`.
 pub fn integer_walked(alloc: Global) -> Result<Items<Stmt>, AllocError> {
     let mut tree = Builder::new(alloc);
     let body = tree.block([], 12, 13);

@@ -170,7 +170,8 @@ pub const SECOND_ERROR_THROWN_AGAIN: &[Part<'_>] = &[
     Try(1),
 ];
 
-/// `for i in 0..1000000 { try { throw 1; } catch {} }`, with as many turns in the place of the million.
+/// Builds a `for` whose turns throw and catch.
+/// It is `for i in 0..1000000 { try { throw 1; } catch {} }`, with `turns` instead of the million.
 pub fn throws_in_turn(alloc: Global, turns: i64) -> Result<Items<Stmt>, AllocError> {
     statements_of(
         alloc,

@@ -279,8 +279,9 @@ pub const ITEM_OF_AN_ITEM_ASSIGNED: &[Part<'_>] = &[
     Value,
 ];
 
-/// `let a = [1]; let i = 0; let n = 1000000; while n > 0 { a[i] += 1; n -= 1; } a[i]`, with as many
-/// literals, which all stand at one place, the last index, and as many turns in the place of the
+/// Builds a loop that increases the last item of an array.
+/// It is `let a = [1]; let i = 0; let n = 1000000; while n > 0 { a[i] += 1; n -= 1; } a[i]`, with `length`
+/// literals, which all stand at one position, with the last index as `i`, and with `turns` instead of the
 /// million.
 pub fn increments(alloc: Global, length: u32, turns: i64) -> Result<Items<Stmt>, AllocError> {
     statements_of(

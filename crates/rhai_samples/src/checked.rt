@@ -40,7 +40,7 @@ pub const OFFSET_OF_A_CATCH_VARIABLE: &[Part<'_>] = &[
     TryCatching(1),
 ];
 
-/// `try {} catch (e) {}` with an integer in the place of the catch variable.
+/// `try {} catch (e) {}` with an integer instead of the catch variable.
 pub const INTEGER_AS_A_CATCH_VARIABLE: &[Part<'_>] = &[
     Block(0, 5, 6),
     Int(5, 15),

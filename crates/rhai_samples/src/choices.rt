@@ -10,7 +10,9 @@ use rhai_tree::expr::{RangeCase, Stmt};
 use rhai_tree::token::Token;
 use std::alloc::{AllocError, Global};
 
-/// `switch 1 { 1 => 10, 5..8 => 20, 8..=10 => 30, _ => 99 }`, with any integer in the place of the first.
+/// Builds a `switch` with a case and ranges of integers.
+/// It is `switch 1 { 1 => 10, 5..8 => 20, 8..=10 => 30, _ => 99 }`, with `value` instead of the first
+/// integer.
 pub fn integer_chosen(alloc: Global, value: i64) -> Result<TreeParts, AllocError> {
     tree_of(
         alloc,
@@ -38,7 +40,8 @@ pub fn integer_chosen(alloc: Global, value: i64) -> Result<TreeParts, AllocError
     )
 }
 
-/// `switch v { "hello" => 10, 'x' => 20, true => 30, _ => 99 }`, with a text in the place of `v`.
+/// Builds a `switch` over a text.
+/// It is `switch v { "hello" => 10, 'x' => 20, true => 30, _ => 99 }`, with the text instead of `v`.
 pub fn text_chosen(alloc: Global, text: &str) -> Result<TreeParts, AllocError> {
     tree_of(
         alloc,
@@ -67,7 +70,7 @@ pub fn text_chosen(alloc: Global, text: &str) -> Result<TreeParts, AllocError> {
     )
 }
 
-/// The same with `'x'` in the place of `v`.
+/// `switch v { "hello" => 10, 'x' => 20, true => 30, _ => 99 }`, with `'x'` instead of `v`.
 pub const CHARACTER_CHOSEN: &[Part<'_>] = &[
     Character('x', 8),
     Always,
@@ -119,8 +122,9 @@ pub const DEFAULT_UNDER_FALSE: &[Part<'_>] = &[
     Switch(1, &[], &[], Some(0), 1),
 ];
 
-/// `for i in 0..1000000 { switch i % 10 { 0 => 9, 1 => 8, 2 => 7, 3 => 6, 4 => 5, 5 => 4, 6 => 3, 7 => 2, 8 => 1,
-/// 9 => 0 } }`, with as many turns in the place of the million.
+/// Builds a `for` whose turns have a `switch` of ten cases.
+/// It is `for i in 0..1000000 { switch i % 10 { 0 => 9, 1 => 8, 2 => 7, 3 => 6, 4 => 5, 5 => 4, 6 => 3, 7 =>
+/// 2, 8 => 1, 9 => 0 } }`, with `turns` instead of the million.
 pub fn choices_in_turn(alloc: Global, turns: i64) -> Result<Items<Stmt>, AllocError> {
     statements_of(
         alloc,

@@ -31,7 +31,7 @@ pub const ITEMS_OF_TEXTS: &[Part<'_>] = &[
     Value,
 ];
 
-/// `let a = [1, 1, 1];`, with so many literals, which all stand at one place.
+/// Builds `let a = [1, 1, 1];`, with so many literals, which all stand at one position.
 pub fn many_items(alloc: Global, count: u32) -> Result<Items<Stmt>, AllocError> {
     statements_of(alloc, &[Ones(count, 10, 9), Let("a", 5, 1)])
 }

@@ -51,7 +51,7 @@ pub const UNKNOWN_EXPORTED: &[Part<'_>] = &[
     Value,
 ];
 
-/// `let x = 1; export x as y;`, with no letter in the place of the alias.
+/// `let x = 1; export x as y;`, with the empty text instead of the alias.
 pub const EXPORTED_AS_NOTHING: &[Part<'_>] = &[
     Int(1, 9),
     Let("x", 5, 1),
@@ -68,7 +68,8 @@ pub const EXPORTED_WHERE_DECLARED: &[Part<'_>] = &[
     Value,
 ];
 
-/// `const x = 1; let y = 5; export let x = 2;`, with what shares `x` behind the constant. The last `let` overwrites it.
+/// `const x = 1; let y = 5; export let x = 2;`, with what shares `x` behind the constant. The last `let`
+/// overwrites it.
 pub const EXPORTED_OVER_A_SHARED_CONSTANT: &[Part<'_>] = &[
     Int(1, 11),
     Const("x", 7, 1),

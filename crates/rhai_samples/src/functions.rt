@@ -9,7 +9,8 @@ use rhai_build::functions::TreeParts;
 use rhai_tree::token::Token;
 use std::alloc::{AllocError, Global};
 
-/// `fn fib(n) { if n < 2 { n } else { fib(n-1) + fib(n-2) } } fib(28)`, with any number in the place of 28.
+/// Builds the function `fib`, which calls itself twice, and a call of it.
+/// It is `fn fib(n) { if n < 2 { n } else { fib(n-1) + fib(n-2) } } fib(28)`, with `number` instead of 28.
 pub fn fibonacci(alloc: Global, number: i64) -> Result<TreeParts, AllocError> {
     tree_of(
         alloc,
@@ -108,7 +109,8 @@ pub const EMPTY_FUNCTION: &[Part<'_>] = &[
     Value,
 ];
 
-/// `fn f(n) { if n == 0 { 0 } else { f(n-1) } } f(2)`, with any number in the place of 2.
+/// Builds a function that calls itself until its argument is zero.
+/// It is `fn f(n) { if n == 0 { 0 } else { f(n-1) } } f(2)`, with `number` instead of 2.
 pub fn calls_within_calls(alloc: Global, number: i64) -> Result<TreeParts, AllocError> {
     tree_of(
         alloc,

@@ -47,7 +47,8 @@ pub const VALUE_OF_A_LOOP: &[Part<'_>] = &[
 /// `break;`
 pub const BREAK_AT_THE_TOP: &[Part<'_>] = &[Break(1)];
 
-/// `let n = 1000000; while n > 0 { double(n); n -= 1; }`, with as many turns in the place of the million.
+/// Builds a loop that calls a native of one argument.
+/// It is `let n = 1000000; while n > 0 { double(n); n -= 1; }`, with `turns` instead of the million.
 pub fn doublings(alloc: Global, turns: i64) -> Result<Items<Stmt>, AllocError> {
     statements_of(
         alloc,
@@ -69,7 +70,8 @@ pub fn doublings(alloc: Global, turns: i64) -> Result<Items<Stmt>, AllocError> {
     )
 }
 
-/// `let n = 1000000; while n > 0 { pair(n, 1); n -= 1; }`, with as many turns in the place of the million.
+/// Builds a loop that calls a native of two arguments.
+/// It is `let n = 1000000; while n > 0 { pair(n, 1); n -= 1; }`, with `turns` instead of the million.
 pub fn pairings(alloc: Global, turns: i64) -> Result<Items<Stmt>, AllocError> {
     statements_of(
         alloc,

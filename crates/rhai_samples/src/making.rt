@@ -27,8 +27,8 @@ pub(crate) struct Making {
     functions: Items<ScriptFuncDef>,
 }
 
-/// The place at a column, none for zero.
-fn place(column: u16) -> Position {
+/// Returns the position at a column of the first line, none for zero.
+fn at_column(column: u16) -> Position {
     if column == 0 {
         Position::NONE
     } else {
@@ -36,7 +36,7 @@ fn place(column: u16) -> Position {
     }
 }
 
-/// A shared copy of a text.
+/// Copies a text into a shared one.
 fn shared(alloc: Global, text: &str) -> Result<Shared<Text>, AllocError> {
     Shared::new(alloc, Text::from_str(alloc, text)?)
 }
@@ -58,7 +58,7 @@ fn take_last<T: Drop>(
 }
 
 impl Making {
-    /// Nothing.
+    /// Begins with nothing made.
     pub(crate) fn new(alloc: Global) -> Making {
         Making {
             alloc,
@@ -70,7 +70,7 @@ impl Making {
         }
     }
 
-    /// The statements that no part has taken, and the functions.
+    /// Hands over the statements that no part has taken, and the functions.
     pub(crate) fn finish(self) -> TreeParts {
         let Making {
             alloc: _,
@@ -92,23 +92,23 @@ impl Making {
     /// Adds a part.
     pub(crate) fn add(&mut self, part: Part<'_>) -> Result<(), AllocError> {
         let made = match part {
-            Part::Int(value, column) => Expr::IntegerConstant(value, place(column)),
-            Part::Truth(value, column) => Expr::BoolConstant(value, place(column)),
-            Part::Character(value, column) => Expr::CharConstant(value, place(column)),
-            Part::Unit(column) => Expr::Unit(place(column)),
-            Part::This(column) => Expr::ThisPtr(place(column)),
+            Part::Int(value, column) => Expr::IntegerConstant(value, at_column(column)),
+            Part::Truth(value, column) => Expr::BoolConstant(value, at_column(column)),
+            Part::Character(value, column) => Expr::CharConstant(value, at_column(column)),
+            Part::Unit(column) => Expr::Unit(at_column(column)),
+            Part::This(column) => Expr::ThisPtr(at_column(column)),
             Part::Always => Expr::BoolConstant(true, Position::NONE),
             Part::Text(text, column) => {
-                Expr::StringConstant(shared(self.alloc, text)?, place(column))
+                Expr::StringConstant(shared(self.alloc, text)?, at_column(column))
             }
             Part::Property(name, column) => {
-                Expr::Property(shared(self.alloc, name)?, place(column))
+                Expr::Property(shared(self.alloc, name)?, at_column(column))
             }
             Part::Variable(name, offset, column) => Expr::Variable {
                 offset: NonZeroUsize::new(offset),
                 name: shared(self.alloc, name)?,
                 namespace: self.path(),
-                pos: place(column),
+                pos: at_column(column),
             },
             Part::Path(names, index, column) => return self.add_path(names, index, column),
             Part::Pointer(name, count, column) => {
@@ -117,7 +117,7 @@ impl Making {
                     curry: Items::new(self.alloc),
                     kind: LiteralFnPtrKind::Arity(count),
                 };
-                Expr::DynamicConstant(Literal::FnPtr(pointer), place(column))
+                Expr::DynamicConstant(Literal::FnPtr(pointer), at_column(column))
             }
             _ => return self.add_operation(part),
         };
@@ -133,7 +133,7 @@ impl Making {
         self.paths.push(Namespace {
             path,
             index: NonZeroUsize::new(index),
-            position: place(column),
+            position: at_column(column),
         })
     }
 

@@ -9,8 +9,8 @@ use rhai_tree::token::Token;
 use std::alloc::{AllocError, Global};
 
 /// A part of a tree. It takes what it is made of from the parts before it, the newest first: `()`, or a block
-/// without statements, where there is too little. Columns stand last, that of a name right behind the name; zero
-/// is no place.
+/// without statements, where there is too little. Columns stand last, that of a name right behind the name;
+/// zero is no position.
 #[derive(Clone, Copy)]
 pub enum Part<'a> {
     Int(i64, u16),
@@ -21,8 +21,8 @@ pub enum Part<'a> {
     Text(&'a str, u16),
     /// A variable with its offset from the end of the scope; zero is none, and the name is searched.
     Variable(&'a str, usize, u16),
-    /// The path in front of the next name: its names, the root first, and the root's index among the imports, counted
-    /// from the newest; zero is none.
+    /// The path in front of the next name: its names, the root first, and the root's index among the imports,
+    /// counted from the newest; zero is none.
     Path(&'a [&'a str], usize, u16),
     /// A constant pointer to the function of a name with so many parameters.
     Pointer(&'a str, usize, u16),
@@ -41,12 +41,12 @@ pub enum Part<'a> {
     Property(&'a str, u16),
     /// A method with so many arguments.
     Method(&'a str, usize, u16),
-    /// A dot between an object and what stands behind it.
+    /// A dot between an expression and what stands behind it.
     Dot(u16),
     DotUnlessUnit(u16),
-    /// An object at an index, where its chain ends.
+    /// An expression at an index, where its chain ends.
     Index(u16),
-    /// An object at an index from which its chain goes on.
+    /// An expression at an index from which its chain goes on.
     IndexOn(u16),
     /// So many statements between two braces.
     Block(usize, u16, u16),
@@ -82,8 +82,8 @@ pub enum Part<'a> {
     ForCounted(&'a str, u16, &'a str, u16, u16),
     /// A condition that is met, which no text has, before a result of a `switch`.
     Always,
-    /// A `switch` of so many results, each behind its condition, with its cases, its ranges and the number of its
-    /// default.
+    /// A `switch` of so many results, each behind its condition, with its cases, its ranges and the number of
+    /// its default.
     Switch(usize, &'a [Case<'a>], &'a [RangeCase], Option<usize>, u16),
     /// What closures share: names, each with its offset from the end of the scope, zero for none.
     Share(&'a [(&'a str, usize, u16)]),
@@ -110,7 +110,7 @@ pub enum Case<'a> {
     OfTruth(bool, &'a [usize]),
 }
 
-/// The statements of a tree without functions.
+/// Builds the statements of a tree without functions.
 pub fn statements_of(alloc: Global, parts: &[Part<'_>]) -> Result<Items<Stmt>, AllocError> {
     let TreeParts {
         statements,
@@ -120,7 +120,7 @@ pub fn statements_of(alloc: Global, parts: &[Part<'_>]) -> Result<Items<Stmt>, A
     Ok(statements)
 }
 
-/// The statements of a tree and the functions beside them.
+/// Builds the statements of a tree and the functions beside them.
 pub fn tree_of(alloc: Global, parts: &[Part<'_>]) -> Result<TreeParts, AllocError> {
     let mut making = Making::new(alloc);
     for part in parts {

@@ -18,5 +18,5 @@ pub const METHOD_ASSIGNED: &[Part<'_>] = &[
     Assign(7),
 ];
 
-/// `a`, which is a property without an object.
+/// `a`, which is a property that stands behind no dot.
 pub const PROPERTY_ALONE: &[Part<'_>] = &[Property("a", 1), Value];

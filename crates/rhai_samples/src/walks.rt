@@ -135,7 +135,8 @@ pub const ITEM_SKIPPED: &[Part<'_>] = &[
     Value,
 ];
 
-/// `let x = 0; for i in 0..1000000 { x += i; }`, with as many turns in the place of the million.
+/// Builds a `for` that sums up a range.
+/// It is `let x = 0; for i in 0..1000000 { x += i; }`, with `turns` instead of the million.
 pub fn range_summed(alloc: Global, turns: i64) -> Result<Items<Stmt>, AllocError> {
     statements_of(
         alloc,
@@ -154,8 +155,9 @@ pub fn range_summed(alloc: Global, turns: i64) -> Result<Items<Stmt>, AllocError
     )
 }
 
-/// `let a = [1, 1, 1]; let x = 0; for t in 0..1000 { for i in a { x += i; } }`, with so many literals, which all
-/// stand at one place, and as many turns in the place of the thousand.
+/// Builds a `for` that sums up an array again and again.
+/// It is `let a = [1, 1, 1]; let x = 0; for t in 0..1000 { for i in a { x += i; } }`, with `length` literals,
+/// which all stand at one position, and with `times` instead of the thousand.
 pub fn array_summed(alloc: Global, length: u32, times: i64) -> Result<Items<Stmt>, AllocError> {
     statements_of(
         alloc,

@@ -24,7 +24,7 @@ module _ {H : Type 0} (index : ℕ) (v : Dynamic H) (l : Local H) where
   into_cell (value.Cell id) is = cc
   into_cell _ is = refl
 
-  -- a cell that is added, its value, and the handle in the value's place
+  -- a cell that is added, its value, and the handle where the value stood
   pub stands_shared : (number : ℕ) (mode : AccessMode) (handle u : Dynamic H) (added : List (Option (Dynamic H))) →
       is_handle v.value ≡ false → number ≡ length l.around.cells → handle ≡ handle_of number mode → mode ≡ v.mode →
       added ≡ l.around.cells ++ Some u ∷ [] →

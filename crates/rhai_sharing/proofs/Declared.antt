@@ -1,5 +1,6 @@
 -- A variable that is declared stands in the scope as it was given, and is entered so.
-use Rattle.std.proofs.Common.{◌≡◌, ℕ, zero, suc, Bool, true, false, List, [], ◌∷◌, ◌++◌, Option, Some, None, Result, Ok, Err, length, map, take}
+use Rattle.std.proofs.Common.{◌≡◌, ℕ, zero, suc, Bool, true, false, List, [], ◌∷◌, ◌++◌, Option, Some, None, Result, Ok, Err, length, map}
+use Rattle.std.proofs.Common.{take}
 use Rattle.std.proofs.Common.{slice_get, slice_set, if◌then◌else◌, refl, sym, ap, subst, ◌∙◌}
 use Rattle.std.proofs.lemmas.List.{length-set, set-set}
 use Rattle.std.proofs.lemmas.Option.{get_or_from_slice_get}
@@ -184,7 +185,8 @@ module _ {H : Type 0} where
       ∙ set_there entries at entry is)
 
   -- the value that an entry had
-  put_back_by : (entries : List (ScopeEntry H)) (at : ℕ) (there : Option (ScopeEntry H)) (v old : Dynamic H) → slice_get entries at ≡ there →
+  put_back_by : (entries : List (ScopeEntry H)) (at : ℕ) (there : Option (ScopeEntry H)) (v old : Dynamic H) →
+      slice_get entries at ≡ there →
       option_map value_of there ≡ Some old →
       revalued (revalued entries at there v) at (slice_get (revalued entries at there v) at) old ≡ entries
   put_back_by entries at None v old is stands = cc
@@ -199,7 +201,8 @@ module _ {H : Type 0} where
 
   -- ---- an entry with another value
 
-  rewritten_names : (entries : List (ScopeEntry H)) (at : ℕ) (there : Option (ScopeEntry H)) (v : Dynamic H) → slice_get entries at ≡ there →
+  rewritten_names : (entries : List (ScopeEntry H)) (at : ℕ) (there : Option (ScopeEntry H)) (v : Dynamic H) →
+      slice_get entries at ≡ there →
       map name_of (revalued entries at there v) ≡ map name_of entries
   rewritten_names entries at None v is = refl
   rewritten_names entries at (Some entry) v is = map-set_same name_of entries at (record entry { value = v }) entry
@@ -216,7 +219,8 @@ module _ {H : Type 0} where
   rewritten_value entries at (Some entry) v old is stands =
       ap (option_map value_of) (get_set entries at entry (record entry { value = v }) is)
 
-  pub revalued_value : (entries : List (ScopeEntry H)) (at : ℕ) (v old : Dynamic H) → option_map value_of (slice_get entries at) ≡ Some old →
+  pub revalued_value : (entries : List (ScopeEntry H)) (at : ℕ) (v old : Dynamic H) →
+      option_map value_of (slice_get entries at) ≡ Some old →
       option_map value_of (slice_get (revalued entries at (slice_get entries at) v) at) ≡ Some v
   revalued_value entries at v old stands = rewritten_value entries at (slice_get entries at) v old refl stands
 

@@ -18,7 +18,7 @@ use Rattle.rhai_machine.specs.language.Runs.{at, Goes}
 use Rattle.rhai_machine.specs.language.Setting.{Rules}
 use Rattle.rhai_machine.specs.language.State.{State}
 use Rattle.rhai_machine.specs.language.Values.{unit_value}
-use Rattle.rhai_steps.proofs.Pieces.{or_wants, step_by}
+use Rattle.rhai_steps.proofs.Pieces.{or_runs_out, step_by}
 
 -- an alias is no name
 pub aliased_names : {H : Type 0} (entries : List (ScopeEntry H)) (at : ℕ) (there : Option (ScopeEntry H)) (alias : List ℕ) →
@@ -34,14 +34,14 @@ module _ {S H : Type 0} (rules : Rules S H) (ident : Ident) (alias : Option Iden
   pub not_found : (e : EvalAltResult H) → index_of ident.name l.local.scope ≡ None →
       (is_out_of_memory e ≡ false → e ≡ error.ErrorVariableNotFound ident.name ident.pos) →
       Goes rules (at (OpenStmt (layer.Export ident alias pos) restoring) k l) (at (Fail e) k l)
-  not_found e none told = or_wants rules (OpenStmt (layer.Export ident alias pos) restoring) k l e (λ memory.
+  not_found e none told = or_runs_out rules (OpenStmt (layer.Export ident alias pos) restoring) k l e (λ memory.
       step_by rules _ _ (Go (core (Fail e) k l.local))
       (rw none (ap (λ (x : EvalAltResult H). Go (core (Fail x) k l.local)) (sym (told memory)))) here)
 
   -- there is no memory for the alias
   pub no_memory : (where_ : Position) →
       Goes rules (at (OpenStmt (layer.Export ident alias pos) restoring) k l) (at (Fail (error.ErrorOutOfMemory where_)) k l)
-  no_memory where_ = or_wants rules (OpenStmt (layer.Export ident alias pos) restoring) k l (error.ErrorOutOfMemory where_) (λ memory. cc)
+  no_memory where_ = or_runs_out rules (OpenStmt (layer.Export ident alias pos) restoring) k l (error.ErrorOutOfMemory where_) (λ memory. cc)
 
   -- its newest variable has the alias
   pub exports : (i : ℕ) → index_of ident.name l.local.scope ≡ Some i →

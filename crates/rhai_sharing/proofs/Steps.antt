@@ -23,7 +23,7 @@ use Rattle.rhai_machine.specs.language.Sharing.{shared}
 use Rattle.rhai_machine.specs.language.State.{Held, Local, State}
 use Rattle.rhai_machine.specs.language.Values.{unit_value}
 use Rattle.rhai_steps.specs.States.{local_of, state_of}
-use Rattle.rhai_steps.proofs.Pieces.{or_wants, step_by}
+use Rattle.rhai_steps.proofs.Pieces.{or_runs_out, step_by}
 
 pub drop_item : {A : Type 0} (xs : List A) (i : ℕ) (x : A) → i < length xs → x ≡ get_or xs i x → drop i xs ≡ x ∷ drop (i + 1) xs
 drop_item xs i x h e = rw (add-one, drop-cons xs i x h, ← e) refl
@@ -64,10 +64,10 @@ module _ {S H : Type 0} (rules : Rules S H) (k : List (Frame H)) where
     pub shares_not : (e : EvalAltResult H) → index_of variable.ident.name l.local.scope ≡ None →
         (is_out_of_memory e ≡ false → e ≡ error.ErrorVariableNotFound variable.ident.name variable.ident.pos) →
         Goes rules (at (Share (variable ∷ rest)) k l) (at (Fail e) k l)
-    shares_not e is told = or_wants rules (Share (variable ∷ rest)) k l e (λ m.
+    shares_not e is told = or_runs_out rules (Share (variable ∷ rest)) k l e (λ m.
         step_by rules _ _ (Go (core (Fail e) k l.local)) (rw (is, told m) refl) here)
 
     -- no memory for its cell
-    pub shares_wanting : (e : EvalAltResult H) → is_out_of_memory e ≡ true →
+    pub shares_without_memory : (e : EvalAltResult H) → is_out_of_memory e ≡ true →
         Goes rules (at (Share (variable ∷ rest)) k l) (at (Fail e) k l)
-    shares_wanting e wants = or_wants rules (Share (variable ∷ rest)) k l e (λ m. absurd (true≢false (sym wants ∙ m)))
+    shares_without_memory e is_out = or_runs_out rules (Share (variable ∷ rest)) k l e (λ m. absurd (true≢false (sym is_out ∙ m)))

@@ -13,18 +13,18 @@ use Rattle.rhai_machine.specs.language.Statements.{defined_core}
 use Rattle.rhai_machine.specs.language.Values.{unit_value}
 
 module _ {H : Type 0} where
-  -- from one state to another, by the machine's rule, which gives `()`
+  -- a declaration leads from one state to another by the machine's rule, which gives `()`
   abbrev pub Declares : Dynamic H → Ident → (index : Option NonZeroUsize) → ASTFlags → (restoring : Bool) → (old new : Local H) → Type 0
   Declares v ident index options restoring old new =
       (k : List (Frame H)) → defined_core v ident index options restoring k old ≡ core (Back unit_value) k new
 
-  -- or by the error that it ends with, where it is to be exported and no variable has its name
+  -- a declaration leads to an error by the machine's rule: it is to be exported, and no variable has its name
   abbrev pub Misses : Dynamic H → Ident → (index : Option NonZeroUsize) → ASTFlags → (restoring : Bool) → EvalAltResult H →
       (old new : Local H) → Type 0
   Misses v ident index options restoring e old new =
       (k : List (Frame H)) → defined_core v ident index options restoring k old ≡ core (Fail e) k new
 
-  -- an exported variable's entry has its name as an alias
+  -- the entries of a scope, where that of an exported variable has its own name as an alias
   abbrev pub own_alias : (exported : Bool) → List (ScopeEntry H) → (at : ℕ) → List ℕ → List (ScopeEntry H)
   own_alias true entries at name = aliased entries at (slice_get entries at) name
   own_alias false entries at name = entries

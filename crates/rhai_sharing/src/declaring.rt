@@ -1,5 +1,5 @@
-//! Variables that a script declares, and those that it overwrites. Ports what upstream's `eval_stmt` does with a
-//! `let` and a `const`.
+//! Variables that a script declares, and those that it overwrites. Ports what upstream's `eval_stmt` does
+//! with a `let` and a `const`.
 
 ghost use Rattle.std.specs.Prelude.{◌≡◌, ◌<◌, ◌&&◌, [], IfErr, IsTrue, None, OnErr, OnOk, Some, false, true};
 ghost use Rattle.std.specs.Prelude.{is_none, length, slice_get};
@@ -24,7 +24,7 @@ use rhai_state::scope::Scope;
 use rhai_state::state::GlobalRuntimeState;
 use rhai_steps::constants::enter_constant;
 use rhai_steps::variables::{
-    define_variable, is_exported, may_declare, mode_of, place_of_variable,
+    define_variable, index_of_variable, is_exported, may_declare, mode_of,
 };
 use rhai_tree::expr::Ident;
 use rhai_tree::flags::ASTFlags;
@@ -34,7 +34,8 @@ use rhai_values::base::value::{Dynamic, Host};
 use std::alloc::Global;
 use std::num::NonZeroUsize;
 
-/// Whether a variable may be declared; one that overwrites another needs no room. Where it may not, the run stops.
+/// Checks whether a variable may be declared; one that overwrites another needs no room. Where it may not,
+/// the run stops.
 ///
 /// # Errors
 /// Those of `may_declare`.
@@ -57,8 +58,8 @@ pub fn is_declarable<H: Host>(
     }
 }
 
-/// Gives the entry at a place its variable's own name as an alias, where the variable is exported. Where there is no
-/// memory the scope stays.
+/// Gives an entry its variable's own name as an alias, where the variable is exported. Where memory runs out
+/// the scope stays.
 ///
 /// # Errors
 /// `ErrorOutOfMemory` at the position alone.
@@ -87,9 +88,9 @@ fn add_own_alias<H: Host>(
     }
 }
 
-/// What comes with a variable that stands at a place: its own name as an alias, where it is exported, and its value
-/// among the constants of a script that has a library, where it is a constant at the top. Where there is no memory
-/// nothing is changed.
+/// Adds what comes with the variable at an entry. Where it is exported that is its own name as an alias, and
+/// where it is a constant at the top its value among the constants of a script that has a library. Where
+/// memory runs out nothing is changed.
 ///
 /// # Errors
 /// `ErrorOutOfMemory` at the position alone.
@@ -127,7 +128,7 @@ fn publish<H: Host>(
     Ok(())
 }
 
-/// Adds a variable with a value. Where there is no memory nothing is changed.
+/// Adds a variable with a value. Where memory runs out nothing is changed.
 ///
 /// # Errors
 /// `ErrorOutOfMemory` at the position alone.
@@ -169,11 +170,12 @@ fn add_variable<H: Host>(
     Ok(())
 }
 
-/// What is left of a variable that is to overwrite another where none has its name: its value among the constants, as
-/// `publish` has it. Where there is no memory nothing is changed.
+/// Enters the value of a variable that is to overwrite another where none has its name. It goes among the
+/// constants, as `publish` has it. Where memory runs out nothing is changed.
 ///
 /// # Errors
-/// `ErrorVariableNotFound` at the name where the variable is exported, and `ErrorOutOfMemory` at the position.
+/// `ErrorVariableNotFound` at the name where the variable is exported, and `ErrorOutOfMemory` at the
+/// position.
 #[cold]
 #[inline(never)]
 fn overwrite_none<H: Host>(
@@ -207,12 +209,13 @@ fn overwrite_none<H: Host>(
     }
 }
 
-/// Puts a value into the newest variable of a name as it stands there, a constant or a handle too. Where there is no
-/// memory nothing is changed. Asked: the offset leads to that variable, or variables are searched for.
+/// Puts a value into the newest variable of a name as it stands there, a constant or a handle too. Where
+/// memory runs out nothing is changed. Asked: the offset leads to that variable, or variables are searched
+/// for.
 ///
 /// # Errors
-/// `ErrorOutOfMemory` at the position, and `ErrorVariableNotFound` at the name where no variable has it and it is to be
-/// exported.
+/// `ErrorOutOfMemory` at the position, and `ErrorVariableNotFound` at the name where no variable has it and
+/// it is to be exported.
 fn overwrite_variable<H: Host>(
     alloc: Global,
     global: &mut GlobalRuntimeState<H>,
@@ -237,7 +240,7 @@ fn overwrite_variable<H: Host>(
     ensures same { IfErr result (λ e. is_out_of_memory e ≡ true → global.new ≡ global.old) }
     ensures same_scope { OnErr result (entries_of scope.new ≡ entries_of scope.old) }
 {
-    let Some(at) = place_of_variable(global, scope, Some(offset), &ident.name) else {
+    let Some(at) = index_of_variable(global, scope, Some(offset), &ident.name) else {
         return overwrite_none(alloc, global, &value, ident, options, restoring, pos);
     };
     value.set_access_mode(mode_of(options));
@@ -259,14 +262,15 @@ fn overwrite_variable<H: Host>(
     Ok(())
 }
 
-/// Declares a variable with the value of a run, which is `()` then: a new one, or, with an offset, by overwriting the
-/// one that it leads to. An exported one has its own name as an alias; a constant at the top of a script that has a
-/// library is entered among its constants. Where there is no memory the run stops, and nothing but its value is
-/// changed. Asked: the offset leads to the newest variable of the name, or variables are searched for.
+/// Declares a variable with the value of a run, which is `()` then. It is a new one, or, with an offset,
+/// overwrites the one that it leads to. An exported one has its own name as an alias; a constant at the top
+/// of a script that has a library is entered among its constants. Where memory runs out the run stops, and
+/// nothing but its value is changed. Asked: the offset leads to the newest variable of the name, or variables
+/// are searched for.
 ///
 /// # Errors
-/// `ErrorOutOfMemory` at the position, and `ErrorVariableNotFound` at the name of one that is to overwrite another and
-/// to be exported, where no variable has it.
+/// `ErrorOutOfMemory` at the position, and `ErrorVariableNotFound` at the name of one that is to overwrite
+/// another and to be exported, where no variable has it.
 pub fn declare<H: Host>(
     alloc: Global,
     global: &mut GlobalRuntimeState<H>,

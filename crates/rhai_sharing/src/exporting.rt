@@ -1,5 +1,5 @@
-//! Variables that a script exports. Ports `Stmt::Export` of upstream's `eval/stmt.rs`; the contracts speak of the
-//! machine's runs.
+//! Variables that a script exports. Ports `Stmt::Export` of upstream's `eval/stmt.rs`; the contracts speak of
+//! the machine's runs.
 
 ghost use Rattle.std.specs.Prelude.{◌≡◌};
 ghost use Rattle.rhai_tree.specs.declared.expr.Expr.TheOpen as layer;
@@ -22,7 +22,7 @@ use rhai_tree::expr::Ident;
 use rhai_tree::{Shared, Text};
 use rhai_values::base::value::{Dynamic, Host};
 
-/// The alias that is asked for, or else the variable's own name. An empty one is none.
+/// Returns the alias that is asked for, or else the variable's own name. An empty one is none.
 fn alias_or<'a>(own: &'a Shared<Text>, alias: &'a Option<Ident>) -> &'a Shared<Text>
     ensures { result.now ≡ alias_of own.now alias.now }
 {
@@ -38,11 +38,12 @@ fn alias_or<'a>(own: &'a Shared<Text>, alias: &'a Option<Ident>) -> &'a Shared<T
     }
 }
 
-/// Gives the newest variable of a name an alias, or its own name as one, unless it has it already. How that ended
-/// stands in the run, whose value is `()` then. The table is not called.
+/// Gives the newest variable of a name an alias, or its own name as one, unless it has it already. How that
+/// ended stands in the run, whose value is `()` then. The table is not called.
 ///
 /// # Errors
-/// At the name: `ErrorVariableNotFound` where no variable has it, and `ErrorOutOfMemory`; then nothing is changed.
+/// At the name: `ErrorVariableNotFound` where no variable has it, and `ErrorOutOfMemory`; then nothing is
+/// changed.
 pub fn export_variable<H: Host, T: NativeTable<H>>(
     _limits: &Limits,
     _global: &GlobalRuntimeState<H>,

@@ -1,5 +1,5 @@
-//! Variables that a script declares and exports, and those that closures share with it. Ports `Stmt::Share` of
-//! upstream's `eval/stmt.rs`; the contracts speak of the machine's runs.
+//! Variables that a script declares and exports, and those that closures share with it. Ports `Stmt::Share`
+//! of upstream's `eval/stmt.rs`; the contracts speak of the machine's runs.
 #![tactic(auto)]
 
 ghost use Rattle.std.specs.Prelude.{◌≡◌, ◌<◌, IfErr, IfSome, IsTrue, OnErr, OnOk, Some, length, true};
@@ -27,20 +27,20 @@ use rhai_state::state::GlobalRuntimeState;
 use rhai_state::table::NativeTable;
 use rhai_steps::errors::variable_not_found;
 use rhai_steps::values::unit_value;
-use rhai_steps::variables::place_of_variable;
+use rhai_steps::variables::index_of_variable;
 use rhai_tree::expr::SharedVariable;
 use rhai_tree::position::Position;
 use rhai_values::base::value::{AccessMode, CellId, Dynamic, Host, Union};
 use rhai_values::cells::put_back;
 
-/// Whether a value is the handle of a cell.
+/// Tells whether a value is the handle of a cell.
 fn is_handle<H: Host>(value: &Dynamic<H>) -> bool
     ensures { result ≡ leads_to_cell value.now.value }
 {
     matches!(value.value, Union::Cell(_))
 }
 
-/// The handle of a cell, with a mode of its own.
+/// Makes the handle of a cell, with a mode of its own.
 fn handle_of<H: Host>(id: CellId, mode: AccessMode) -> Dynamic<H>
     ensures { result ≡ handle_to id.number mode }
 {
@@ -50,8 +50,8 @@ fn handle_of<H: Host>(id: CellId, mode: AccessMode) -> Dynamic<H>
     }
 }
 
-/// A value as a closure and its script share it: in a new cell, whose handle takes its place. A handle
-/// stays.
+/// Moves the value of an entry, which a closure and its script share, into a new cell. The cell's handle
+/// stands in the entry then. A handle stays.
 ///
 /// # Errors
 /// `ErrorOutOfMemory` at the position. Then nothing was changed.
@@ -102,7 +102,7 @@ fn share_each<H: Host, T: NativeTable<H>>(
 {
     'each_variable: for variable in variables {
         let ident = &variable.ident;
-        let Some(index) = place_of_variable(global, scope, variable.offset, &ident.name) else {
+        let Some(index) = index_of_variable(global, scope, variable.offset, &ident.name) else {
             return Err(variable_not_found(&ident.name, ident.pos));
         };
         share_value(global, scope, index, ident.pos)?;
@@ -110,8 +110,8 @@ fn share_each<H: Host, T: NativeTable<H>>(
     Ok(unit_value())
 }
 
-/// Shares variables, one after the other, each the newest of its name. How that ended stands in the run, whose
-/// value is `()` then. The table is not called.
+/// Shares variables, one after the other, each the newest of its name. How that ended stands in the run,
+/// whose value is `()` then. The table is not called.
 ///
 /// # Errors
 /// `ErrorVariableNotFound` at a variable that is not there, and `ErrorOutOfMemory`. Those before it stay

@@ -1,4 +1,4 @@
--- What values, pointers, environments and modules hold, one level of them.
+-- What stands in values, pointers, environments and modules, one level of them.
 use Rattle.std.proofs.Common.{◌≡◌, ℕ, List, [], ◌∷◌, ◌++◌, map, refl, sym, ap, ◌∙◌, flat_map, Some, None}
 use Rattle.std.proofs.lemmas.List.Folds.{flat_map-map}
 use Rattle.rhai_values.specs.declared.base.value.Dynamic.{Dynamic}
@@ -13,16 +13,16 @@ use Rattle.rhai_values.specs.declared.base.value.Union.TheVariants.{rolls-Array,
 use Rattle.rhai_values.specs.declared.base.value.FnPtrKind.TheFolds.{fold-Union, fold-roll-Union, fold_out-Dynamic}
 use Rattle.rhai_values.specs.declared.base.value.FnPtrKind.TheFolds.{fold_out-EncapsulatedEnviron, fold_out-FnPtr}
 use Rattle.rhai_values.specs.declared.base.value.FnPtrKind.TheFolds.{fold_out-Import, fold_out-Module, fold_out-ModuleFn}
-use Rattle.rhai_state.specs.Reach.{Constants, Function, each, in_kind, in_union}
-use Rattle.rhai_state.specs.Reached.{Held, nothing, in_value, in_environ, in_pointer, in_import, in_module, in_function}
+use Rattle.rhai_state.specs.ValueContents.{Constants, Function, each, in_kind, in_union}
+use Rattle.rhai_state.specs.Reached.{ReachedList, nothing, in_value, in_environ, in_pointer, in_import, in_module, in_function}
 use Rattle.rhai_state.specs.Reached.{value_holds, pointer_holds, kind_holds, environ_holds, import_holds, module_holds, function_holds}
 
-each-map : {A : Type 0} (f : A → Held) (xs : List A) → each (map f xs) ≡ flat_map f xs
+each-map : {A : Type 0} (f : A → ReachedList) (xs : List A) → each (map f xs) ≡ flat_map f xs
 each-map f xs = flat_map-map (λ h. h) f xs
 
 module _ {H : Type 0} where
-  abbrev union_holds : Union H → Held
-  union_holds = fold-Union H Held Held Held Held Held Held Held Held (in_kind nothing) (in_union nothing) in_value in_environ in_pointer
+  abbrev union_holds : Union H → ReachedList
+  union_holds = fold-Union H ReachedList ReachedList ReachedList ReachedList ReachedList ReachedList ReachedList ReachedList (in_kind nothing) (in_union nothing) in_value in_environ in_pointer
       in_import in_module in_function
 
   value-union : (d : Dynamic H) → value_holds d ≡ union_holds d.value

@@ -1,6 +1,6 @@
 mod Aliases
 mod Deciding
-pub mod Held
+pub mod ContentLemmas
 mod Layers
 mod Lists
 pub mod Newest

@@ -37,7 +37,7 @@ module _ {X A : Type 0} (p : X → Bool) (f : A → List X) where
       false ≡ list_all p (flat_map f xs)
   given_not xs i x lt is here = given_not_at xs i x lt (here ∙ ap (λ y. list_all p (f y)) is)
 
--- what may stand at a place, where the place is one of the list's
+-- what may stand at an index, where the index is one of the list's
 pub there : {A : Type 0} (xs : List (Option A)) (i : ℕ) → i < length xs → option_flatten (slice_get xs i) ≡ get_or xs i None
 there [] i lt = absurd (omega arith)
 there (x ∷ xs) zero lt = refl

@@ -35,7 +35,7 @@ module _ {A : Type 0} (name_of : A → List ℕ) (name : List ℕ) where
       x ≡ get_or xs i x → bytes_eq (name_of x) name ≡ false → newest name_of name (drop i xs) ≡ None
   newest_not_here xs i x within later is test = not_here xs i x within later (ap (λ y. bytes_eq (name_of y) name) (sym is) ∙ test)
 
-  -- the place at an offset from the end, counted from the start
+  -- the index at an offset from the end, counted from the start
   abbrev from_end : ℕ → ℕ → Option ℕ
   from_end n zero = None
   from_end n (suc k) = Some (n - suc k)

@@ -2,12 +2,12 @@
 use Rattle.std.proofs.Common.{◌≡◌, sym, ap, ◌∙◌, flat_map}
 use Rattle.rhai_values.specs.Cells.{value_of_cell}
 use Rattle.rhai_state.specs.Native.{Request, IsReached, AreReached, ByState, ByFirst, ByOthers, ByCell}
-use Rattle.rhai_state.specs.Reach.{Reached, Holdings, held_by, held_by_first}
+use Rattle.rhai_state.specs.ValueContents.{Reached, Holdings, contents_of, first_contents}
 
--- a call on the same cells, whose state and arguments hold what this one reached, reaches no more
+-- a call on the same cells, in whose state and arguments stands what this one reached, reaches no more
 module _ {S H : Type 0} (holds : Holdings S H) {s t : S} {q p : Request H} (same : p.cells ≡ q.cells)
-    (by_state : AreReached holds s q (holds.of_state t)) (by_first : AreReached holds s q (held_by_first holds.of_host p.first))
-    (by_others : AreReached holds s q (flat_map (held_by holds.of_host) p.rest)) where
+    (by_state : AreReached holds s q (holds.of_state t)) (by_first : AreReached holds s q (first_contents holds.of_host p.first))
+    (by_others : AreReached holds s q (flat_map (contents_of holds.of_host) p.rest)) where
   pub reaches_no_more : {r : Reached} → IsReached holds t p r → IsReached holds s q r
   reaches_no_more {r} (ByState held) = by_state r held
   reaches_no_more {r} (ByFirst held) = by_first r held

@@ -10,8 +10,8 @@ use Rattle.rhai_values.specs.Copy.{plain}
 use Rattle.rhai_state.specs.declared.error.EvalAltResult.TheVariants as error
 use Rattle.rhai_state.specs.Native.{Request, Reply, Missing, Gives, Faults, Natives, Lawful, IsReached, ByState, ByFirst, ByOthers, ByCell}
 use Rattle.rhai_state.specs.Native.{Named, effect, request}
-use Rattle.rhai_state.specs.Reach.{Reached, Cell, Holdings, held_by_first}
-use Rattle.rhai_state.proofs.Held.{held-handle, held-runtime}
+use Rattle.rhai_state.specs.ValueContents.{Reached, Cell, Holdings, first_contents}
+use Rattle.rhai_state.proofs.ContentLemmas.{contents-handle, contents-runtime}
 
 module _ {H : Type 0} (names : H → List ℕ) (own : H → List Reached) where
   -- a table that keeps the first argument, and gives it back in the next call's fault
@@ -20,7 +20,7 @@ module _ {H : Type 0} (names : H → List ℕ) (own : H → List Reached) where
   kept (Some v) at = Faults (error.ErrorRuntime v at)
 
   abbrev pub keeps : Holdings (Option (Dynamic H)) H
-  keeps = record { of_state = held_by_first own; of_host = own }
+  keeps = record { of_state = first_contents own; of_host = own }
 
   abbrev pub keeper : Natives (Option (Dynamic H)) H
   keeper = record { gives = λ s q. effect (kept s q.at) q.first q.first; pure = λ s p. true; holds = keeps }
@@ -39,11 +39,11 @@ module _ {H : Type 0} (names : H → List ℕ) (own : H → List Reached) where
     first_no_handle = h;
     missing_keeps = tt;
     leaves = record { pure_keeps = λ p. refl; first_reached = λ r held. ByFirst held; state_reached = λ r held. ByFirst held };
-    answer_reached = λ r held. ByState (rw held-runtime at held);
+    answer_reached = λ r held. ByState (rw contents-runtime at held);
     reads_reached = λ cells agrees. refl;
   }
 
-  -- the state of a table that has none, and holds nothing
+  -- the state of a table that has none, in which nothing stands
   abbrev pub nothing : Holdings (Unit {0}) H
   nothing = record { of_state = λ s. []; of_host = own }
 
@@ -68,7 +68,7 @@ module _ {H : Type 0} (names : H → List ℕ) (own : H → List Reached) (at : 
 
   pub inventor_is_unlawful : Lawful names inventor → ⊥
   inventor_is_unlawful lawful =
-      reaches_nothing ((lawful tt bare tt).answer_reached (Cell 0) (rw (held-runtime, held-handle) (0, omega arith, refl)))
+      reaches_nothing ((lawful tt bare tt).answer_reached (Cell 0) (rw (contents-runtime, contents-handle) (0, omega arith, refl)))
 
   -- a table that answers by what stands in a cell that the call does not reach
   abbrev pub seen : Option (Dynamic H) → Reply H

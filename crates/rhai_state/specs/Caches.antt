@@ -13,11 +13,14 @@ one_more None = 0
 one_more (Some levels) = length levels + 1
 
 module _ {H : Type 0} where
+  -- the caches are on
   abbrev pub is_on : Caches H → Bool
   is_on caches = is_some caches.levels
 
+  -- how many levels the caches have, none where they are off
   abbrev pub depth_of : Caches H → ℕ
   depth_of caches = count_of caches.levels
 
+  -- how many levels the caches have after one more, none where they are off
   abbrev pub depth_after_push : Caches H → ℕ
   depth_after_push caches = one_more caches.levels

@@ -6,13 +6,14 @@ use Rattle.rhai_values.specs.declared.base.value.Union.{Union}
 use Rattle.rhai_values.specs.declared.base.value.Union.TheVariants as value
 use Rattle.rhai_values.specs.Cells.{cells_of, value_of_cell}
 use Rattle.rhai_state.specs.declared.state.GlobalRuntimeState.{GlobalRuntimeState}
-use Rattle.rhai_state.specs.Reach.{Reached, Cell, Function, Constants}
+use Rattle.rhai_state.specs.ValueContents.{Reached, Cell, Function, Constants}
 
 module _ {H : Type 0} where
-  -- the state has a cell that is not held, and a table of constants
+  -- the state has the cell of a number, and the cell is not held
   abbrev pub has_cell : GlobalRuntimeState H → ℕ → Bool
   has_cell global number = is_some (value_of_cell (cells_of global.cells) number)
 
+  -- the state has the table of constants of a number
   abbrev pub has_table : GlobalRuntimeState H → ℕ → Bool
   has_table global number = nat_lt number (length global.constant_tables)
 
@@ -22,6 +23,7 @@ module _ {H : Type 0} where
   is_there global (Function def) = true
   is_there global (Constants number) = has_table global number
 
+  -- all of what is reached is there
   abbrev pub are_there : GlobalRuntimeState H → List Reached → Bool
   are_there global reached = list_all (is_there global) reached
 

@@ -6,7 +6,7 @@ use Rattle.rhai_state.specs.declared.error.EvalAltResult.TheVariants as error
 use Rattle.rhai_state.specs.declared.error.WayOut.{WayOut}
 use Rattle.rhai_state.specs.declared.error.WayOut.TheVariants as way
 
--- the text of an object and an index that do not go together
+-- the text of two types that do not go together: that of a value, and that of an index into it
 abbrev pub indexing_text : (object index : List ℕ) → List ℕ
 indexing_text object index = object ++ codes " [" ++ index ++ codes "]"
 
@@ -42,7 +42,7 @@ module _ {H : Type 0} where
   position_of (error.Return value at) = at
   position_of (error.LoopBreak value is_break at) = at
 
-  -- the same error at another position
+  -- an error moved to another position
   abbrev pub at_position : Position → EvalAltResult H → EvalAltResult H
   at_position position (error.ErrorVariableExists text at) = error.ErrorVariableExists text position
   at_position position (error.ErrorVariableNotFound text at) = error.ErrorVariableNotFound text position
@@ -113,12 +113,12 @@ module _ {H : Type 0} where
   is_limit (error.ErrorDataTooLarge text at) = true
   is_limit _ = false
 
-  -- no memory was left
+  -- memory ran out
   abbrev pub is_out_of_memory : EvalAltResult H → Bool
   is_out_of_memory (error.ErrorOutOfMemory at) = true
   is_out_of_memory _ = false
 
-  -- an error of the system: a limit was met, or no memory was left
+  -- an error of the system: a limit was met, or memory ran out
   abbrev pub is_system : EvalAltResult H → Bool
   is_system e = is_limit e || is_out_of_memory e
 
@@ -129,7 +129,7 @@ module _ {H : Type 0} where
   is_pseudo (error.LoopBreak value is_break at) = true
   is_pseudo _ = false
 
-  -- how a run leaves its place
+  -- the way out that a run takes by an error
   abbrev pub way_out_of : EvalAltResult H → WayOut H
   way_out_of (error.Return value at) = way.Return value at
   way_out_of (error.Exit value at) = way.Exit value at
@@ -143,6 +143,6 @@ module _ {H : Type 0} where
   error_of (way.LoopBreak value is_break at) = error.LoopBreak value is_break at
   error_of (way.Error e) = e
 
-  -- a script may catch all but those
+  -- a script may catch the error: it is neither of the system nor a way to leave a script, a function or a loop
   abbrev pub is_catchable : EvalAltResult H → Bool
   is_catchable e = not (is_system e || is_pseudo e)

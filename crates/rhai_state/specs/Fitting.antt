@@ -4,7 +4,7 @@ use Rattle.rhai_values.specs.declared.base.value.Dynamic.{Dynamic}
 use Rattle.rhai_values.specs.Cells.{cells_of, value_of_cell, IsHeld, IsNoHandle}
 use Rattle.rhai_state.specs.declared.scope.Scope.{Scope}
 use Rattle.rhai_state.specs.declared.state.GlobalRuntimeState.{GlobalRuntimeState}
-use Rattle.rhai_state.specs.Reach.{Cell, Constants}
+use Rattle.rhai_state.specs.ValueContents.{Cell, Constants}
 use Rattle.rhai_state.specs.Reached.{Reaches}
 
 module _ {H : Type 0} where
@@ -16,7 +16,7 @@ module _ {H : Type 0} where
   abbrev pub IsTable : GlobalRuntimeState H → ℕ → Type 0
   IsTable global number = number < length global.constant_tables
 
-  -- A state and a scope fit together: what they reach is there, and no cell of the store is held or has a bare handle.
+  -- a state and a scope fit together: what they reach is there, and no cell of the store is held or has a bare handle
   pub record FitsTogether (global : GlobalRuntimeState H) (scope : Scope H) : Type 0 where
     -- each cell that is reached is in the store, and not held
     pub cells : (number : ℕ) → Reaches global scope (Cell number) → IsFree (cells_of global.cells) number

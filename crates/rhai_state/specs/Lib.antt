@@ -6,7 +6,7 @@ pub mod Lends
 pub mod Limits
 pub mod Native
 pub mod Newest
-pub mod Reach
+pub mod ValueContents
 pub mod Reached
 pub mod Scope
 pub mod Slots

@@ -10,15 +10,14 @@ use Rattle.rhai_state.specs.declared.error.EvalAltResult.{EvalAltResult}
 use Rattle.rhai_state.specs.declared.error.EvalAltResult.TheVariants as error
 use Rattle.rhai_state.specs.declared.table.Answer.{Answer}
 use Rattle.rhai_state.specs.declared.table.Answer.TheVariants as answer
-use Rattle.rhai_state.specs.Reach.{Reached, Cell, Holdings, held_by, held_by_first, held_by_error}
+use Rattle.rhai_state.specs.ValueContents.{Reached, Cell, Holdings, contents_of, first_contents, error_contents}
 
 -- which native is called: by its name, or by its number
 pub data Key : Type 0 where
   Named : List ℕ → Key
   Numbered : ℕ → Key
 
--- a call of a native: the cells of the moment, None where a cell is held; the native; the first argument and the others; where the call
--- stands
+-- a call of a native: the cells of the moment, None where one is held; the native; the first argument and the others; the position
 pub record Request (H : Type 0) : Type 0 where
   pub cells : List (Option (Dynamic H))
   pub key : Key
@@ -26,7 +25,7 @@ pub record Request (H : Type 0) : Type 0 where
   pub rest : List (Dynamic H)
   pub at : Position
 
--- what it answers
+-- what a call answers
 pub data Reply (H : Type 0) : Type 0 where
   Missing : Reply H
   Gives : Dynamic H → Reply H
@@ -43,31 +42,33 @@ pub data Purity : Type 0 where
   OfName : (name first_type : List ℕ) → (count : ℕ) → Purity
   OfNumber : ℕ → Purity
 
--- a table of natives as the rules read it: what a call leaves in a state, which natives change nothing, and what a state and a value of
--- the host's own type hold
+-- a table of natives as the rules read it: what a call leaves in a state, which natives change nothing, and what stands in a state and in
+-- a value of the host's own type
 pub record Natives (S H : Type 0) : Type 0 where
   pub gives : S → Request H → Effect S H
   pub pure : S → Purity → Bool
   pub holds : Holdings S H
 
+-- the call with these parts
 abbrev pub request : {H : Type 0} → List (Option (Dynamic H)) → Key → Option (Dynamic H) → List (Dynamic H) → Position → Request H
 request cells key first rest at = record { cells = cells; key = key; first = first; rest = rest; at = at }
 
+-- the effect with these parts
 abbrev pub effect : {S H : Type 0} → Reply H → Option (Dynamic H) → S → Effect S H
 effect reply first state = record { reply = reply; first = first; state = state }
 
--- what an optional place holds as it is lent
-abbrev pub was : {H : Type 0} → Option (MutBor (Dynamic H)) → Option (Dynamic H)
-was None = None
-was (Some place) = Some place.now
+-- the value in an optional place as it is lent
+abbrev pub lent_value : {H : Type 0} → Option (MutBor (Dynamic H)) → Option (Dynamic H)
+lent_value None = None
+lent_value (Some place) = Some place.now
 
--- what an optional place holds as its loan ends
+-- the value in an optional place as its loan ends
 abbrev pub left_by : {H : Type 0} → Unit {0} ⊎ ((MutBor (Dynamic H) × Unit {0}) ⊎ ⊥) → Option (Dynamic H)
 left_by (inl _) = None
 left_by (inr (inl place)) = Some place.0.now
 left_by (inr (inr never)) = None
 
--- an answer as a reply, want of memory aside
+-- an answer as a reply, None where memory ran out
 abbrev pub reply_of : {H : Type 0} → Answer H → Option (Reply H)
 reply_of answer.Missing = Some Missing
 reply_of (answer.Value v) = Some (Gives v)
@@ -84,7 +85,7 @@ abbrev pub HasNoHandle : {H : Type 0} → Option (Dynamic H) → Type 0
 HasNoHandle None = ⊤
 HasNoHandle (Some v) = IsNoHandle v.value
 
--- a fault that a native may answer: no limit error, no want of memory, and none of the errors by which a loop or a function is left
+-- a fault that a native may answer: not that a limit was met or memory ran out, and no error by which a loop or a function is left
 abbrev pub IsFault : {H : Type 0} → EvalAltResult H → Type 0
 IsFault (error.ErrorTooManyOperations at) = ⊥
 IsFault (error.ErrorTooManyVariables at) = ⊥
@@ -107,26 +108,27 @@ abbrev pub KeepsFirst : {H : Type 0} → Reply H → Option (Dynamic H) → Opti
 KeepsFirst Missing before after = after ≡ before
 KeepsFirst _ before after = ⊤
 
--- what a reply holds
-abbrev pub held_by_reply : {H : Type 0} → (H → List Reached) → Reply H → List Reached
-held_by_reply own Missing = []
-held_by_reply own (Gives v) = held_by own v
-held_by_reply own (Faults e) = held_by_error own e
+-- what stands in a reply
+abbrev pub reply_contents : {H : Type 0} → (H → List Reached) → Reply H → List Reached
+reply_contents own Missing = []
+reply_contents own (Gives v) = contents_of own v
+reply_contents own (Faults e) = error_contents own e
 
--- what a call reaches: what the state and the arguments hold, and what stands in the cells that it reaches; of a held cell no more
+-- what a call `q` reaches in a state `s`; `holds` says what stands in states and in values of the host's own type
 module _ {S H : Type 0} (holds : Holdings S H) (s : S) (q : Request H) where
+  -- a call reaches what stands in the state, in its arguments, and in a cell that it reaches and that is not held
   pub data IsReached : Reached → Type 0 where
     ByState : {r : Reached} → Contains (holds.of_state s) r → IsReached r
-    ByFirst : {r : Reached} → Contains (held_by_first holds.of_host q.first) r → IsReached r
-    ByOthers : {r : Reached} → Contains (flat_map (held_by holds.of_host) q.rest) r → IsReached r
+    ByFirst : {r : Reached} → Contains (first_contents holds.of_host q.first) r → IsReached r
+    ByOthers : {r : Reached} → Contains (flat_map (contents_of holds.of_host) q.rest) r → IsReached r
     ByCell : {r : Reached} (number : ℕ) (v : Dynamic H) → IsReached (Cell number) → value_of_cell q.cells number ≡ Some v →
-        Contains (held_by holds.of_host v) r → IsReached r
+        Contains (contents_of holds.of_host v) r → IsReached r
 
   -- all that a list has is reached
   abbrev pub AreReached : List Reached → Type 0
   AreReached held = (r : Reached) → Contains held r → IsReached r
 
-  -- these cells are the call's as far as it reaches them, with their marks of being held
+  -- these cells agree with the call's as far as it reaches them, and are held where those are
   abbrev pub AgreesOn : List (Option (Dynamic H)) → Type 0
   AgreesOn cells = (number : ℕ) → IsReached (Cell number) → slice_get cells number ≡ slice_get q.cells number
 
@@ -151,10 +153,10 @@ question_of host q = purity_of q.key (first_type_of host q.cells q.first) (count
 
 -- `host` names the types of the host's values
 module _ {S H : Type 0} (host : H → List ℕ) (natives : Natives S H) where
-  -- after every answer, want of memory too: a pure native leaves the first argument, and what first argument and state hold was reached
+  -- after every answer, also where memory ran out: a pure native leaves the first argument; what stands in it and the state was reached
   pub record Leaves (s : S) (q : Request H) (first : Option (Dynamic H)) (state : S) : Type 0 where
     pub pure_keeps : natives.pure s (question_of host q) ≡ true → first ≡ q.first
-    pub first_reached : AreReached natives.holds s q (held_by_first natives.holds.of_host first)
+    pub first_reached : AreReached natives.holds s q (first_contents natives.holds.of_host first)
     pub state_reached : AreReached natives.holds s q (natives.holds.of_state state)
 
   -- what a call may leave, where it finds no memory too: a first argument that is no bare handle, of a pure native the one that it was
@@ -169,7 +171,7 @@ module _ {S H : Type 0} (host : H → List ℕ) (natives : Natives S H) where
     pub first_no_handle : HasNoHandle (natives.gives s q).first
     pub missing_keeps : KeepsFirst (natives.gives s q).reply q.first (natives.gives s q).first
     pub leaves : Leaves s q (natives.gives s q).first (natives.gives s q).state
-    pub answer_reached : AreReached natives.holds s q (held_by_reply natives.holds.of_host (natives.gives s q).reply)
+    pub answer_reached : AreReached natives.holds s q (reply_contents natives.holds.of_host (natives.gives s q).reply)
     pub reads_reached : (cells : List (Option (Dynamic H))) → AgreesOn natives.holds s q cells →
         natives.gives s (record q { cells = cells }) ≡ natives.gives s q
 

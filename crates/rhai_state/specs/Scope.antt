@@ -27,6 +27,7 @@ abbrev pub with_alias : List ℕ → List (List ℕ) → List (List ℕ)
 with_alias alias others = if list_any (λ other. bytes_eq other alias) others then others else others ++ alias ∷ []
 
 module _ {H : Type 0} where
+  -- the entries of a scope, the newest last
   abbrev pub entries_of : Scope H → List (ScopeEntry H)
   entries_of scope = scope.entries
 
@@ -34,9 +35,11 @@ module _ {H : Type 0} where
   abbrev pub scope_of : List (ScopeEntry H) → Scope H
   scope_of entries = record { entries = entries; spare = tt }
 
+  -- the name of an entry
   abbrev pub name_of : ScopeEntry H → List ℕ
   name_of entry = entry.name
 
+  -- the value of an entry
   abbrev pub value_of : ScopeEntry H → Dynamic H
   value_of entry = entry.value
 
@@ -53,14 +56,14 @@ module _ {H : Type 0} where
   place_of (Some offset) name entries = Some (length entries - non_zero_usize_get offset)
   place_of None name entries = index_of name entries
 
-  -- the value of the entry at a place
+  -- the value of the entry at an index, None where there is none
   abbrev pub value_in : List (ScopeEntry H) → Option ℕ → Option (Dynamic H)
   value_in entries None = None
   value_in entries (Some at) = option_map value_of (slice_get entries at)
 
   -- the value of a variable, by its offset or its name
-  abbrev pub found_by : Option NonZeroUsize → List ℕ → List (ScopeEntry H) → Option (Dynamic H)
-  found_by offset name entries = value_in entries (place_of offset name entries)
+  abbrev pub variable_value : Option NonZeroUsize → List ℕ → List (ScopeEntry H) → Option (Dynamic H)
+  variable_value offset name entries = value_in entries (place_of offset name entries)
 
   -- the value of the newest entry of a name
   abbrev pub found : List ℕ → List (ScopeEntry H) → Option (Dynamic H)
@@ -70,21 +73,21 @@ module _ {H : Type 0} where
   abbrev pub new_entry : List ℕ → AccessMode → Dynamic H → ScopeEntry H
   new_entry name mode value = record { name = name; value = with_mode mode value; aliases = [] }
 
-  -- the entry at a place with another value
+  -- the entries after the one at an index was given another value
   abbrev pub revalued : List (ScopeEntry H) → (at : ℕ) → (there : Option (ScopeEntry H)) → Dynamic H → List (ScopeEntry H)
   revalued entries at (Some entry) value = slice_set entries at (record entry { value = value })
   revalued entries at None value = entries
 
-  -- the entry at a place with an alias more, where each stands once
+  -- the entries after the one at an index was given an alias, where each alias stands once
   abbrev pub aliased : List (ScopeEntry H) → (at : ℕ) → (there : Option (ScopeEntry H)) → (alias : List ℕ) → List (ScopeEntry H)
   aliased entries at (Some entry) alias = slice_set entries at (record entry { aliases = with_alias alias entry.aliases })
   aliased entries at None alias = entries
 
-  -- the entry at a place with its oldest aliases alone
+  -- the entries after the one at an index kept so many of its oldest aliases alone
   abbrev pub first_aliases : List (ScopeEntry H) → (at : ℕ) → (there : Option (ScopeEntry H)) → (count : ℕ) → List (ScopeEntry H)
   first_aliases entries at (Some entry) count = slice_set entries at (record entry { aliases = take count entry.aliases })
   first_aliases entries at None count = entries
 
   -- the entry that a name, a value and aliases show
-  abbrev pub shown : Bor (List ℕ) × Bor (Dynamic H) × Bor (List (List ℕ)) → ScopeEntry H
-  shown parts = record { name = parts.0.now; value = parts.1.now; aliases = parts.2.now }
+  abbrev pub shown_entry : Bor (List ℕ) × Bor (Dynamic H) × Bor (List (List ℕ)) → ScopeEntry H
+  shown_entry parts = record { name = parts.0.now; value = parts.1.now; aliases = parts.2.now }

@@ -25,6 +25,7 @@ module _ {H : Type 0} where
   abbrev pub import_as : List ℕ → Module H → Import H
   import_as name imported = roll-Import H (record { name = name; «module» = imported })
 
+  -- the name that a module was imported by
   abbrev pub import_name : Import H → List ℕ
   import_name i = (out-Import H i).name
 

@@ -29,7 +29,7 @@ impl<H: Drop> Drop for Caches<H> {
 }
 
 impl<H> Caches<H> {
-    /// Caches that are on, with no level. It takes no memory. Ports upstream's `Caches::new`.
+    /// Creates caches that are on, with no level. It takes no memory. Ports upstream's `Caches::new`.
     pub fn new(alloc: Global) -> Caches<H>
         ensures on { is_on result ≡ true }
         ensures depth { depth_of result ≡ 0 }
@@ -39,7 +39,7 @@ impl<H> Caches<H> {
         }
     }
 
-    /// Caches that are off: they keep nothing, and have no level.
+    /// Creates caches that are off: they keep nothing, and have no level.
     pub fn off(_alloc: Global) -> Caches<H>
         ensures off { is_on result ≡ false }
         ensures depth { depth_of result ≡ 0 }
@@ -47,7 +47,7 @@ impl<H> Caches<H> {
         Caches { levels: None }
     }
 
-    /// How many levels there are.
+    /// Counts the levels.
     pub fn len(&self) -> usize
         ensures { result ≡ depth_of self.now }
     {

@@ -1,5 +1,5 @@
-//! What values and modules reach: whether it is there, each cell in the state's store and not held, each table of
-//! constants among the state's.
+//! What values and modules reach: whether it is there, each cell in the state's store and not held, each
+//! table of constants among the state's.
 
 ghost use Rattle.std.specs.Prelude.{◌≡◌, flat_map};
 ghost use Rattle.rhai_state.specs.Deciding.{are_there, has_cell, has_table};
@@ -12,21 +12,21 @@ use rhai_values::base::value::{
     CellId, Dynamic, EncapsulatedEnviron, FnPtr, FnPtrKind, Import, Module, ModuleFn, Union,
 };
 
-/// Whether a cell is one of the state's, and not held.
+/// Tells whether a cell is one of the state's, and not held.
 fn has_cell<H>(global: &GlobalRuntimeState<H>, id: CellId) -> bool
     ensures { result ≡ has_cell global.now id.number }
 {
     global.cells.get(id).is_some()
 }
 
-/// Whether a table of constants is one of the state's.
+/// Tells whether a table of constants is one of the state's.
 pub fn has_table<H>(global: &GlobalRuntimeState<H>, number: usize) -> bool
     ensures { result ≡ has_table global.now number }
 {
     number < global.constant_tables.len()
 }
 
-/// Whether what a value reaches is there.
+/// Tells whether what a value reaches is there.
 #[cycle(reach)]
 pub fn value_fits<H>(global: &GlobalRuntimeState<H>, value: &Dynamic<H>) -> bool
     ensures { result ≡ are_there global.now (value_holds value.now) }
@@ -40,7 +40,7 @@ pub fn value_fits<H>(global: &GlobalRuntimeState<H>, value: &Dynamic<H>) -> bool
     }
 }
 
-/// Whether what several values reach is there.
+/// Tells whether what several values reach is there.
 #[cycle(reach)]
 pub fn values_fit<H>(global: &GlobalRuntimeState<H>, values: &[Dynamic<H>]) -> bool
     ensures { result ≡ are_there global.now (flat_map value_holds values.now) }
@@ -53,7 +53,7 @@ pub fn values_fit<H>(global: &GlobalRuntimeState<H>, values: &[Dynamic<H>]) -> b
     true
 }
 
-/// Whether what a pointer reaches is there, by its arguments and by what it leads to.
+/// Tells whether what a pointer reaches is there, by its arguments and by what it leads to.
 #[cycle(reach)]
 fn pointer_fits<H>(global: &GlobalRuntimeState<H>, pointer: &FnPtr<H>) -> bool
     ensures { result ≡ are_there global.now (pointer_holds pointer.now) }
@@ -61,7 +61,7 @@ fn pointer_fits<H>(global: &GlobalRuntimeState<H>, pointer: &FnPtr<H>) -> bool
     values_fit(global, pointer.curry.as_slice()) && kind_fits(global, &pointer.kind)
 }
 
-/// Whether what a pointer leads to reaches what is there.
+/// Tells whether what a pointer leads to reaches only what is there.
 #[cycle(reach)]
 fn kind_fits<H>(global: &GlobalRuntimeState<H>, kind: &FnPtrKind<H>) -> bool
     ensures { result ≡ are_there global.now (kind_holds kind.now) }
@@ -72,7 +72,7 @@ fn kind_fits<H>(global: &GlobalRuntimeState<H>, kind: &FnPtrKind<H>) -> bool
     }
 }
 
-/// Whether an environment's table of constants is there, and what its libraries and imports reach.
+/// Tells whether an environment's table of constants is there, and what its libraries and imports reach.
 #[cycle(reach)]
 fn environ_fits<H>(global: &GlobalRuntimeState<H>, environ: &EncapsulatedEnviron<H>) -> bool
     ensures { result ≡ are_there global.now (environ_holds environ.now) }
@@ -82,7 +82,7 @@ fn environ_fits<H>(global: &GlobalRuntimeState<H>, environ: &EncapsulatedEnviron
         && imports_fit(global, environ.imports.as_slice())
 }
 
-/// Whether what several modules reach is there.
+/// Tells whether what several modules reach is there.
 #[cycle(reach)]
 pub fn modules_fit<H>(global: &GlobalRuntimeState<H>, modules: &[Shared<Module<H>>]) -> bool
     ensures { result ≡ are_there global.now (flat_map module_holds modules.now) }
@@ -95,7 +95,7 @@ pub fn modules_fit<H>(global: &GlobalRuntimeState<H>, modules: &[Shared<Module<H
     true
 }
 
-/// Whether what several imported modules reach is there.
+/// Tells whether what several imported modules reach is there.
 #[cycle(reach)]
 pub fn imports_fit<H>(global: &GlobalRuntimeState<H>, imports: &[Import<H>]) -> bool
     ensures { result ≡ are_there global.now (flat_map import_holds imports.now) }
@@ -108,7 +108,7 @@ pub fn imports_fit<H>(global: &GlobalRuntimeState<H>, imports: &[Import<H>]) -> 
     true
 }
 
-/// Whether what a module reaches is there, by its constants, its functions and its modules.
+/// Tells whether what a module reaches is there, by its constants, its functions and its modules.
 #[cycle(reach)]
 fn module_fits<H>(global: &GlobalRuntimeState<H>, module: &Module<H>) -> bool
     ensures { result ≡ are_there global.now (module_holds «module».now) }
@@ -118,7 +118,7 @@ fn module_fits<H>(global: &GlobalRuntimeState<H>, module: &Module<H>) -> bool
         && modules_fit(global, module.sub_modules.values())
 }
 
-/// Whether what several functions of a module reach is there.
+/// Tells whether what several functions of a module reach is there.
 #[cycle(reach)]
 fn functions_fit<H>(global: &GlobalRuntimeState<H>, functions: &[ModuleFn<H>]) -> bool
     ensures { result ≡ are_there global.now (flat_map function_holds functions.now) }
@@ -131,7 +131,7 @@ fn functions_fit<H>(global: &GlobalRuntimeState<H>, functions: &[ModuleFn<H>]) -
     true
 }
 
-/// Whether what a function of a module reaches is there, by its environment, if it has one.
+/// Tells whether what a function of a module reaches is there, by its environment, if it has one.
 #[cycle(reach)]
 fn function_fits<H>(global: &GlobalRuntimeState<H>, function: &ModuleFn<H>) -> bool
     ensures { result ≡ are_there global.now (function_holds function.now) }

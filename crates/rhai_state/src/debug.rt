@@ -21,7 +21,7 @@ fn show_error<H: Host, W: Write>(error: &EvalAltResult<H>, f: &mut Formatter<W>)
     write!(f, "{position:?})")
 }
 
-/// What an error says beside its position.
+/// Writes what an error says beside its position.
 #[cycle(errors)]
 fn show_data<H: Host, W: Write>(error: &EvalAltResult<H>, f: &mut Formatter<W>) -> fmt::Result {
     match error {

@@ -22,12 +22,13 @@ impl<H: Host> Display for EvalAltResult<H> {
 fn write_error<H: Host, W: Write>(error: &EvalAltResult<H>, f: &mut Formatter<W>) -> fmt::Result {
     match error {
         EvalAltResult::ErrorInFunctionCall(call, _) => write_call(call.get(), f)?,
-        error => write_alone(error, f)?,
+        error => write_message(error, f)?,
     }
-    write_place(error.position(), f)
+    write_where(error.position(), f)
 }
 
-/// The error of a body with its own place, and on a line of its own the function that it came out of.
+/// Writes the error of a body with its position, and then the function that it came out of. The function
+/// stands on a line of its own.
 #[cycle(writing)]
 fn write_call<H: Host, W: Write>(call: &FunctionCallError<H>, f: &mut Formatter<W>) -> fmt::Result {
     write_error(&call.error, f)?;
@@ -43,7 +44,7 @@ fn write_call<H: Host, W: Write>(call: &FunctionCallError<H>, f: &mut Formatter<
     }
 }
 
-fn write_place<W: Write>(place: Position, f: &mut Formatter<W>) -> fmt::Result {
+fn write_where<W: Write>(place: Position, f: &mut Formatter<W>) -> fmt::Result {
     if place.is_none() {
         Ok(())
     } else {
@@ -51,8 +52,8 @@ fn write_place<W: Write>(place: Position, f: &mut Formatter<W>) -> fmt::Result {
     }
 }
 
-/// An error without its place; one that came out of a function is written by `write_call`.
-fn write_alone<H: Host, W: Write>(error: &EvalAltResult<H>, f: &mut Formatter<W>) -> fmt::Result {
+/// Writes an error without its position; one that came out of a function is written by `write_call`.
+fn write_message<H: Host, W: Write>(error: &EvalAltResult<H>, f: &mut Formatter<W>) -> fmt::Result {
     match error {
         EvalAltResult::ErrorVariableExists(name, _) => named("Variable already defined", name, f),
         EvalAltResult::ErrorVariableNotFound(name, _) => named("Variable not found", name, f),
@@ -181,8 +182,8 @@ fn write_runtime<H: Host, W: Write>(value: &Dynamic<H>, f: &mut Formatter<W>) ->
     }
 }
 
-/// A native that is not pure and was kept from a constant: a method, or what a property or an index goes
-/// through.
+/// Writes that a native is not pure and was kept from a constant. It is a method, or what a property or
+/// an index goes through.
 fn write_non_pure<W: Write>(name: &str, f: &mut Formatter<W>) -> fmt::Result {
     if name == "index$get$" {
         f.write_str("Non-pure indexer cannot be accessed on constant")

@@ -8,7 +8,7 @@ use rhai_tree::position::Position;
 use rhai_tree::{Boxed, Shared, Text};
 use rhai_values::base::value::Dynamic;
 
-/// Why a run stopped, or how it left its place. Ports upstream's `EvalAltResult`.
+/// Why a run stopped, or which way out it took. Ports upstream's `EvalAltResult`.
 ///
 /// Texts, values and errors inside stand behind one pointer, so that an answer stays small; the
 /// limit errors, `ErrorUnboundThis` and `ErrorOutOfMemory` need no memory to be made.
@@ -83,8 +83,8 @@ impl<H: Drop> Drop for EvalAltResult<H> {
     }
 }
 
-/// An error by how a run leaves its place: by a `return`, an exit, a `break` or `continue`, each with its
-/// value, or by any other error.
+/// An error by the way out that a run takes: by a `return`, an exit, a `break` or `continue`, each with
+/// its value, or by any other error.
 #[derive(Drop)]
 pub enum WayOut<H> {
     Return(Boxed<Dynamic<H>>, Position),
@@ -95,7 +95,7 @@ pub enum WayOut<H> {
 }
 
 impl<H> EvalAltResult<H> {
-    /// How the run leaves its place, with what the error holds. It takes no memory.
+    /// Sorts the error by the way out that the run takes, with all that is in it. It takes no memory.
     pub fn way_out(self) -> WayOut<H>
         ensures leaves { result ≡ way_out_of self }
         ensures whole { self ≡ error_of result }
@@ -108,7 +108,7 @@ impl<H> EvalAltResult<H> {
         }
     }
 
-    /// Where the error stands. Ports upstream's `EvalAltResult::position`.
+    /// Returns the position where the error stands. Ports upstream's `EvalAltResult::position`.
     pub fn position(&self) -> Position
         ensures { result ≡ position_of self.now }
     {
@@ -180,7 +180,7 @@ impl<H> EvalAltResult<H> {
         }
     }
 
-    /// The name of the variant.
+    /// Returns the name of the variant.
     pub fn name(&self) -> &'static str
         ensures { result.now ≡ error_name self.now }
     {
@@ -217,14 +217,14 @@ impl<H> EvalAltResult<H> {
         }
     }
 
-    /// Whether a script may catch the error. Ports upstream's `EvalAltResult::is_catchable`.
+    /// Tells whether a script may catch the error. Ports upstream's `EvalAltResult::is_catchable`.
     pub fn is_catchable(&self) -> bool
         ensures { result ≡ is_catchable self.now }
     {
         !self.is_system_exception() && !self.is_pseudo_error()
     }
 
-    /// Whether it is no error, but the way in which a script, a function or a loop is left. Ports
+    /// Tells whether it is no error, but the way in which a script, a function or a loop is left. Ports
     /// upstream's `EvalAltResult::is_pseudo_error`.
     pub fn is_pseudo_error(&self) -> bool
         ensures { result ≡ is_pseudo self.now }
@@ -235,7 +235,7 @@ impl<H> EvalAltResult<H> {
         )
     }
 
-    /// Whether a limit was met or memory was wanting. Ports upstream's
+    /// Tells whether a limit was met or memory ran out. Ports upstream's
     /// `EvalAltResult::is_system_exception`.
     pub fn is_system_exception(&self) -> bool
         ensures { result ≡ is_system self.now }

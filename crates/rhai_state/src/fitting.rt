@@ -15,10 +15,10 @@ use crate::state::GlobalRuntimeState;
 use rhai_values::base::value::{CellId, Dynamic, Host, Union};
 
 impl<H: Host> GlobalRuntimeState<H> {
-    /// Whether this state and a scope fit together: each cell that they reach is in the store and not held, each table
-    /// of constants that they reach is one of the state's, and its current one too; and no cell of the store is held or
-    /// has a bare handle. A host asks it before a run. It takes no memory: a value or a module is gone through as often
-    /// as it is met.
+    /// Tells whether this state and a scope fit together. They do where each cell that they reach is in
+    /// the store and not held, each table of constants that they reach is one of the state's, and its
+    /// current one too, and no cell of the store is held or has a bare handle. A host asks it before a
+    /// run. It takes no memory: a value or a module is gone through as often as it is met.
     pub fn fits(&self, scope: &Scope<H>) -> bool
         ensures { IsTrue result ↔ FitsTogether self.now scope.now }
     {
@@ -26,7 +26,7 @@ impl<H: Host> GlobalRuntimeState<H> {
     }
 }
 
-/// Whether what a state and a scope reach is there.
+/// Tells whether what a state and a scope reach is there.
 fn reached_fits<H>(global: &GlobalRuntimeState<H>, scope: &Scope<H>) -> bool
     ensures { result ≡ are_there global.now (reached_from global.now scope.now) }
 {
@@ -37,7 +37,7 @@ fn reached_fits<H>(global: &GlobalRuntimeState<H>, scope: &Scope<H>) -> bool
         && cells_fit(global)
 }
 
-/// Whether what the variables reach is there.
+/// Tells whether what the variables reach is there.
 fn entries_fit<H>(global: &GlobalRuntimeState<H>, entries: &[ScopeEntry<H>]) -> bool
     ensures { result ≡ are_there global.now (flat_map entry_holds entries.now) }
 {
@@ -49,7 +49,7 @@ fn entries_fit<H>(global: &GlobalRuntimeState<H>, entries: &[ScopeEntry<H>]) -> 
     true
 }
 
-/// Whether what the constants of all tables reach is there.
+/// Tells whether what the constants of all tables reach is there.
 fn tables_fit<H>(global: &GlobalRuntimeState<H>) -> bool
     ensures { result ≡ are_there global.now (flat_map table_holds global.now.constant_tables) }
 {
@@ -61,7 +61,7 @@ fn tables_fit<H>(global: &GlobalRuntimeState<H>) -> bool
     true
 }
 
-/// Whether what the values of all cells reach is there.
+/// Tells whether what the values of all cells reach is there.
 fn cells_fit<H>(global: &GlobalRuntimeState<H>) -> bool
     ensures { result ≡ are_there global.now (flat_map cell_holds (cells_of global.now.cells)) }
 {
@@ -73,7 +73,7 @@ fn cells_fit<H>(global: &GlobalRuntimeState<H>) -> bool
     true
 }
 
-/// The same of one cell, which may be held.
+/// Tells whether what the value of one cell reaches is there. A cell that is held reaches nothing.
 fn cell_fits<H>(global: &GlobalRuntimeState<H>, cell: Option<&Dynamic<H>>) -> bool
     ensures { result ≡ are_there global.now (cell_holds (option_copied cell.entry)) }
 {
@@ -83,7 +83,7 @@ fn cell_fits<H>(global: &GlobalRuntimeState<H>, cell: Option<&Dynamic<H>>) -> bo
     }
 }
 
-/// Whether no cell is held or has a bare handle.
+/// Tells whether no cell is held or has a bare handle.
 fn are_sealed<H>(global: &GlobalRuntimeState<H>) -> bool
     ensures { result ≡ list_all is_sealed (cells_of global.now.cells) }
 {
@@ -95,7 +95,7 @@ fn are_sealed<H>(global: &GlobalRuntimeState<H>) -> bool
     true
 }
 
-/// Whether a cell is not held, and its value is no bare handle.
+/// Tells whether a cell is not held, and its value is no bare handle.
 fn is_sealed<H>(cell: Option<&Dynamic<H>>) -> bool
     ensures { result ≡ is_sealed (option_copied cell.entry) }
 {

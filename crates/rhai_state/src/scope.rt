@@ -11,7 +11,7 @@ ghost use Rattle.rhai_values.specs.declared.base.value.AccessMode.TheVariants.{R
 ghost use Rattle.rhai_values.specs.declared.base.value.Union.TheVariants as value;
 ghost use Rattle.rhai_state.specs.Lends.{lends_spare, lends_value};
 ghost use Rattle.rhai_state.specs.Scope.{aliased, entries_of, first_aliases, index_of, new_entry, place_of, revalued, scope_of};
-ghost use Rattle.rhai_state.specs.Scope.{shown, value_of};
+ghost use Rattle.rhai_state.specs.Scope.{shown_entry, value_of};
 ghost use Rattle.rhai_state.specs.Scope.{Fits};
 
 use crate::slot::Slot;
@@ -58,7 +58,7 @@ impl<H: Drop> Drop for Scope<H> {
 }
 
 impl<H> Scope<H> {
-    /// A scope with no entry. It takes no memory. Ports upstream's `Scope::new`.
+    /// Creates a scope with no entry. It takes no memory. Ports upstream's `Scope::new`.
     pub fn new(alloc: Global) -> Scope<H>
         ensures { entries_of result ≡ [] }
     {
@@ -68,44 +68,45 @@ impl<H> Scope<H> {
         }
     }
 
-    /// How many entries there are. Ports upstream's `Scope::len`.
+    /// Counts the entries. Ports upstream's `Scope::len`.
     pub fn len(&self) -> usize
         ensures { result ≡ length (entries_of self.now) }
     {
         self.entries.len()
     }
 
-    /// Whether there is no entry. Ports upstream's `Scope::is_empty`.
+    /// Tells whether there is no entry. Ports upstream's `Scope::is_empty`.
     pub fn is_empty(&self) -> bool
         ensures { IsTrue result ↔ (entries_of self.now ≡ []) }
     {
         self.entries.is_empty()
     }
 
-    /// The entries, the newest last.
+    /// Returns the entries, the newest last.
     pub fn entries(&self) -> &[ScopeEntry<H>]
         ensures { result.now ≡ entries_of self.now }
     {
         self.entries.as_slice()
     }
 
-    /// Whether an entry has the name. Ports upstream's `Scope::contains`.
+    /// Tells whether an entry has the name. Ports upstream's `Scope::contains`.
     pub fn contains(&self, name: &str) -> bool
         ensures { result ≡ is_some (index_of name.now (entries_of self.now)) }
     {
         self.search(name).is_some()
     }
 
-    /// The place of the newest entry of a name. Ports upstream's `Scope::search`.
+    /// Finds the index of the newest entry of a name. Ports upstream's `Scope::search`.
     pub fn search(&self, name: &str) -> Option<usize>
         ensures { result ≡ index_of name.now (entries_of self.now) }
     {
         newest_entry(self.entries.as_slice(), name)
     }
 
-    /// The place of a variable: at its offset from the end where one is given, whatever the name of the
-    /// entry there, and else that of the newest entry of its name. Ports what upstream's
-    /// `search_scope_only` does with an index. Asked: the offset is at most the length.
+    /// Finds the index of a variable's entry, by its offset from the end if one is given, else by name.
+    /// By an offset it is that of the entry there, whatever its name, and by a name that of the newest
+    /// entry which has it. Ports what upstream's `search_scope_only` does with an index. Asked: the
+    /// offset is at most the length.
     pub fn place_of(&self, offset: Option<NonZeroUsize>, name: &str) -> Option<usize>
         requires { Fits offset (length (entries_of self.now)) }
         ensures exact { result ≡ place_of offset name.now (entries_of self.now) }
@@ -117,10 +118,10 @@ impl<H> Scope<H> {
         }
     }
 
-    /// The name, the value and the aliases of the entry at a place, if there is one. Ports
+    /// Returns the name, the value and the aliases of the entry at an index, if there is one. Ports
     /// upstream's `Scope::get_entry_by_index`.
     pub fn get(&self, index: usize) -> Option<(&str, &Dynamic<H>, &[Shared<Text>])>
-        ensures { option_map shown result ≡ slice_get (entries_of self.now) index }
+        ensures { option_map shown_entry result ≡ slice_get (entries_of self.now) index }
     {
         let entry = self.entries.get(index)?;
         Some((
@@ -130,7 +131,7 @@ impl<H> Scope<H> {
         ))
     }
 
-    /// The value of the entry at a place.
+    /// Returns the value of the entry at an index.
     pub fn value_at(&self, index: usize) -> &Dynamic<H>
         requires { index < length (entries_of self.now) }
         ensures { option_map value_of (slice_get (entries_of self.now) index) ≡ Some result.now }
@@ -138,7 +139,7 @@ impl<H> Scope<H> {
         &self.entries.as_slice()[index].value
     }
 
-    /// The value of the entry at a place, to be changed in place. Ports upstream's
+    /// Lends the value of the entry at an index, to be changed there. Ports upstream's
     /// `Scope::get_mut_by_index`.
     pub fn value_at_mut(&mut self, index: usize) -> &mut Dynamic<H>
         requires { index < length (entries_of self.old) }
@@ -149,7 +150,7 @@ impl<H> Scope<H> {
         &mut entry.value
     }
 
-    /// Gives the entry at a place another value, and hands out the one that it had.
+    /// Gives the entry at an index another value, and hands out the one that it had.
     pub fn replace_value(&mut self, index: usize, value: Dynamic<H>) -> Dynamic<H>
         requires { index < length (entries_of self.old) }
         ensures before { option_map value_of (slice_get (entries_of self.old) index) ≡ Some result }
@@ -170,7 +171,7 @@ impl<H> Scope<H> {
     }
 }
 
-/// Adds a variable that may be written behind others. Where there is no memory they stay.
+/// Adds behind others a variable that may be written. Where there is no memory the others stay.
 #[inline(always)]
 pub fn push_variable<H: Drop>(
     entries: &mut Items<ScopeEntry<H>>,
@@ -189,7 +190,8 @@ pub fn push_variable<H: Drop>(
     })
 }
 
-/// Adds a variable that is an integer and may be written behind others. Where there is no memory they stay.
+/// Adds behind others a variable that is an integer and may be written. Where there is no memory the
+/// others stay.
 #[inline(always)]
 pub fn push_integer<H: Drop>(
     entries: &mut Items<ScopeEntry<H>>,
@@ -247,8 +249,8 @@ impl<H: Drop> Scope<H> {
         })
     }
 
-    /// A place that no variable has, with `()` in it, for a target that shows a value of its own. The scope
-    /// stays whatever is written there.
+    /// Lends a place that no variable has, with `()` in it. It is for a `Target` that shows a value of
+    /// its own. The scope stays whatever is written there.
     pub fn spare_mut(&mut self) -> &mut Dynamic<H>
         ensures* writes_back { sem 𝓛 (lends_spare H.row self.entry result) }
         ensures value { result.now ≡ plain value.Unit }
@@ -256,8 +258,8 @@ impl<H: Drop> Scope<H> {
         self.spare.lend()
     }
 
-    /// Gives the entry at a place an alias, unless it has it already. Where there is no memory the scope stays. Ports
-    /// upstream's `Scope::add_alias_by_index`.
+    /// Gives the entry at an index an alias, unless it has it already. Where there is no memory the scope
+    /// stays. Ports upstream's `Scope::add_alias_by_index`.
     pub fn add_alias(&mut self, index: usize, alias: Shared<Text>) -> Result<(), AllocError>
         requires { index < length (entries_of self.old) }
         ensures ok { OnOk result (entries_of self.new ≡ aliased (entries_of self.old) index
@@ -271,7 +273,7 @@ impl<H: Drop> Scope<H> {
         entry.aliases.push(alias)
     }
 
-    /// Lets go of the aliases of the entry at a place from `len` on, if there are any.
+    /// Lets go of the aliases of the entry at an index from `len` on, if there are any.
     pub fn truncate_aliases(&mut self, index: usize, len: usize)
         requires { index < length (entries_of self.old) }
         ensures { entries_of self.new ≡ first_aliases (entries_of self.old) index
@@ -302,21 +304,21 @@ impl<H: Drop> Scope<H> {
     }
 }
 
-/// Whether a name is among aliases.
+/// Tells whether a name is among aliases.
 fn is_among(alias: &str, others: &[Shared<Text>]) -> bool
     ensures { result ≡ list_any (λ other. bytes_eq other alias.now) others.now }
 {
     others.iter().any(|other| other.get().as_str() == alias)
 }
 
-/// Whether there is an entry left to let go of.
+/// Tells whether there is an entry left to let go of.
 fn is_left(left: usize, start: usize, length: usize) -> bool
     ensures { result ≡ (nat_lt 0 left && nat_lt start length) }
 {
     left > 0 && start < length
 }
 
-/// The place of the newest entry of a name.
+/// Finds the index of the newest entry of a name.
 fn newest_entry<H>(entries: &[ScopeEntry<H>], name: &str) -> Option<usize>
     ensures { result ≡ index_of name.now entries.now }
 {

@@ -18,7 +18,7 @@ impl<H> Model for Slot<H> {
 }
 
 impl<H> Slot<H> {
-    /// A place. It takes no memory.
+    /// Creates a place. It takes no memory.
     pub fn new() -> Slot<H> {
         Slot {
             value: Dynamic::new(Union::Unit),
@@ -33,7 +33,7 @@ impl<H: Drop> Slot<H> {
     ghost use Rattle.rhai_values.specs.declared.base.value.Union.TheVariants as value;
     ghost use Rattle.rhai_state.specs.Slots.{lends_slot};
 
-    /// The place, with `()` in it.
+    /// Lends the place, with `()` in it.
     pub fn lend(&mut self) -> &mut Dynamic<H>
         ensures* writes_back { sem 𝓛 (lends_slot H.row self.entry result) }
         ensures value { result.now ≡ plain value.Unit }

@@ -53,7 +53,8 @@ impl<H: Drop> Drop for GlobalRuntimeState<H> {
 }
 
 impl<H> GlobalRuntimeState<H> {
-    /// The offset that a variable is found by: its own, and none where variables are searched for.
+    /// Returns the offset that a variable is found by: its own, and none where variables are searched
+    /// for.
     pub fn offset_in_use(&self, offset: Option<NonZeroUsize>) -> Option<NonZeroUsize>
         ensures { result ≡ in_use self.now.always_search_scope offset }
     {
@@ -66,7 +67,7 @@ impl<H> GlobalRuntimeState<H> {
 }
 
 impl<H: Drop> GlobalRuntimeState<H> {
-    /// The state before anything ran. Its one table of constants, number 0, is empty and current.
+    /// Creates the state before anything ran. Its one table of constants, number 0, is empty and current.
     /// Ports upstream's `GlobalRuntimeState::new`.
     pub fn new(alloc: Global) -> Result<GlobalRuntimeState<H>, AllocError>
         ensures { IfOk result (λ global. IsFresh global) }
@@ -88,8 +89,8 @@ impl<H: Drop> GlobalRuntimeState<H> {
         })
     }
 
-    /// Imports a module under a name. Where there is no memory the state stays. Ports upstream's
-    /// `GlobalRuntimeState::push_import`.
+    /// Adds a module to the imports, under a name. Where there is no memory the state stays. Ports
+    /// upstream's `GlobalRuntimeState::push_import`.
     pub fn push_import(&mut self, name: String, module: Shared<Module<H>>) -> Result<(), AllocError>
         ensures ok { OnOk result (self.new ≡ with_imports self.old
             (self.old.imports ++ import_as (string_bytes name) «module» ∷ [])) }
@@ -109,7 +110,7 @@ impl<H: Drop> GlobalRuntimeState<H> {
 }
 
 impl<H> GlobalRuntimeState<H> {
-    /// The place of the newest import of a name. Ports upstream's
+    /// Finds the index of the newest import of a name. Ports upstream's
     /// `GlobalRuntimeState::find_import`.
     pub fn find_import(&self, name: &str) -> Option<usize>
         ensures { result ≡ import_of name.now self.now.imports }
@@ -118,7 +119,7 @@ impl<H> GlobalRuntimeState<H> {
     }
 }
 
-/// The place of the newest import of a name.
+/// Finds the index of the newest import of a name.
 fn newest_import<H>(imports: &[Import<H>], name: &str) -> Option<usize>
     ensures { result ≡ import_of name.now imports.now }
 {

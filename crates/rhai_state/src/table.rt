@@ -18,13 +18,13 @@ pub enum Answer<H> {
     NoMemory,
 }
 
-/// A host's natives. A call is a function of the table's state, the native, the position, the
-/// arguments and the cells that they reach, want of memory aside. Each implementation proves once
-/// the law of that function.
+/// A host's natives. A call is a function of the table's state, the native, the position, the arguments
+/// and the cells that they reach, unless memory runs out. Each implementation proves once the law of that
+/// function.
 pub trait NativeTable<H: Host> {
     ghost use Rattle.rhai_values.specs.Cells.{cells_of};
     ghost use Rattle.rhai_state.specs.Native.{Natives, OfName, OfNumber, Named, Numbered, Obeys};
-    ghost use Rattle.rhai_state.specs.Native.{HasNoHandle, Lawful, Leaves, reply_of, request, was};
+    ghost use Rattle.rhai_state.specs.Native.{HasNoHandle, Lawful, Leaves, reply_of, request, lent_value};
     ghost use Rattle.rhai_state.specs.Native.{left_by};
 
     /// The state of the table as far as it shows.
@@ -32,8 +32,8 @@ pub trait NativeTable<H: Host> {
 
     ghost state: { Self → State };
 
-    /// What a call does, which natives change nothing, and what a state and a value of the host's own type
-    /// hold of cells, script functions and tables of constants.
+    /// What a call does, which natives change nothing, and which cells, script functions and tables of
+    /// constants stand in a state and in a value of the host's own type.
     ghost natives: { Natives State H };
 
     /// Calls a native by its name. Asked: the first argument is no bare handle of a cell.
@@ -45,13 +45,13 @@ pub trait NativeTable<H: Host> {
         rest: &[Dynamic<H>],
         position: Position,
     ) -> Answer<H>
-        requires { HasNoHandle (was first) }
+        requires { HasNoHandle (lent_value first) }
         ensures obeys { Obeys (natives.gives (state self.old)
-            (request (cells_of cells.now) (Named name.now) (was first.entry) rest.now position))
+            (request (cells_of cells.now) (Named name.now) (lent_value first.entry) rest.now position))
             (reply_of result) (left_by first.exit) (state self.new) }
         ensures no_handle { HasNoHandle (left_by first.exit) }
         ensures leaves { Leaves H.name_of natives (state self.old)
-            (request (cells_of cells.now) (Named name.now) (was first.entry) rest.now position)
+            (request (cells_of cells.now) (Named name.now) (lent_value first.entry) rest.now position)
             (left_by first.exit) (state self.new) };
 
     /// Calls a native by its number. Asked: the first argument is no bare handle of a cell.
@@ -63,21 +63,21 @@ pub trait NativeTable<H: Host> {
         rest: &[Dynamic<H>],
         position: Position,
     ) -> Answer<H>
-        requires { HasNoHandle (was first) }
+        requires { HasNoHandle (lent_value first) }
         ensures obeys { Obeys (natives.gives (state self.old)
-            (request (cells_of cells.now) (Numbered id.number) (was first.entry) rest.now position))
+            (request (cells_of cells.now) (Numbered id.number) (lent_value first.entry) rest.now position))
             (reply_of result) (left_by first.exit) (state self.new) }
         ensures no_handle { HasNoHandle (left_by first.exit) }
         ensures leaves { Leaves H.name_of natives (state self.old)
-            (request (cells_of cells.now) (Numbered id.number) (was first.entry) rest.now position)
+            (request (cells_of cells.now) (Numbered id.number) (lent_value first.entry) rest.now position)
             (left_by first.exit) (state self.new) };
 
-    /// Whether a native of a name, by the type of its first argument (the empty text where there
-    /// is none) and the number of its arguments, changes nothing.
+    /// Tells whether a native of a name changes nothing, by its first argument's type and the number of
+    /// its arguments. The type is the empty text where there is no first argument.
     fn is_pure(&self, name: &str, first_type: &str, count: usize) -> bool
         ensures { result ≡ natives.pure (state self.now) (OfName name.now first_type.now count) };
 
-    /// Whether a native of a number changes nothing.
+    /// Tells whether a native of a number changes nothing.
     fn is_pure_numbered(&self, id: NativeId) -> bool
         ensures { result ≡ natives.pure (state self.now) (OfNumber id.number) };
 

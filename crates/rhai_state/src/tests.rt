@@ -13,7 +13,7 @@ use rhai_values::base::value::{
 use rhai_values::cells::put_back;
 use std::alloc::{AllocError, Global};
 
-/// A value of a host, which holds nothing.
+/// A value of a host, with nothing in it.
 #[derive(Clone, Copy, Debug, PartialEq, Eq)]
 struct Stone;
 
@@ -35,8 +35,8 @@ fn name(alloc: Global, text: &str) -> Result<Shared<Text>, AllocError> {
     Shared::new(alloc, Text::from_str(alloc, text)?)
 }
 
-/// The handle of a cell, in an array, in a map, in the arguments of a pointer.
-fn deep(alloc: Global, number: usize) -> Result<Dynamic<Stone>, AllocError> {
+/// Builds the handle of a cell, in an array, in a map, in the arguments of a pointer.
+fn deep_handle(alloc: Global, number: usize) -> Result<Dynamic<Stone>, AllocError> {
     let mut items = Items::new(alloc);
     items.push(Dynamic::new(Union::Cell(CellId { number })))?;
     let array = Dynamic::new(Union::Array(Boxed::new(alloc, items)?));
@@ -57,7 +57,7 @@ fn pointer(
     Ok(Dynamic::new(Union::FnPtr(Boxed::new(alloc, FnPtr { name, curry, kind })?)))
 }
 
-/// A function with no statement.
+/// Builds a function with no statement.
 fn function(alloc: Global) -> Result<Shared<CheckedFn>, AllocError> {
     let body = ScriptFuncPayload::Statements(StmtBlock {
         statements: Items::new(alloc),
@@ -74,7 +74,8 @@ fn function(alloc: Global) -> Result<Shared<CheckedFn>, AllocError> {
     Shared::new(alloc, CheckedFn::new(def))
 }
 
-/// A pointer to a function with an environment: a library with a module with a constant, and a table of constants.
+/// Builds a pointer to a function with an environment. It has a library with a module with a constant,
+/// and a table of constants.
 fn with_environ(
     alloc: Global,
     number: usize,
@@ -95,16 +96,16 @@ fn with_environ(
     pointer(alloc, Dynamic::new(Union::Unit), kind)
 }
 
-/// A module with a constant, which holds the handle of a cell.
+/// Builds a module with a constant, in which the handle of a cell stands.
 fn inner(alloc: Global, number: usize) -> Result<Module<Stone>, AllocError> {
     let mut module = Module::new(alloc);
     module
         .constants
-        .insert(name(alloc, "c")?, deep(alloc, number)?)?;
+        .insert(name(alloc, "c")?, deep_handle(alloc, number)?)?;
     Ok(module)
 }
 
-/// A module with that module in it.
+/// Builds a module with that of `inner` in it.
 fn outer(alloc: Global, number: usize) -> Result<Module<Stone>, AllocError> {
     let mut module = Module::new(alloc);
     module.sub_modules.insert(
@@ -114,7 +115,7 @@ fn outer(alloc: Global, number: usize) -> Result<Module<Stone>, AllocError> {
     Ok(module)
 }
 
-/// A state with two cells, each with an integer.
+/// Builds a state with two cells, each with an integer.
 fn state(alloc: Global) -> Result<GlobalRuntimeState<Stone>, AllocError> {
     let mut global = GlobalRuntimeState::new(alloc)?;
     for number in 0..2 {
@@ -144,7 +145,7 @@ fn store(global: &mut GlobalRuntimeState<Stone>, number: usize, value: Dynamic<S
     }
 }
 
-/// What `fits` answers for a state with this variable.
+/// Tells what `fits` answers for a state with this variable.
 fn answer(
     alloc: Global,
     global: &GlobalRuntimeState<Stone>,
@@ -162,8 +163,8 @@ mod rows {
         let alloc = rt.alloc();
         let global = state(alloc)?;
         assert!(rt; global.fits(&Scope::new(alloc)));
-        assert!(rt; answer(alloc, &global, deep(alloc, 1)?)?);
-        assert!(rt; !answer(alloc, &global, deep(alloc, 2)?)?);
+        assert!(rt; answer(alloc, &global, deep_handle(alloc, 1)?)?);
+        assert!(rt; !answer(alloc, &global, deep_handle(alloc, 2)?)?);
         assert!(rt;
             answer(
                 alloc,
@@ -197,9 +198,9 @@ mod rows {
         let unit = Dynamic::new(Union::Unit);
         let empty = Scope::new(alloc);
         let mut global = state(alloc)?;
-        store(&mut global, 0, deep(alloc, 0)?);
+        store(&mut global, 0, deep_handle(alloc, 0)?);
         assert!(rt; global.fits(&empty));
-        store(&mut global, 0, deep(alloc, 2)?);
+        store(&mut global, 0, deep_handle(alloc, 2)?);
         assert!(rt; !global.fits(&empty));
         store(
             &mut global,
@@ -211,7 +212,7 @@ mod rows {
         assert!(rt; global.fits(&empty));
         drop(global.cells.take(CellId { number: 1 }));
         assert!(rt; !global.fits(&empty));
-        assert!(rt; !answer(alloc, &global, deep(alloc, 1)?)?);
+        assert!(rt; !answer(alloc, &global, deep_handle(alloc, 1)?)?);
         store(&mut global, 1, with_environ(alloc, 0, 1)?);
         assert!(rt; !global.fits(&empty));
         Ok(())
@@ -248,13 +249,13 @@ mod rows {
         global.constants = 1;
         assert!(rt; !global.fits(&empty));
         let mut table = Table::new(alloc);
-        table.insert(name(alloc, "c")?, deep(alloc, 1)?)?;
+        table.insert(name(alloc, "c")?, deep_handle(alloc, 1)?)?;
         global.constant_tables.push(table)?;
         assert!(rt; global.fits(&empty));
         assert!(rt; answer(alloc, &global, with_environ(alloc, 0, 1)?)?);
         global.constants = 0;
         let mut table = Table::new(alloc);
-        table.insert(name(alloc, "c")?, deep(alloc, 2)?)?;
+        table.insert(name(alloc, "c")?, deep_handle(alloc, 2)?)?;
         global.constant_tables.push(table)?;
         assert!(rt; !global.fits(&empty));
         Ok(())

@@ -1,5 +1,6 @@
 -- What a run may still rely on after a part of it, and what follows of it.
-use Rattle.std.proofs.Common.{◌≡◌, ◌++◌, ◌∷◌, [], ℕ, zero, suc, Bool, true, false, IsTrue, List, Option, Some, refl, sym, ap, subst, arith, ◌∙◌}
+use Rattle.std.proofs.Common.{◌≡◌, ◌++◌, ◌∷◌, [], ℕ, zero, suc, Bool, true, false, IsTrue, List, Option, Some, refl, sym, ap, subst, arith}
+use Rattle.std.proofs.Common.{◌∙◌}
 use Rattle.std.proofs.lemmas.Bool.{eqb-true}
 use Rattle.std.specs.Int.NonZero.{non_zero_usize_get}
 use Rattle.std.specs.Prelude.{if◌then◌else◌}
@@ -76,7 +77,8 @@ none_stands name zero h = absurd cc
 none_stands name (suc k) h = let clash : zero ≡ suc k = eqb-true _ _ h in absurd (omega arith)
 
 good_there : (offset : NonZeroUsize) (name : Name) (path names : List Name) →
-    IsTrue (is_good (Some offset) name (if is_unqualified path then names else [])) → IsTrue (is_good (Some offset) name names) × (path ≡ [])
+    IsTrue (is_good (Some offset) name (if is_unqualified path then names else [])) →
+    IsTrue (is_good (Some offset) name names) × (path ≡ [])
 good_there offset name [] names h = (h, refl)
 good_there offset name (root ∷ path) names h = absurd (none_stands name (non_zero_usize_get offset) h)
 

@@ -1,4 +1,4 @@
--- An operator whose operands are there, and a call that wants memory before it is dispatched.
+-- An operator whose operands are there, and a call that runs out of memory before it is dispatched.
 use Rattle.std.proofs.Common.{◌≡◌, ℕ, Bool, true, false, List, [], ◌∷◌, Option, Some, None, Result, Ok, Err, refl, sym, ap, ◌∙◌}
 use Rattle.std.proofs.Common.{◌&&◌, if◌then◌else◌}
 use Rattle.std.specs.Prelude.{codes}
@@ -14,48 +14,49 @@ use Rattle.rhai_state.specs.declared.limits.Limits.{Limits}
 use Rattle.rhai_state.specs.Errors.{is_out_of_memory, at_position}
 use Rattle.rhai_functions.specs.declared.function.Function.{Function}
 use Rattle.rhai_operators.specs.Answers as operators
-use Rattle.rhai_machine.specs.machine.Memory.{here, wanting}
+use Rattle.rhai_machine.specs.machine.Memory.{here, out_before_step}
 use Rattle.rhai_machine.specs.language.Setting.{Setting, Rules}
 use Rattle.rhai_machine.specs.language.State.{State, Local, HasMemory, Answers}
 use Rattle.rhai_machine.specs.language.Frames.{Back, Call, Control, Core, Dispatch, Fail, Frame, core, ended, on_value}
 use Rattle.rhai_machine.specs.language.Calls.{applied, called_core, called_function, dispatch_core, enter_core, found_core}
-use Rattle.rhai_machine.specs.language.Calls.{asks_function, call_races, dispatch_behind, function_behind, knows_asked, named_core, operator_core, plainly}
+use Rattle.rhai_machine.specs.language.Calls.{asks_function, call_races, dispatch_behind, function_behind, knows_asked, named_core}
+use Rattle.rhai_machine.specs.language.Calls.{operator_core, plainly}
 use Rattle.rhai_machine.specs.language.Calls.{signature, types_of}
 use Rattle.rhai_machine.specs.language.Values.{bool_value, through}
-use Rattle.rhai_machine.specs.language.Language.{want}
+use Rattle.rhai_machine.specs.language.Language.{without_memory}
 use Rattle.rhai_machine.specs.language.Runs.{at, with_core, Goes}
 
 module _ {H : Type 0} (s : Setting H) (how : Dispatch) (call : Call H) (k : List (Frame H)) (l : Local H) where
-  -- memory that is wanting fails above the frames that stand there
+  -- memory that runs out fails above the frames that stand there
   abbrev fails_at : Position → Core H
   fails_at pos = core (Fail (error.ErrorOutOfMemory pos)) k l
 
-  wants_entered : (of_method : Bool) (f : Function H) (pos : Position) → want pos (enter_core of_method f how call k l) ≡ fails_at pos
+  wants_entered : (of_method : Bool) (f : Function H) (pos : Position) → without_memory pos (enter_core of_method f how call k l) ≡ fails_at pos
   wants_entered true f pos = refl
   wants_entered false f pos = refl
 
-  wants_found : (found : Option (Function H)) (pos : Position) → want pos (found_core s found how call k l) ≡ fails_at pos
+  wants_found : (found : Option (Function H)) (pos : Position) → without_memory pos (found_core s found how call k l) ≡ fails_at pos
   wants_found (Some f) pos = wants_entered how.of_method f pos
   wants_found None pos = refl
 
-  wants_called : (pos : Position) → want pos (called_core s how call k l) ≡ fails_at pos
+  wants_called : (pos : Position) → without_memory pos (called_core s how call k l) ≡ fails_at pos
   wants_called pos = wants_found (called_function s how call l) pos
 
   after_one : (first second : Bool) (r q : Control H) (pos : Position) →
-      want pos (if first then core r k l else if second then core q k l else called_core s how call k l) ≡ fails_at pos
+      without_memory pos (if first then core r k l else if second then core q k l else called_core s how call k l) ≡ fails_at pos
   after_one true second r q pos = refl
   after_one false true r q pos = refl
   after_one false false r q pos = wants_called pos
 
   after_two : (test : Bool) (r : Control H) (pos : Position) →
-      want pos (if test then core r k l else called_core s how call k l) ≡ fails_at pos
+      without_memory pos (if test then core r k l else called_core s how call k l) ≡ fails_at pos
   after_two true r pos = refl
   after_two false r pos = wants_called pos
 
   abbrev seen : Dynamic H → Result (Dynamic H) (EvalAltResult H)
   seen v = through l.around.cells v call.operation.at
 
-  wants_named : (args : List (Dynamic H)) (pos : Position) → want pos (named_core s how args call k l) ≡ fails_at pos
+  wants_named : (args : List (Dynamic H)) (pos : Position) → without_memory pos (named_core s how args call k l) ≡ fails_at pos
   wants_named [] pos = wants_called pos
   wants_named (v ∷ []) pos = after_one (bytes_eq call.operation.name (codes "type_of")) (bytes_eq call.operation.name (codes "eval"))
       (Back (plain (value.Str (type_name_of s.host_type l.around.cells v))))
@@ -70,31 +71,31 @@ module _ {H : Type 0} (s : Setting H) (how : Dispatch) (call : Call H) (k : List
   race = Fail (error.ErrorDataRace call.operation.name call.operation.at)
 
   wants_dispatched : (held : Bool) (pos : Position) →
-      want pos (if held then core race k l else named_core s how call.args call k l) ≡ fails_at pos
+      without_memory pos (if held then core race k l else named_core s how call.args call k l) ≡ fails_at pos
   wants_dispatched true pos = refl
   wants_dispatched false pos = wants_named call.args pos
 
   wants_on : (r : Result (Function H) (EvalAltResult H)) (pos : Position) →
-      want pos (on_value r (λ f. enter_core false f how call k l) k l) ≡ fails_at pos
+      without_memory pos (on_value r (λ f. enter_core false f how call k l) k l) ≡ fails_at pos
   wants_on (Ok f) pos = wants_entered false f pos
   wants_on (Err e) pos = refl
 
-  wants_behind : (path : List (List ℕ)) (pos : Position) → want pos (dispatch_behind s path how call k l) ≡ fails_at pos
+  wants_behind : (path : List (List ℕ)) (pos : Position) → without_memory pos (dispatch_behind s path how call k l) ≡ fails_at pos
   wants_behind [] pos = wants_dispatched (call_races how.of_method l.around.cells call.args) pos
   wants_behind (root ∷ path) pos = wants_on (function_behind s root path how call l) pos
 
   -- so it does before a call is dispatched
-  pub dispatch_wants : (pos : Position) → want pos (dispatch_core s how call k l) ≡ fails_at pos
-  dispatch_wants pos = wants_behind how.path.names pos
+  pub dispatch_runs_out : (pos : Position) → without_memory pos (dispatch_core s how call k l) ≡ fails_at pos
+  dispatch_runs_out pos = wants_behind how.path.names pos
 
 module _ {S H : Type 0} (rules : Rules S H) where
   -- memory runs out before an operator is done
-  starts_wanting : (wanted : Option (Result (Dynamic H) (EvalAltResult H))) (call : Call H) (k : List (Frame H)) (s : State S H)
+  starts_running_out : (wanted : Option (Result (Dynamic H) (EvalAltResult H))) (call : Call H) (k : List (Frame H)) (s : State S H)
       (pos : Position) →
       Goes rules (with_core (operator_core rules.setting wanted call k s.local) s) (at (Fail (error.ErrorOutOfMemory pos)) k s)
-  starts_wanting (Some r) call k s pos = wanting {at = pos} here
-  starts_wanting None call k s pos =
-      wanting {at = pos} (rw (dispatch_wants rules.setting (plainly false false) call k s.local pos) here)
+  starts_running_out (Some r) call k s pos = out_before_step {at = pos} here
+  starts_running_out None call k s pos =
+      out_before_step {at = pos} (rw (dispatch_runs_out rules.setting (plainly false false) call k s.local pos) here)
 
 -- a position changes nothing of that
 placed_memory : {H : Type 0} (pos : Position) (e : EvalAltResult H) → is_out_of_memory (at_position pos e) ≡ is_out_of_memory e
@@ -130,5 +131,5 @@ module _ {S H : Type 0} (rules : Rules S H) (call : Call H) (k : List (Frame H))
       Answers result (applied rules.setting.limits outcome call.operation.at) →
       Goes rules (with_core (operator_core rules.setting wanted call k s.local) s) (at (ended result) k s)
   built answer wanted outcome (Ok v) value is answers = built_now answer wanted outcome (Ok v) value is answers tt
-  built answer wanted outcome (Err (error.ErrorOutOfMemory pos)) value is answers = starts_wanting rules wanted call k s pos
+  built answer wanted outcome (Err (error.ErrorOutOfMemory pos)) value is answers = starts_running_out rules wanted call k s pos
   built answer wanted outcome (Err e) value is answers = built_now answer wanted outcome (Err e) value is answers refl

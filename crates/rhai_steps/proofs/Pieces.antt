@@ -12,7 +12,7 @@ use Rattle.rhai_state.specs.declared.error.EvalAltResult.TheVariants as error
 use Rattle.rhai_state.specs.Errors.{is_out_of_memory}
 use Rattle.rhai_machine.specs.machine.Machine.{Move, Charge}
 use Rattle.rhai_machine.specs.machine.Point.{Point, moved, after}
-use Rattle.rhai_machine.specs.machine.Memory.{here, next, wanting}
+use Rattle.rhai_machine.specs.machine.Memory.{here, next, out_before_step}
 use Rattle.rhai_machine.specs.language.Setting.{Rules, cut, limit_under}
 use Rattle.rhai_machine.specs.language.State.{Held, State, Answers}
 use Rattle.rhai_machine.specs.language.Frames.{Control, Frame, Core, core, ended, Fail}
@@ -36,22 +36,22 @@ module _ {S H : Type 0} (rules : Rules S H) where
       IsErr r × IsErrAnd r (λ y. y ≡ e) → Steps rules c old (Fail e) new → Runs rules c old r new
   exits c old new r e is go = rw (passed r is) go
 
-  -- an error that may be want of memory in its place
-  pub or_wants : (c : Control H) (k : List (Frame H)) (s : State S H) (e : EvalAltResult H) →
+  -- an error, or instead of it that memory ran out
+  pub or_runs_out : (c : Control H) (k : List (Frame H)) (s : State S H) (e : EvalAltResult H) →
       (is_out_of_memory e ≡ false → Goes rules (at c k s) (at (Fail e) k s)) → Goes rules (at c k s) (at (Fail e) k s)
-  or_wants c k s (error.ErrorOutOfMemory pos) go = wanting {at = pos} here
-  or_wants c k s e go = go refl
+  or_runs_out c k s (error.ErrorOutOfMemory pos) go = out_before_step {at = pos} here
+  or_runs_out c k s e go = go refl
 
-  -- an answer that may be want of memory in its place
+  -- an answer, or instead of it that memory ran out
   pub told : (r x : Result (Dynamic H) (EvalAltResult H)) → Answers r x → (k : List (Frame H)) (s : State S H) →
       Goes rules (at (ended x) k s) (at (ended r) k s)
   told (Ok v) x a k s = rw (← a tt) here
-  told (Err e) x a k s = or_wants (ended x) k s e (λ m. rw (← a m) here)
+  told (Err e) x a k s = or_runs_out (ended x) k s e (λ m. rw (← a m) here)
 
   -- an error that is told
   pub faulted : (e x : EvalAltResult H) → (is_out_of_memory e ≡ false → e ≡ x) → (k : List (Frame H)) (s : State S H) →
       Goes rules (at (Fail x) k s) (at (Fail e) k s)
-  faulted e x a k s = or_wants (Fail x) k s e (λ m. rw (a m) here)
+  faulted e x a k s = or_runs_out (Fail x) k s e (λ m. rw (a m) here)
 
   module _ (t : S) (old new : GlobalRuntimeState H) (scope : Scope H) (held : Held H) (c d : Control H) (pos : Position)
       (charges : (k : List (Frame H)) → move rules.setting (at {S = S} c k (state_of t old scope held)).core ≡ Charge pos

@@ -4,7 +4,7 @@ use Rattle.rhai_state.specs.declared.error.EvalAltResult.{EvalAltResult}
 use Rattle.rhai_state.specs.declared.error.EvalAltResult.TheVariants as error
 use Rattle.rhai_state.specs.declared.error.WayOut.TheVariants as way
 use Rattle.rhai_state.specs.Errors.{way_out_of}
-use Rattle.rhai_machine.specs.language.Unwinding.{topped}
+use Rattle.rhai_machine.specs.language.Unwinding.{script_ended}
 use Rattle.rhai_steps.specs.Loops.{turn_in}
 
 module _ {H : Type 0} where
@@ -17,7 +17,7 @@ module _ {H : Type 0} where
   passes_loop from e is = cc
 
   -- it passes the end of a script
-  pub passes_top : (map_exit : Bool) (from e : EvalAltResult H) → way.Error e ≡ way_out_of from → Err e ≡ topped map_exit from
+  pub passes_top : (map_exit : Bool) (from e : EvalAltResult H) → way.Error e ≡ way_out_of from → Err e ≡ script_ended map_exit from
   passes_top map_exit (error.Return v at) e is = cc
   passes_top map_exit (error.Exit v at) e is = cc
   passes_top map_exit (error.LoopBreak v is_break at) e is = cc

@@ -1,4 +1,4 @@
--- What a run relies on of the frame that its tree was checked above: it is that of its variables and imports, or variables are searched for.
+-- What a run relies on of the frame that its tree was checked above: its variables and imports are those, or variables are searched for.
 use Rattle.std.specs.declared.num.NonZeroUsize.{NonZeroUsize}
 use Rattle.std.specs.Prelude.{◌≡◌, ◌++◌, ◌∷◌, [], if◌then◌else◌, Bool, false, IsTrue, List, Option, map}
 use Rattle.rhai_tree.specs.Forms.{is_unqualified}
@@ -9,20 +9,23 @@ use Rattle.rhai_state.specs.declared.state.GlobalRuntimeState.{GlobalRuntimeStat
 use Rattle.rhai_state.specs.Scope.{names_in}
 use Rattle.rhai_state.specs.State.{import_name}
 
--- what a form asks of its frame, and what a statement asks and makes of it
+-- what a form asks of its frame
 abbrev pub Test : Type 0
 Test = Frame → Bool
 
+-- what a statement asks of its frame, with the frame that it makes of it
 abbrev pub Verdict : Type 0
 Verdict = Frame → Bool × Frame
 
+-- whether a frame passes what a statement asks of it
 abbrev pub passes : Verdict → Test
 passes verdict frame = (verdict frame).0
 
+-- the frame that a statement makes of its frame
 abbrev pub changes : Verdict → Frame → Frame
 changes verdict frame = (verdict frame).1
 
--- a test of what a change makes of a frame
+-- what is asked of the frame that a change makes
 abbrev pub above : (Frame → Frame) → Test → Test
 above change test frame = test (change frame)
 
@@ -35,7 +38,7 @@ pub record Sight : Type 0 where
   pub searched : Bool
   pub imports : List Name
 
--- with the names of variables it is a frame
+-- the frame of what a checker knows of a state and of the names of its variables
 abbrev pub framed : Sight → (names : List Name) → Frame
 framed sight names = record { names = names; imports = sight.imports }
 
@@ -56,9 +59,11 @@ pub record Restores (was : Sight) (known : List Name) (now : Sight) (left : List
   pub names : left ≡ known
 
 module _ {H : Type 0} where
+  -- the names of imports, oldest first
   abbrev pub imports_in : List (Import H) → List Name
   imports_in imports = map import_name imports
 
+  -- what a checker knows of this state
   abbrev pub sight_of : GlobalRuntimeState H → Sight
   sight_of global = record { searched = global.always_search_scope; imports = imports_in global.imports }
 
@@ -66,7 +71,7 @@ module _ {H : Type 0} where
   abbrev pub frame_of : GlobalRuntimeState H → Scope H → Frame
   frame_of global scope = framed (sight_of global) (names_in scope)
 
-  -- of a state and a scope
+  -- a test agrees with the frame of a state and a scope
   abbrev pub AgreesAt : GlobalRuntimeState H → Scope H → Test → Type 0
   AgreesAt global scope test = Agrees (sight_of global) (names_in scope) test
 
@@ -74,6 +79,6 @@ module _ {H : Type 0} where
   abbrev pub KeepsSight : (old new : GlobalRuntimeState H) → Type 0
   KeepsSight old new = sight_of new ≡ sight_of old
 
-  -- and what imports under a name adds that name
+  -- what imports under a name adds that name to what a checker knows of the state
   abbrev pub AddsImport : Name → (old new : GlobalRuntimeState H) → Type 0
   AddsImport name old new = sight_of new ≡ record (sight_of old) { imports = imports_in old.imports ++ name ∷ [] }

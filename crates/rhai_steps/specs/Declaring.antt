@@ -8,15 +8,15 @@ use Rattle.rhai_state.specs.declared.limits.Limits.{Limits}
 use Rattle.rhai_state.specs.Scope.{index_of}
 
 module _ {H : Type 0} where
-  -- shadowing is off, and the scope has the name
+  -- a new variable may not have the name: shadowing is off, and the scope has it
   abbrev pub is_taken : (allow_shadowing : Bool) → List ℕ → List (ScopeEntry H) → Bool
   is_taken allow_shadowing name entries = not allow_shadowing && is_some (index_of name entries)
 
-  -- the scope has no room
+  -- the scope has no room for a new variable
   abbrev pub is_full : Limits → List (ScopeEntry H) → Bool
   is_full limits entries = nat_le limits.max_variables (length entries)
 
-  -- whether it may, or why not
+  -- that a variable may be declared, or why it may not
   abbrev pub declarable : List ℕ → Position → (taken full : Bool) → Result (Unit {0}) (EvalAltResult H)
   declarable name at true full = Err (error.ErrorVariableExists name at)
   declarable name at false true = Err (error.ErrorTooManyVariables at)

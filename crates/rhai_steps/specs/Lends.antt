@@ -10,7 +10,7 @@ use Rattle.rhai_state.specs.declared.error.EvalAltResult.{EvalAltResult}
 use Rattle.rhai_state.specs.Scope.{entries_of, place_of, revalued}
 
 module _ {H : Type 0} where
-  -- the entry at a place has another value, and every other entry stays
+  -- the entry at an index has another value, and every other entry stays
   abbrev pub with_entry : Scope H → Option ℕ → Dynamic H → Scope H
   with_entry s (Some at) value = record s { entries = revalued s.entries at (slice_get s.entries at) value }
   with_entry s None value = s

@@ -2,7 +2,7 @@ pub mod Agreement
 pub mod Declaring
 pub mod Lends
 pub mod Loops
-pub mod Marked
+pub mod OnFocus
 pub mod Offers
 pub mod Offsets
 pub mod Saves

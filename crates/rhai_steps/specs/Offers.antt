@@ -4,6 +4,7 @@ use Rattle.rhai_functions.specs.declared.function.Offered.{Offered}
 use Rattle.rhai_machine.specs.language.Setting.{Globals, Offer}
 
 module _ {H : Type 0} where
+  -- the engine's modules, as the rules read them
   abbrev pub globals_in : Offered H → Globals H
   globals_in offered = record { modules = offered.global_modules.now; named = offered.global_sub_modules.now }
 

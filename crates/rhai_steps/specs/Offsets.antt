@@ -11,7 +11,7 @@ abbrev pub offset_in : Bool → ExprLayer → Option NonZeroUsize
 offset_in searches (layer.Variable offset name namespace pos) = in_use searches offset
 offset_in searches _ = None
 
--- the place at an offset from the end of so many, counted from the start
-abbrev pub place_at : Option NonZeroUsize → ℕ → Option ℕ
-place_at (Some offset) count = Some (count - non_zero_usize_get offset)
-place_at None count = None
+-- the index at an offset from the end of so many entries, counted from the start
+abbrev pub index_at_offset : Option NonZeroUsize → ℕ → Option ℕ
+index_at_offset (Some offset) count = Some (count - non_zero_usize_get offset)
+index_at_offset None count = None

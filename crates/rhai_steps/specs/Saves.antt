@@ -6,6 +6,7 @@ use Rattle.rhai_state.specs.Scope.{entries_of}
 use Rattle.rhai_machine.specs.language.Frames as machine
 use Rattle.rhai_steps.specs.declared.variables.Saved.{Saved}
 
+-- what a restoring list keeps, as the machine's frame keeps it
 abbrev pub saved_in : Saved → machine.Saved
 saved_in saved = record { scope_length = saved.scope_length; imports_length = saved.imports_length; scope_level = saved.scope_level }
 
@@ -17,7 +18,7 @@ saved_now global scope = record {
   scope_level = global.scope_level;
 }
 
--- the state that is left
+-- the state after a restoring list: its imports, its level and whether variables are searched for are as they were kept
 abbrev pub left_global : {H : Type 0} → Saved → GlobalRuntimeState H → GlobalRuntimeState H
 left_global saved global = record global {
   imports = take saved.imports_length global.imports;

@@ -6,6 +6,7 @@ use Rattle.rhai_values.specs.declared.base.value.Union.TheVariants as value
 use Rattle.rhai_state.specs.declared.error.EvalAltResult.{EvalAltResult}
 
 module _ {H : Type 0} where
+  -- whether a value is `()`
   abbrev pub is_unit_union : Union H → Bool
   is_unit_union value.Unit = true
   is_unit_union _ = false

@@ -20,14 +20,14 @@ use rhai_tree::{Shared, Text};
 use rhai_values::base::value::{Dynamic, Host, Module};
 use std::alloc::Global;
 
-/// Whether a library has anything in it.
+/// Tells whether a library has anything in it.
 fn has_some<H>(within: &Module<H>) -> bool
     ensures { result ≡ has_some_in within.now }
 {
     !within.functions.is_empty() || within.constants.len() > 0 || within.sub_modules.len() > 0
 }
 
-/// Whether some library has anything in it.
+/// Tells whether some library has anything in it.
 fn any_has_some<H>(lib: &[Shared<Module<H>>]) -> bool
     ensures { result ≡ list_any has_some_in lib.now }
 {
@@ -39,7 +39,8 @@ fn any_has_some<H>(lib: &[Shared<Module<H>>]) -> bool
     false
 }
 
-/// Whether a variable with these options is entered: a constant at the top of a script that has a library.
+/// Tells whether a variable with these options is entered. That is a constant at the top of a script that has
+/// a library.
 fn enters<H>(global: &GlobalRuntimeState<H>, options: ASTFlags, restoring: bool) -> bool
     ensures { (scope : _) (held : _) → result ≡ enters_in options restoring (local_of global.now scope held) }
 {
@@ -49,7 +50,7 @@ fn enters<H>(global: &GlobalRuntimeState<H>, options: ASTFlags, restoring: bool)
         && any_has_some(global.lib.as_slice())
 }
 
-/// A copy of a value into the current table of constants, under a name.
+/// Copies a value into the current table of constants, under a name.
 fn add_constant<H: Host>(
     alloc: Global,
     global: &mut GlobalRuntimeState<H>,
@@ -81,8 +82,9 @@ fn add_constant<H: Host>(
     }
 }
 
-/// Enters a new variable's value into the current table of constants, as a copy, where it is a constant at the
-/// top of a script that has a library. A later one of the name takes the place of an earlier.
+/// Enters a new variable's value into the current table of constants, as a copy. It does so where the
+/// variable is a constant at the top of a script that has a library. A later one of the name replaces an
+/// earlier.
 ///
 /// # Errors
 /// `ErrorOutOfMemory` at the position alone, and then nothing is entered.

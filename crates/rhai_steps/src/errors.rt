@@ -1,5 +1,5 @@
-//! The making of errors. Each stands in one place, so that texts stay alike; where there is no
-//! memory for one the answer is want of memory.
+//! The making of errors. Each is made here alone, so that texts stay alike; where there is no
+//! memory for one the answer is that memory ran out.
 
 ghost use Rattle.std.specs.Prelude.{◌≡◌, false, [], IfOk};
 ghost use Rattle.rhai_state.specs.Errors.{is_out_of_memory};
@@ -14,7 +14,7 @@ use rhai_values::base::size::SizeFault;
 use rhai_values::base::value::{Dynamic, Host};
 use std::alloc::{AllocError, Global};
 
-/// A race for the cell that a handle leads to.
+/// Builds the error of a race for the cell that a handle leads to.
 #[cold]
 #[inline(never)]
 pub fn data_race<H>(alloc: Global, pos: Position) -> EvalAltResult<H>
@@ -26,7 +26,7 @@ pub fn data_race<H>(alloc: Global, pos: Position) -> EvalAltResult<H>
     }
 }
 
-/// A race for the cell that a name leads to.
+/// Builds the error of a race for the cell that a name leads to.
 #[cold]
 #[inline(never)]
 pub fn data_race_of<H>(name: &Shared<Text>, pos: Position) -> EvalAltResult<H>
@@ -38,7 +38,7 @@ pub fn data_race_of<H>(name: &Shared<Text>, pos: Position) -> EvalAltResult<H>
     }
 }
 
-/// A constant that is assigned to.
+/// Builds the error of a constant that is assigned to.
 #[cold]
 #[inline(never)]
 pub fn assignment_to_constant<H>(name: &Shared<Text>, pos: Position) -> EvalAltResult<H>
@@ -50,7 +50,7 @@ pub fn assignment_to_constant<H>(name: &Shared<Text>, pos: Position) -> EvalAltR
     }
 }
 
-/// A name that means no variable.
+/// Builds the error of a name that means no variable.
 #[cold]
 #[inline(never)]
 pub fn variable_not_found<H>(name: &Shared<Text>, pos: Position) -> EvalAltResult<H>
@@ -62,7 +62,7 @@ pub fn variable_not_found<H>(name: &Shared<Text>, pos: Position) -> EvalAltResul
     }
 }
 
-/// A name that is declared twice where that is not allowed.
+/// Builds the error of a name that is declared twice where that is not allowed.
 #[cold]
 #[inline(never)]
 pub fn variable_exists<H>(name: &Shared<Text>, pos: Position) -> EvalAltResult<H>
@@ -86,7 +86,7 @@ fn type_mismatch(
     Boxed::new(alloc, TypeMismatch { wanted, found })
 }
 
-/// A value of another type than the one that is wanted.
+/// Builds the error of a value of another type than the one that is wanted.
 #[cold]
 #[inline(never)]
 pub fn mismatch<H>(alloc: Global, wanted: &str, found: &str, pos: Position) -> EvalAltResult<H>
@@ -98,7 +98,7 @@ pub fn mismatch<H>(alloc: Global, wanted: &str, found: &str, pos: Position) -> E
     }
 }
 
-/// A race for the cell of an argument of a native.
+/// Builds the error of a race for the cell of an argument of a native.
 #[cold]
 #[inline(never)]
 pub fn data_race_by<H>(alloc: Global, name: &str, pos: Position) -> EvalAltResult<H>
@@ -110,7 +110,7 @@ pub fn data_race_by<H>(alloc: Global, name: &str, pos: Position) -> EvalAltResul
     }
 }
 
-/// A native that is not pure, on a constant.
+/// Builds the error of a native that is not pure, on a constant.
 #[cold]
 #[inline(never)]
 pub fn non_pure<H>(alloc: Global, name: &str, pos: Position) -> EvalAltResult<H>
@@ -122,7 +122,7 @@ pub fn non_pure<H>(alloc: Global, name: &str, pos: Position) -> EvalAltResult<H>
     }
 }
 
-/// The same of a native whose name is shared.
+/// Builds the error of a native that is not pure, on a constant, with its shared name.
 #[cold]
 #[inline(never)]
 pub fn non_pure_of<H>(name: &Shared<Text>, pos: Position) -> EvalAltResult<H>
@@ -134,7 +134,7 @@ pub fn non_pure_of<H>(name: &Shared<Text>, pos: Position) -> EvalAltResult<H>
     }
 }
 
-/// A text that may have several owners.
+/// Copies a text into one that may have several owners.
 pub fn shared_text(alloc: Global, text: &str) -> Result<Shared<Text>, AllocError>
     ensures { IfOk result (λ t. t ≡ text.now) }
 {
@@ -142,7 +142,7 @@ pub fn shared_text(alloc: Global, text: &str) -> Result<Shared<Text>, AllocError
     Shared::new(alloc, text)
 }
 
-/// A value whose data is above a limit.
+/// Builds the error of a value whose data is above a limit.
 #[cold]
 #[inline(never)]
 pub fn data_too_large<H>(alloc: Global, fault: SizeFault, pos: Position) -> EvalAltResult<H>
@@ -154,7 +154,7 @@ pub fn data_too_large<H>(alloc: Global, fault: SizeFault, pos: Position) -> Eval
     }
 }
 
-/// A `break` or a `continue` on its way to its loop.
+/// Puts a `break` or a `continue` on its way to its loop.
 pub fn loop_break<H: Host>(
     alloc: Global,
     value: Dynamic<H>,
@@ -169,7 +169,7 @@ pub fn loop_break<H: Host>(
     }
 }
 
-/// A `return` on its way to the end of its function or script.
+/// Puts a `return` on its way to the end of its function or script.
 pub fn returned<H: Host>(alloc: Global, value: Dynamic<H>, pos: Position) -> EvalAltResult<H>
     ensures { is_out_of_memory result ≡ false → result ≡ error.Return value pos }
 {

@@ -1,6 +1,6 @@
 //! The single steps of the evaluator, which lead to no part of a tree: charges, errors, values,
 //! variables, what a native's answer comes to, and what loops and scripts make of an outcome. Each
-//! says exactly what it answers, want of memory aside.
+//! says exactly what it answers, unless memory runs out.
 #![tactic(auto)]
 
 pub mod charges;

@@ -25,7 +25,7 @@ pub enum BodyEnd<H> {
     Break(Dynamic<H>),
 }
 
-/// What a loop makes of its body's outcome.
+/// Tells what a loop makes of its body's outcome.
 #[inline(always)]
 pub fn body_end<H: Host>(
     outcome: Result<Dynamic<H>, EvalAltResult<H>>,
@@ -41,7 +41,7 @@ pub fn body_end<H: Host>(
     }
 }
 
-/// What a loop makes of an error that comes out of its body.
+/// Tells what a loop makes of an error that comes out of its body.
 #[inline(never)]
 fn turn_left<H: Host>(error: EvalAltResult<H>) -> Result<BodyEnd<H>, EvalAltResult<H>>
     ensures { result ≡ turn_in (Err error) }
@@ -62,7 +62,7 @@ fn turn_left<H: Host>(error: EvalAltResult<H>) -> Result<BodyEnd<H>, EvalAltResu
     }
 }
 
-/// What a `while` makes of its body's outcome: None where another turn follows, else its value.
+/// Tells what a `while` makes of its body's outcome: None where another turn follows, else its value.
 pub fn while_next<H: Host>(
     outcome: Result<Dynamic<H>, EvalAltResult<H>>,
 ) -> Result<Option<Dynamic<H>>, EvalAltResult<H>>
@@ -74,7 +74,7 @@ pub fn while_next<H: Host>(
     }
 }
 
-/// Whether a `while` is without a condition, or has the literal `true`.
+/// Tells whether a `while` is without a condition, or has the literal `true`.
 pub fn is_endless(test: &Expr) -> bool
     ensures { result ≡ without_end (out-Expr test.now) }
 {
@@ -85,14 +85,14 @@ pub fn is_endless(test: &Expr) -> bool
     }
 }
 
-/// Whether a way out of a loop is a `break`.
+/// Tells whether a way out of a loop is a `break`.
 pub fn breaks(options: ASTFlags) -> bool
     ensures { result ≡ has_option 2 options }
 {
     options.contains(ASTFlags::BREAK)
 }
 
-/// What a `do` makes of its condition: None where another turn follows, else its value.
+/// Tells what a `do` makes of its condition: None where another turn follows, else its value.
 pub fn do_next<H: Host>(options: ASTFlags, holds: bool) -> Option<Dynamic<H>>
     ensures { result ≡ after_test (has_option 1 options) holds }
 {
@@ -104,8 +104,8 @@ pub fn do_next<H: Host>(options: ASTFlags, holds: bool) -> Option<Dynamic<H>>
     if goes_on { None } else { Some(unit_value()) }
 }
 
-/// The list that a condition chooses.
-pub fn chosen<'a>(holds: bool, body: &'a StmtBlock, branch: &'a StmtBlock) -> &'a [Stmt]
+/// Returns the list that a condition chooses.
+pub fn choose_list<'a>(holds: bool, body: &'a StmtBlock, branch: &'a StmtBlock) -> &'a [Stmt]
     ensures { result.now ≡ (if holds then body.now.statements else branch.now.statements) }
 {
     let block = if holds { body } else { branch };

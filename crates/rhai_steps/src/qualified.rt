@@ -8,7 +8,7 @@ ghost use Rattle.rhai_tree.specs.Lookup.{value_of};
 ghost use Rattle.rhai_machine.specs.language.Names.{own_constants};
 ghost use Rattle.rhai_machine.specs.language.State.{Answers};
 ghost use Rattle.rhai_steps.specs.States.{surroundings_of};
-ghost use Rattle.rhai_functions.specs.Qualified.{behind, found_or_missing, is_global as is_own, path_text, qualified, read_only};
+ghost use Rattle.rhai_functions.specs.Qualified.{text_behind, found_or_missing, is_global as is_own, path_text, qualified, read_only};
 ghost use Rattle.std.specs.Option.{option_copied};
 
 use crate::values::copy;
@@ -23,7 +23,7 @@ use std::alloc::{AllocError, Global};
 
 /// Adds names to a text, each after `::`.
 fn push_behind(text: &mut String, names: &[Shared<Text>]) -> Result<(), AllocError>
-    ensures { OnOk result (string_bytes text.new ≡ string_bytes text.old ++ behind names.now) }
+    ensures { OnOk result (string_bytes text.new ≡ string_bytes text.old ++ text_behind names.now) }
 {
     'names: for name in names {
         text.push_str("::")?;
@@ -32,7 +32,7 @@ fn push_behind(text: &mut String, names: &[Shared<Text>]) -> Result<(), AllocErr
     Ok(())
 }
 
-/// A path as it is written.
+/// Writes a path out as it is written in a script.
 fn text_of(alloc: Global, path: &[Shared<Text>]) -> Result<String, AllocError>
     ensures { IfOk result (λ text. string_bytes text ≡ path_text path.now) }
 {
@@ -44,7 +44,7 @@ fn text_of(alloc: Global, path: &[Shared<Text>]) -> Result<String, AllocError>
     Ok(text)
 }
 
-/// There is no module of a path.
+/// Builds the error that there is no module of a path.
 #[cold]
 #[inline(never)]
 pub fn no_module<H>(alloc: Global, path: &[Shared<Text>], pos: Position) -> EvalAltResult<H>
@@ -59,9 +59,9 @@ pub fn no_module<H>(alloc: Global, path: &[Shared<Text>], pos: Position) -> Eval
     }
 }
 
-/// A path and a name behind it, as they are written.
+/// Writes out a path and a name behind it, as they are written in a script.
 pub fn full_text(alloc: Global, path: &[Shared<Text>], name: &str) -> Result<String, AllocError>
-    ensures { IfOk result (λ text. string_bytes text ≡ path_text path.now ++ behind (name.now ∷ [])) }
+    ensures { IfOk result (λ text. string_bytes text ≡ path_text path.now ++ text_behind (name.now ∷ [])) }
 {
     let mut text = text_of(alloc, path)?;
     text.push_str("::")?;
@@ -69,7 +69,7 @@ pub fn full_text(alloc: Global, path: &[Shared<Text>], name: &str) -> Result<Str
     Ok(text)
 }
 
-/// There is no variable of a name behind a path.
+/// Builds the error that there is no variable of a name behind a path.
 #[cold]
 #[inline(never)]
 fn no_variable<H>(
@@ -79,7 +79,7 @@ fn no_variable<H>(
     pos: Position,
 ) -> EvalAltResult<H>
     ensures { is_out_of_memory result ≡ false →
-        result ≡ error.ErrorVariableNotFound (path_text path.now ++ behind (name.now ∷ [])) pos }
+        result ≡ error.ErrorVariableNotFound (path_text path.now ++ text_behind (name.now ∷ [])) pos }
 {
     let Ok(text) = full_text(alloc, path, name) else {
         return EvalAltResult::ErrorOutOfMemory(pos);
@@ -90,7 +90,7 @@ fn no_variable<H>(
     }
 }
 
-/// A copy of a value that may not be written in any part.
+/// Copies a value, with no part of the copy that may be written.
 fn read_only_copy<H: Host>(
     alloc: Global,
     value: &Dynamic<H>,
@@ -103,7 +103,7 @@ fn read_only_copy<H: Host>(
     Ok(value)
 }
 
-/// A copy of what was found of a name behind a path, or that there is no such variable.
+/// Copies what was found of a name behind a path, or tells that there is no such variable.
 fn answer<H: Host>(
     alloc: Global,
     found: Option<&Dynamic<H>>,
@@ -112,7 +112,7 @@ fn answer<H: Host>(
     pos: Position,
 ) -> Result<Dynamic<H>, EvalAltResult<H>>
     ensures { Answers result (found_or_missing (option_copied found.entry)
-        (path_text path.now ++ behind (name.now ∷ [])) pos) }
+        (path_text path.now ++ text_behind (name.now ∷ [])) pos) }
 {
     match found {
         Some(value) => read_only_copy(alloc, value, pos),
@@ -120,7 +120,7 @@ fn answer<H: Host>(
     }
 }
 
-/// Whether a path is that of the state's own constants, where no module has its name.
+/// Tells whether a path is that of the state's own constants, where no module has its name.
 fn is_global(path: &[Shared<Text>]) -> bool
     ensures { result ≡ is_own path.now }
 {
@@ -130,7 +130,7 @@ fn is_global(path: &[Shared<Text>]) -> bool
     root.get().as_str() == "global"
 }
 
-/// The constant of a name in the table that is the state's own.
+/// Finds the constant of a name in the table that is the state's own.
 fn find_own_constant<'g, H>(global: &'g GlobalRuntimeState<H>, name: &str) -> Option<&'g Dynamic<H>>
     ensures { option_copied result ≡ value_of name.now (own_constants (surroundings_of global.now)) }
 {
@@ -143,9 +143,10 @@ fn find_own_constant<'g, H>(global: &'g GlobalRuntimeState<H>, name: &str) -> Op
     }
 }
 
-/// The value of a name behind a path: a copy that may not be written of the constant of that name in the module that
-/// the path leads to, from the newest import of its first name, or else from the engine's module of that name. Where
-/// there is neither and the path is `global` alone, of the state's own constant.
+/// Reads the value of a name behind a path, as a copy that may not be written. It is the constant of that
+/// name in the module that the path leads to, from the newest import of its first name, or else from the
+/// engine's module of that name. Where there is neither and the path is `global` alone, it is the state's own
+/// constant.
 ///
 /// # Errors
 /// Both at the position: `ErrorModuleNotFound` with the path where nothing has its first name, and

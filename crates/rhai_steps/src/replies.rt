@@ -12,7 +12,7 @@ ghost use Rattle.rhai_machine.specs.language.State.{Answers, HasMemory as WithMe
 ghost use Rattle.rhai_machine.specs.language.Values.{is_handle as handle_at};
 ghost use Rattle.rhai_machine.specs.language.Calls.{applied as applied_at, builtin_of as builtin_for};
 ghost use Rattle.rhai_machine.specs.language.Calls.{not_found as not_found_at};
-ghost use Rattle.rhai_machine.specs.language.Calls.{placed_if_none, replied as replied_at};
+ghost use Rattle.rhai_machine.specs.language.Calls.{with_position, replied as replied_at};
 ghost use Rattle.rhai_machine.specs.language.Calls.{signature as signature_of, sized as sized_at, types_of};
 ghost use Rattle.rhai_machine.specs.language.Calls.{names_indexer, property_named, second};
 ghost use Rattle.rhai_values.specs.TypeNames.{type_name_of};
@@ -39,7 +39,7 @@ fn push_type(text: &mut String, name: &str) -> Result<(), AllocError>
     text.push_str(name)
 }
 
-/// A function's name and the first of its arguments' types.
+/// Writes a function's name and the first of its arguments' types.
 fn open_signature(alloc: Global, name: &str, first: &str) -> Result<String, AllocError>
     ensures { IfOk result (λ text. string_bytes text ≡ name.now ++ (codes " (" ++ first.now)) }
 {
@@ -49,7 +49,7 @@ fn open_signature(alloc: Global, name: &str, first: &str) -> Result<String, Allo
     Ok(text)
 }
 
-/// A function's name with the types of its arguments in brackets.
+/// Writes a function's name with the types of its arguments in brackets.
 fn signature<H: Host>(
     alloc: Global,
     cells: &CellStore<H>,
@@ -68,7 +68,7 @@ fn signature<H: Host>(
     Shared::new(alloc, Text::from_string(text))
 }
 
-/// The property that a getter or a setter is of, by its name.
+/// Finds the property that a getter or a setter is of, by its name.
 fn property_of(name: &str) -> Option<&str>
     ensures { option_copied result ≡ property_named name.now }
 {
@@ -78,14 +78,14 @@ fn property_of(name: &str) -> Option<&str>
     }
 }
 
-/// Whether a name is an indexer's.
+/// Tells whether a name is an indexer's.
 fn is_indexer(name: &str) -> bool
     ensures { result ≡ names_indexer name.now }
 {
     name == "index$get$" || name == "index$set$"
 }
 
-/// A property that is not there.
+/// Builds the error of a property that is not there.
 fn unknown_property<H>(alloc: Global, property: &str, pos: Position) -> EvalAltResult<H>
     ensures { is_out_of_memory result ≡ false → result ≡ error.ErrorDotExpr property.now pos }
 {
@@ -95,7 +95,7 @@ fn unknown_property<H>(alloc: Global, property: &str, pos: Position) -> EvalAltR
     }
 }
 
-/// The types of an object and of the index behind it, the empty text where there is none.
+/// Writes the types of a value and of the index behind it, the empty text where there is none.
 fn indexed_types<H: Host>(
     alloc: Global,
     cells: &CellStore<H>,
@@ -115,7 +115,7 @@ fn indexed_types<H: Host>(
     Shared::new(alloc, text)
 }
 
-/// There is no function of a name that takes these arguments.
+/// Builds the error that there is no function of a name that takes these arguments.
 #[cold]
 #[inline(never)]
 pub fn function_not_found<H: Host>(
@@ -135,8 +135,9 @@ pub fn function_not_found<H: Host>(
     }
 }
 
-/// No native takes these arguments: a getter or a setter is of a property that is not there, an
-/// indexer's values do not go together, and of any other name, and of a number, there is no such function.
+/// Builds the error that no native takes these arguments. A getter or a setter is of a property that is not
+/// there, an indexer's values do not go together, and of any other name, and of a number, there is no such
+/// function.
 #[cold]
 #[inline(never)]
 fn not_found<H: Host>(
@@ -166,7 +167,7 @@ fn not_found<H: Host>(
     function_not_found(alloc, cells, name, first, rest, pos)
 }
 
-/// A function's name with no argument.
+/// Writes a function's name with no argument.
 fn bare_signature(alloc: Global, name: &str) -> Result<Shared<Text>, AllocError>
     ensures { IfOk result (λ text. text ≡ signature_of name.now []) }
 {
@@ -175,7 +176,7 @@ fn bare_signature(alloc: Global, name: &str) -> Result<Shared<Text>, AllocError>
     Shared::new(alloc, Text::from_string(text))
 }
 
-/// The types of an object and of an index, neither of which is there.
+/// Writes the types of a value and of an index, neither of which is there.
 fn no_types(alloc: Global) -> Result<Shared<Text>, AllocError>
     ensures { IfOk result (λ text. text ≡ indexing_text_of [] []) }
 {
@@ -183,8 +184,8 @@ fn no_types(alloc: Global) -> Result<Shared<Text>, AllocError>
     Shared::new(alloc, text)
 }
 
-/// There is no function of a name that takes no argument.
-pub fn lone_not_found<H>(alloc: Global, name: &str, pos: Position) -> EvalAltResult<H>
+/// Builds the error that there is no function of a name that takes no argument.
+pub fn nullary_function_not_found<H>(alloc: Global, name: &str, pos: Position) -> EvalAltResult<H>
     ensures { is_out_of_memory result ≡ false → result ≡ error.ErrorFunctionNotFound
         (signature_of name.now []) pos }
 {
@@ -194,15 +195,20 @@ pub fn lone_not_found<H>(alloc: Global, name: &str, pos: Position) -> EvalAltRes
     }
 }
 
-/// No native of a name, or of a number, takes no argument.
+/// Builds the error that no native of a name, or of a number, takes no argument.
 #[cold]
 #[inline(never)]
-fn not_found_alone<H>(alloc: Global, name: &str, by_number: bool, pos: Position) -> EvalAltResult<H>
+fn nullary_native_not_found<H>(
+    alloc: Global,
+    name: &str,
+    by_number: bool,
+    pos: Position,
+) -> EvalAltResult<H>
     ensures { (host : _) (cells : _) → is_out_of_memory result ≡ false → result ≡ not_found_at host cells
         name.now by_number [] pos }
 {
     if by_number {
-        return lone_not_found(alloc, name, pos);
+        return nullary_function_not_found(alloc, name, pos);
     }
     if let Some(property) = property_of(name) {
         return unknown_property(alloc, property, pos);
@@ -213,12 +219,12 @@ fn not_found_alone<H>(alloc: Global, name: &str, by_number: bool, pos: Position)
             Err(_) => EvalAltResult::ErrorOutOfMemory(pos),
         };
     }
-    lone_not_found(alloc, name, pos)
+    nullary_function_not_found(alloc, name, pos)
 }
 
-/// A native's fault, at the call where it has no position of its own.
-pub fn placed<H: Host>(error: EvalAltResult<H>, pos: Position) -> EvalAltResult<H>
-    ensures { result ≡ placed_if_none pos error }
+/// Gives a native's fault the position of the call, where it has none of its own.
+pub fn position_if_none<H: Host>(error: EvalAltResult<H>, pos: Position) -> EvalAltResult<H>
+    ensures { result ≡ with_position pos error }
 {
     let mut error = error;
     if error.position().is_none() {
@@ -227,7 +233,7 @@ pub fn placed<H: Host>(error: EvalAltResult<H>, pos: Position) -> EvalAltResult<
     error
 }
 
-/// What a built-in operator gives for one operand or two, None where there is no such built-in.
+/// Computes what a built-in operator gives for one operand or two, None where there is no such built-in.
 fn builtin<H: Host>(
     alloc: Global,
     token: Option<Token>,
@@ -263,7 +269,7 @@ pub fn sized<H: Host>(
     }
 }
 
-/// What a built-in operator gave, at the operator.
+/// Turns what a built-in operator gave into the answer at the operator.
 pub fn applied<H: Host>(
     alloc: Global,
     limits: &Limits,
@@ -282,8 +288,8 @@ pub fn applied<H: Host>(
     }
 }
 
-/// Where no native has the name: the built-in, or there is no such function.
-fn missing<H: Host>(
+/// Answers a call whose native is missing: by the built-in, or that there is no such function.
+fn answer_missing<H: Host>(
     alloc: Global,
     limits: &Limits,
     cells: &CellStore<H>,
@@ -303,8 +309,8 @@ fn missing<H: Host>(
     }
 }
 
-/// What a native's answer comes to, at the call. The cells are those of the moment when it is told; the
-/// first argument is what the native left of it.
+/// Turns a native's answer into what the call comes to. The cells are those of the moment when it is told;
+/// the first argument is what the native left of it.
 pub fn replied<H: Host>(
     alloc: Global,
     limits: &Limits,
@@ -324,18 +330,18 @@ pub fn replied<H: Host>(
 {
     match answer {
         Answer::Missing => {
-            missing(
+            answer_missing(
                 alloc, limits, cells, name, by_number, token, first, rest, pos,
             )
         }
         Answer::Value(value) => sized(alloc, limits, value, pos),
-        Answer::Fault(error) => Err(placed(error, pos)),
+        Answer::Fault(error) => Err(position_if_none(error, pos)),
         Answer::NoMemory => Err(EvalAltResult::ErrorOutOfMemory(pos)),
     }
 }
 
-/// The same of a native that was called without arguments.
-pub fn replied_alone<H: Host>(
+/// Turns the answer of a native that was called without arguments into what the call comes to.
+pub fn settle_lone_reply<H: Host>(
     alloc: Global,
     limits: &Limits,
     answer: Answer<H>,
@@ -350,9 +356,9 @@ pub fn replied_alone<H: Host>(
     ensures memory { WithMemory result → is_some (reply_of answer) ≡ true }
 {
     match answer {
-        Answer::Missing => Err(not_found_alone(alloc, name, by_number, pos)),
+        Answer::Missing => Err(nullary_native_not_found(alloc, name, by_number, pos)),
         Answer::Value(value) => sized(alloc, limits, value, pos),
-        Answer::Fault(error) => Err(placed(error, pos)),
+        Answer::Fault(error) => Err(position_if_none(error, pos)),
         Answer::NoMemory => Err(EvalAltResult::ErrorOutOfMemory(pos)),
     }
 }

@@ -22,35 +22,35 @@ use rhai_values::base::value::{CellId, Dynamic, Host, Union};
 use rhai_values::cells::CellStore;
 use std::alloc::Global;
 
-/// `()`.
+/// Makes `()`.
 pub fn unit_value<H>() -> Dynamic<H>
     ensures { result ≡ unit }
 {
     Dynamic::new(Union::Unit)
 }
 
-/// A truth value.
+/// Makes a value of a truth value.
 pub fn bool_value<H>(value: bool) -> Dynamic<H>
     ensures { result ≡ truth_of value }
 {
     Dynamic::new(Union::Bool(value))
 }
 
-/// An integer.
+/// Makes a value of an integer.
 pub fn int_value<H>(value: &i64) -> Dynamic<H>
     ensures { result ≡ plain (kind.Int value.now) }
 {
     Dynamic::new(Union::Int(*value))
 }
 
-/// A character.
+/// Makes a value of a character.
 pub fn char_value<H>(letter: char) -> Dynamic<H>
     ensures { result ≡ plain (kind.Char letter) }
 {
     Dynamic::new(Union::Char(letter))
 }
 
-/// A text of the tree, which the value shares with it.
+/// Makes a value of a text of the tree, which it shares with the tree.
 pub fn text_value<H>(text: &Shared<Text>, pos: Position) -> Result<Dynamic<H>, EvalAltResult<H>>
     ensures { Answers result (Ok (plain (kind.Str text.now))) }
 {
@@ -60,7 +60,7 @@ pub fn text_value<H>(text: &Shared<Text>, pos: Position) -> Result<Dynamic<H>, E
     }
 }
 
-/// The value of a constant of the tree.
+/// Makes the value of a constant of the tree.
 pub fn constant_value<H: Host>(
     alloc: Global,
     literal: &Literal,
@@ -74,7 +74,7 @@ pub fn constant_value<H: Host>(
     }
 }
 
-/// A copy of a value.
+/// Copies a value.
 pub fn copy<H: Host>(
     alloc: Global,
     value: &Dynamic<H>,
@@ -88,7 +88,7 @@ pub fn copy<H: Host>(
     }
 }
 
-/// A copy of what a cell holds.
+/// Copies what a cell holds.
 fn copy_cell<H: Host>(
     alloc: Global,
     cells: &CellStore<H>,
@@ -103,7 +103,7 @@ fn copy_cell<H: Host>(
     }
 }
 
-/// A value without its handle: of a handle, a copy of the cell's value; any other stays.
+/// Replaces a handle by a copy of its cell's value; any other value stays.
 #[inline(always)]
 pub fn flatten<H: Host>(
     alloc: Global,
@@ -136,7 +136,7 @@ fn plain_truth<H: Host>(
     }
 }
 
-/// The truth value that a condition gave, through a handle.
+/// Reads the truth value that a condition gave, through a handle.
 pub fn truth_value<H: Host>(
     alloc: Global,
     cells: &CellStore<H>,
@@ -155,7 +155,7 @@ pub fn truth_value<H: Host>(
     }
 }
 
-/// Whether a value is `()`, through a handle.
+/// Tells whether a value is `()`, through a handle.
 pub fn is_unit<H: Host>(
     alloc: Global,
     cells: &CellStore<H>,
@@ -174,14 +174,14 @@ pub fn is_unit<H: Host>(
     }
 }
 
-/// Whether a value is a bare handle of a cell.
+/// Tells whether a value is a bare handle of a cell.
 pub fn is_bare_handle<H: Host>(value: &Dynamic<H>) -> bool
     ensures { result ≡ is_handle value.now.value }
 {
     matches!(&value.value, Union::Cell(_))
 }
 
-/// A list of one value. Where there is no memory the value comes back.
+/// Makes a list of one value. Where there is no memory the value comes back.
 pub fn list_of<H: Host>(alloc: Global, value: Dynamic<H>) -> Result<Few<Dynamic<H>>, Dynamic<H>>
     ensures ok { IfOk result (λ items. items ≡ value ∷ []) }
     ensures err { IfErr result (λ v. v ≡ value) }

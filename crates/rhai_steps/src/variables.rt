@@ -8,7 +8,7 @@ ghost use Rattle.rhai_state.specs.Errors.{is_out_of_memory};
 ghost use Rattle.rhai_state.specs.declared.error.EvalAltResult.TheVariants as error;
 ghost use Rattle.rhai_tree.specs.Forms.{is_exported as exported, is_unqualified};
 ghost use Rattle.rhai_tree.specs.declared.expr.Expr.{out-Expr};
-ghost use Rattle.rhai_state.specs.Scope.{entries_of, found_by, index_of, new_entry, Fits};
+ghost use Rattle.rhai_state.specs.Scope.{entries_of, variable_value, index_of, new_entry, Fits};
 ghost use Rattle.rhai_machine.specs.language.State.{Answers};
 ghost use Rattle.rhai_machine.specs.language.Values.{copied, unit_value as unit};
 ghost use Rattle.rhai_machine.specs.language.Functions.{pointer_to};
@@ -20,7 +20,7 @@ ghost use Rattle.rhai_steps.specs.Agreement.{AgreesAt, variable_is_good};
 ghost use Rattle.rhai_steps.specs.Declaring.{declarable, is_full, is_taken};
 ghost use Rattle.rhai_steps.specs.Lends.{lends_variable, with_value};
 ghost use Rattle.rhai_steps.specs.Offers.{globals_in};
-ghost use Rattle.rhai_steps.specs.Offsets.{offset_in, place_at};
+ghost use Rattle.rhai_steps.specs.Offsets.{offset_in, index_at_offset};
 ghost use Rattle.rhai_steps.specs.States.{surroundings_of};
 ghost use Rattle.rhai_steps.specs.Saves.{saved_in, saved_now, left_global};
 
@@ -44,9 +44,9 @@ use rhai_values::cells::CellStore;
 use std::alloc::Global;
 use std::num::NonZeroUsize;
 
-/// The place of the newest variable of a name: by its offset where that is given and variables are not
-/// searched for, and else by search. Asked: the offset leads to the newest variable of the name.
-pub fn place_of_variable<H: Host>(
+/// Finds the index of the newest variable of a name. It goes by the offset where that is given and variables
+/// are not searched for, and else by search. Asked: the offset leads to the newest variable of the name.
+pub fn index_of_variable<H: Host>(
     global: &GlobalRuntimeState<H>,
     scope: &Scope<H>,
     offset: Option<NonZeroUsize>,
@@ -60,7 +60,7 @@ pub fn place_of_variable<H: Host>(
     scope.place_of(offset, name.get().as_str())
 }
 
-/// Whether nothing stands in front of a name.
+/// Tells whether nothing stands in front of a name.
 #[inline(always)]
 pub fn is_plain(namespace: &Namespace) -> bool
     ensures { result ≡ is_unqualified namespace.now.path }
@@ -68,8 +68,8 @@ pub fn is_plain(namespace: &Namespace) -> bool
     namespace.path.is_empty()
 }
 
-/// The entry that a variable means, as `place_of_variable` finds it. None for a name behind a path, and for one that no
-/// entry has.
+/// Finds the entry that a variable means, as `index_of_variable` finds it. None for a name behind a path, and
+/// for one that no entry has.
 #[inline(always)]
 pub fn entry_of_variable<H: Host>(
     global: &GlobalRuntimeState<H>,
@@ -82,11 +82,11 @@ pub fn entry_of_variable<H: Host>(
     ensures exact { result ≡ entry_named namespace.now.path name.now (entries_of scope.now) }
     ensures within { IfSome result (λ at. at < length (entries_of scope.now)) }
 {
-    match place_by_offset(global, scope, offset, name, namespace) {
+    match index_by_offset(global, scope, offset, name, namespace) {
         Some(index) => Some(index),
         None => {
             if is_plain(namespace) {
-                place_of_variable(global, scope, offset, name)
+                index_of_variable(global, scope, offset, name)
             } else {
                 None
             }
@@ -94,10 +94,11 @@ pub fn entry_of_variable<H: Host>(
     }
 }
 
-/// The place of the newest variable of a name by its offset, which stands behind no path. None where none is given, or
-/// variables are searched for. Asked: the offset leads to the newest variable of the name.
+/// Finds the index of the newest variable of a name by its offset, which stands behind no path. None where no
+/// offset is given, or variables are searched for. Asked: the offset leads to the newest variable of the
+/// name.
 #[inline(always)]
-pub fn place_by_offset<H: Host>(
+pub fn index_by_offset<H: Host>(
     global: &GlobalRuntimeState<H>,
     scope: &Scope<H>,
     offset: Option<NonZeroUsize>,
@@ -112,7 +113,7 @@ pub fn place_by_offset<H: Host>(
     scope.place_of(Some(offset), name.get().as_str())
 }
 
-/// The place that an expression's offset leads to in a scope of so many variables: None where it is no
+/// Finds the index that an expression's offset leads to in a scope of so many variables. None where it is no
 /// variable, or has no offset, or variables are searched for. Asked: the offset is at most the count.
 pub fn scope_index<H: Host>(
     global: &GlobalRuntimeState<H>,
@@ -120,7 +121,7 @@ pub fn scope_index<H: Host>(
     scope_len: usize,
 ) -> Option<usize>
     requires { Fits (offset_in global.now.always_search_scope (out-Expr expr.now)) scope_len }
-    ensures { result ≡ place_at (offset_in global.now.always_search_scope (out-Expr expr.now)) scope_len }
+    ensures { result ≡ index_at_offset (offset_in global.now.always_search_scope (out-Expr expr.now)) scope_len }
 {
     let Expr::Variable { offset, .. } = expr else {
         return None;
@@ -129,7 +130,7 @@ pub fn scope_index<H: Host>(
     Some(scope_len - offset.get())
 }
 
-/// A pointer to the library function of a name with so many parameters.
+/// Makes a pointer to the library function of a name with so many parameters.
 fn function_pointer<H: Host>(
     alloc: Global,
     name: &Shared<Text>,
@@ -152,8 +153,8 @@ fn function_pointer<H: Host>(
     }
 }
 
-/// What a name means by itself that no variable has: a constant of the engine's modules, as a copy, or else a pointer to
-/// the first library function of the name.
+/// Reads what a name means by itself that no variable has. It is a constant of the engine's modules, as a
+/// copy, or else a pointer to the first library function of the name.
 ///
 /// # Errors
 /// `ErrorVariableNotFound` at the position, where there is neither.
@@ -176,8 +177,9 @@ fn read_global<H: Host>(
     }
 }
 
-/// What a variable means that is no entry of the scope, as it is: by itself a constant of the engine's modules or a
-/// function of the libraries, and behind a path a constant of the module that the path leads to.
+/// Reads what a variable means that is no entry of the scope, as it is. By itself it is a constant of the
+/// engine's modules or a function of the libraries, and behind a path a constant of the module that the path
+/// leads to.
 ///
 /// # Errors
 /// `ErrorVariableNotFound` at the name where it stands by itself, and those of `search_path` at the path.
@@ -206,8 +208,8 @@ pub fn read_beside<H: Host>(
     )
 }
 
-/// Reads a variable: a copy, unless there is none or its cell is held. It is found as
-/// `entry_of_variable` says, which asks the same of its offset. What is no entry of the scope is read by `read_beside`.
+/// Reads a variable: a copy, unless there is none or its cell is held. It is found as `entry_of_variable`
+/// says, which asks the same of its offset. What is no entry of the scope is read by `read_beside`.
 pub fn read_variable<H: Host>(
     alloc: Global,
     offered: &Offered<'_, H>,
@@ -264,7 +266,7 @@ fn copy_variable<H: Host>(
     }
 }
 
-/// Whether a value is the handle of a cell that is held.
+/// Tells whether a value is the handle of a cell that is held.
 fn is_held<H: Host>(cells: &CellStore<H>, value: &Dynamic<H>) -> bool
     ensures held { IsTrue result → (name : List ℕ) → (pos : _) →
         looked_up (cells_of cells.now) name pos value.now.value value.now
@@ -278,15 +280,15 @@ fn is_held<H: Host>(cells: &CellStore<H>, value: &Dynamic<H>) -> bool
     }
 }
 
-/// Whether a new variable of this name is refused: shadowing is off, and the scope has the name.
+/// Tells whether a new variable of this name is refused: shadowing is off, and the scope has the name.
 fn refuses_name<H: Host>(allow_shadowing: bool, scope: &Scope<H>, name: &Shared<Text>) -> bool
     ensures { result ≡ (not allow_shadowing && is_some (index_of name.now (entries_of scope.now))) }
 {
     !allow_shadowing && scope.contains(name.get().as_str())
 }
 
-/// Whether a variable may be declared: its name is free where shadowing is off, and the scope has
-/// room for it, which one that overwrites another does not need.
+/// Checks that a variable may be declared. Its name is free where shadowing is off, and the scope has room
+/// for it, which one that overwrites another does not need.
 ///
 /// # Errors
 /// `ErrorVariableExists` first, then `ErrorTooManyVariables`, both at the statement.
@@ -310,11 +312,10 @@ pub fn may_declare<H: Host>(
     Ok(())
 }
 
-/// The value of a variable, to be changed in place: the one at an offset from the end where that is
-/// given, whatever its name, and else the newest of the name. The scope comes first, so that a clause
-/// can tell what becomes of it: what is written stands at the entry that was found, and every other
-/// entry is as it was. Of a variable that is the handle of a cell the handle is lent. At an
-/// error the scope is as it was.
+/// Lends the value of a variable, to be changed in place. It is the one at an offset from the end where that
+/// is given, whatever its name, and else the newest of the name. The scope comes first, so that a clause can
+/// tell what becomes of it: what is written stands at the entry that was found, and every other entry is as
+/// it was. Of a variable that is the handle of a cell the handle is lent. At an error the scope is as it was.
 ///
 /// # Errors
 /// `ErrorVariableNotFound` where there is none, and `ErrorDataRace` where it is the handle of a cell
@@ -330,9 +331,9 @@ pub fn find_variable<'s, H: Host>(
     ensures* writes_back { sem 𝓛 (lends_variable H.row scope.entry
         (with_value scope.entry.now offset name.now) result) }
     ensures found { IfOk result (λ value. variable_of (cells_of cells.now) name.now pos
-        (found_by offset name.now (entries_of scope.old)) ≡ Ok value.now) }
+        (variable_value offset name.now (entries_of scope.old)) ≡ Ok value.now) }
     ensures missed { IfErr result (λ e. is_out_of_memory e ≡ false →
-        variable_of (cells_of cells.now) name.now pos (found_by offset name.now (entries_of scope.old))
+        variable_of (cells_of cells.now) name.now pos (variable_value offset name.now (entries_of scope.old))
         ≡ Err e) }
 {
     let Some(index) = scope.place_of(offset, name.get().as_str()) else {
@@ -344,7 +345,7 @@ pub fn find_variable<'s, H: Host>(
     Ok(scope.value_at_mut(index))
 }
 
-/// The mode that a `let` or a `const` asks for.
+/// Returns the mode that a `let` or a `const` asks for.
 pub fn mode_of(options: ASTFlags) -> AccessMode
     ensures { result ≡ mode_asked options }
 {
@@ -356,7 +357,7 @@ pub fn mode_of(options: ASTFlags) -> AccessMode
     }
 }
 
-/// Whether a `let` or a `const` exports its variable.
+/// Tells whether a `let` or a `const` exports its variable.
 pub fn is_exported(options: ASTFlags) -> bool
     ensures { result ≡ exported options }
 {

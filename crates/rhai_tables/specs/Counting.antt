@@ -37,10 +37,11 @@ listing = impure (codes "inc") Inc
     ∷ impure (codes "index$set$") (Pairs pairs.SetAt)
     ∷ []
 
+-- the fault of a result that is too large or too small for an integer
 abbrev pub overflow : Response Pair
 overflow = Faults (Arithmetic (codes "integer overflow"))
 
--- one more in the place of the first argument
+-- the first argument becomes one more
 abbrev pub increased : ℤ → Response Pair
 increased n = if fits (n +ℤ pos 1) then Changes datum.Unit (datum.Int (n +ℤ pos 1)) else overflow
 
@@ -54,37 +55,43 @@ counted counter = if fits (counter +ℤ pos 1) then done (Gives (datum.Int count
 
 -- ---- pairs
 
+-- two integers as a pair
 abbrev pub pair_of : (x y : ℤ) → Pair
 pair_of x y = record { 0 = x; 1 = y }
 
--- the pair of two integers
+-- the answer of `pair`: the pair of two integers
 abbrev pub made : (x y : ℤ) → Response Pair
 made x y = Gives (datum.Host (pair_of x y))
 
--- what the getters give
+-- the answer of `get$x`: the first number of a pair
 abbrev pub x_of : Pair → Response Pair
 x_of p = Gives (datum.Int p.0)
 
+-- the answer of `get$y`: the second number of a pair
 abbrev pub y_of : Pair → Response Pair
 y_of p = Gives (datum.Int p.1)
 
+-- the answer of `get$sum`: the sum of a pair's numbers
 abbrev pub sum_of : Pair → Response Pair
 sum_of p = if fits (p.0 +ℤ p.1) then Gives (datum.Int (p.0 +ℤ p.1)) else overflow
 
+-- the answer of `get$list`: an array of a pair's numbers
 abbrev pub list_of : Pair → Response Pair
 list_of p = Gives (datum.Integers (p.0 ∷ p.1 ∷ []))
 
--- another pair in the place of the first argument
+-- the first argument becomes another pair
 abbrev pub becomes : Pair → Response Pair
 becomes p = Changes datum.Unit (datum.Host p)
 
--- a pair with another number, and that of an array of exactly two integers
+-- the pair gets another first number
 abbrev pub with_x : Pair → ℤ → Response Pair
 with_x p n = becomes (pair_of n p.1)
 
+-- the pair gets another second number
 abbrev pub with_y : Pair → ℤ → Response Pair
 with_y p n = becomes (pair_of p.0 n)
 
+-- the pair gets the numbers of an array of exactly two integers
 abbrev pub with_list : List (Dynamic Pair) → Option (Response Pair)
 with_list (a ∷ b ∷ []) = option_map (λ n. becomes (pair_of n.0 n.1)) (both (int_of a.value) (int_of b.value))
 with_list _ = None
@@ -105,7 +112,7 @@ with_number_at p index n =
     else if int_eq index (pos 2) then Some (becomes (pair_of n n))
     else None
 
--- what each does with its arguments
+-- what each native over pairs does with its arguments
 abbrev pub answering_pair : PairNative → List (Union Pair) → Option (Response Pair)
 answering_pair pairs.New given = option_map (λ c. made c.0 c.1) (ints_in given)
 answering_pair pairs.X given = option_map x_of (host_in given)

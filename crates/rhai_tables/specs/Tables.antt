@@ -1,12 +1,13 @@
 -- What the bench's tables answer.
 use Rattle.std.specs.Prelude.{ℕ, List, [], true, refl}
 use Rattle.rhai_state.specs.Native.{Effect, Request, Missing, Natives, Leaves, Lawful, ByState, ByFirst, effect}
-use Rattle.rhai_state.specs.Reach.{Holdings}
+use Rattle.rhai_state.specs.ValueContents.{Holdings}
 
 -- the state of a table that has none
 abbrev pub Stateless : Type 0
 Stateless = Unit {0}
 
+-- the state of a table that has none, as a value
 abbrev pub stateless : Stateless
 stateless = tt
 
@@ -14,10 +15,11 @@ stateless = tt
 abbrev pub missing : {H : Type 0} → Stateless → Request H → Effect Stateless H
 missing s q = effect Missing q.first s
 
--- neither the table nor a value of the host's own holds anything
+-- nothing stands in the table or in a value of the host's own
 abbrev pub nothing : {H : Type 0} → Holdings Stateless H
 nothing = record { of_state = λ s. []; of_host = λ h. [] }
 
+-- the table without natives
 abbrev pub none : {H : Type 0} → Natives Stateless H
 none = record { gives = missing; pure = λ s q. true; holds = nothing }
 

@@ -16,7 +16,7 @@ use rhai_values::cells::CellStore;
 #[derive(Clone, Copy, Debug, PartialEq, Eq)]
 pub struct NoNatives;
 
-fn missing_at(_first: &mut Dynamic<Pair>) -> Answer<Pair>
+fn answer_no_native(_first: &mut Dynamic<Pair>) -> Answer<Pair>
     ensures reply { reply_of result ≡ Some Missing }
     ensures first { _first.new ≡ _first.old }
 {
@@ -41,7 +41,7 @@ impl NativeTable<Pair> for NoNatives {
         _position: Position,
     ) -> Answer<Pair> {
         match first {
-            Some(first) => missing_at(first),
+            Some(first) => answer_no_native(first),
             None => Answer::Missing,
         }
     }
@@ -55,7 +55,7 @@ impl NativeTable<Pair> for NoNatives {
         _position: Position,
     ) -> Answer<Pair> {
         match first {
-            Some(first) => missing_at(first),
+            Some(first) => answer_no_native(first),
             None => Answer::Missing,
         }
     }

@@ -35,8 +35,10 @@ links_same e = fold_out-Expr ℕ (Unit {0}) (Unit {0}) (Unit {0}) (Unit {0}) (Un
 
 -- a block is no chain
 block_links : (block : StmtBlock) → (walk.seen_block sound block).links ≡ 0
-block_links block = ap (λ (s : walk.Seen sound). s.links) (fold_out-StmtBlock (walk.Seen sound) (walk.SeenStmt sound) (walk.SeenConditional sound)
-    (walk.SeenCall sound) (walk.SeenEntry sound) (walk.Seen sound) (walk.expr_step sound) (walk.stmt_step sound) (walk.conditional_step sound)
+block_links block = ap (λ (s : walk.Seen sound). s.links) (fold_out-StmtBlock (walk.Seen sound) (walk.SeenStmt sound)
+    (walk.SeenConditional sound)
+    (walk.SeenCall sound) (walk.SeenEntry sound) (walk.Seen sound) (walk.expr_step sound) (walk.stmt_step sound)
+    (walk.conditional_step sound)
     (walk.call_step sound) (walk.entry_step sound) (walk.block_step sound) block)
 
 -- what is seen of one level

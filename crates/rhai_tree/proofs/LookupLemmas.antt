@@ -186,7 +186,7 @@ module _ (key : List ℕ) where
   not_before : (k : List ℕ) → is_before k key ≡ false → bytes_eq k key ≡ false → is_before key k ≡ true
   not_before k e unequal = ap is_lt (turned_back k key (after k (compare k key) refl e unequal))
 
-  -- a new key at the place where it goes keeps the order
+  -- a new key at the index where it goes keeps the order
   ascends_with : (keys : List (List ℕ)) → is_ascending keys ≡ true →
       ((i : ℕ) (d : List ℕ) → i < length keys → bytes_eq (get_or keys i d) key ≡ false) →
       is_ascending (insert keys (rank key keys) key) ≡ true
@@ -198,7 +198,7 @@ module _ (key : List ℕ) where
         | inr late ↦ rw (insert_first k keys late) (both _ _ (not_before k late (other 0 [] (omega arith))) up)
       ]
 
--- a new key at the place where it goes keeps the order
+-- a new key at the index where it goes keeps the order
 pub insert_ascends : (key : List ℕ) (keys : List (List ℕ)) → is_ascending keys ≡ true → place_of key keys ≡ None →
     is_ascending (insert keys (rank key keys) key) ≡ true
 insert_ascends key keys up absent = ascends_with key keys up (none_passes (λ k. bytes_eq k key) keys absent)

@@ -20,13 +20,17 @@ abbrev pub Verdict : Type 0
 Verdict = walk.SeenStmt sound
 
 -- whether the parts of one level may run
-abbrev pub expr_tests : ExprLayer → layer.Expr-F Tests Verdict (walk.SeenConditional sound) (walk.SeenCall sound) (walk.SeenEntry sound) Tests
-expr_tests = map-Expr Expr Stmt ConditionalExpr FnCallExpr MapEntry StmtBlock Tests Verdict (walk.SeenConditional sound) (walk.SeenCall sound)
+abbrev pub expr_tests : ExprLayer → layer.Expr-F Tests Verdict (walk.SeenConditional sound) (walk.SeenCall sound)
+    (walk.SeenEntry sound) Tests
+expr_tests = map-Expr Expr Stmt ConditionalExpr FnCallExpr MapEntry StmtBlock Tests Verdict (walk.SeenConditional sound)
+    (walk.SeenCall sound)
     (walk.SeenEntry sound) Tests tests_of resolves_stmt (walk.seen_conditional sound) (walk.seen_call sound) (walk.seen_entry sound)
     (walk.seen_block sound)
 
-abbrev pub stmt_tests : StmtLayer → layer.Stmt-F Tests Verdict (walk.SeenConditional sound) (walk.SeenCall sound) (walk.SeenEntry sound) Tests
-stmt_tests = map-Stmt Expr Stmt ConditionalExpr FnCallExpr MapEntry StmtBlock Tests Verdict (walk.SeenConditional sound) (walk.SeenCall sound)
+abbrev pub stmt_tests : StmtLayer → layer.Stmt-F Tests Verdict (walk.SeenConditional sound) (walk.SeenCall sound)
+    (walk.SeenEntry sound) Tests
+stmt_tests = map-Stmt Expr Stmt ConditionalExpr FnCallExpr MapEntry StmtBlock Tests Verdict (walk.SeenConditional sound)
+    (walk.SeenCall sound)
     (walk.SeenEntry sound) Tests tests_of resolves_stmt (walk.seen_conditional sound) (walk.seen_call sound) (walk.seen_entry sound)
     (walk.seen_block sound)
 

@@ -14,27 +14,27 @@ abbrev pub are_blocks : (count : ℕ) → List ℕ → Bool
 are_blocks count [] = false
 are_blocks count (number ∷ numbers) = all_below count (number ∷ numbers)
 
--- the same of each case
+-- each of some cases has numbers, each that of a result
 abbrev pub are_cases : (count : ℕ) → List SwitchCase → Bool
 are_cases count [] = true
 are_cases count (this ∷ cases) = are_blocks count this.blocks && are_cases count cases
 
--- the number of a range
+-- the number of a range's result
 abbrev pub block_of : RangeCase → ℕ
 block_of (ExclusiveInt from to number) = number
 block_of (InclusiveInt from to number) = number
 
--- that of each range is that of a result
+-- the number of each of some ranges is that of a result
 abbrev pub are_ranges : (count : ℕ) → List RangeCase → Bool
 are_ranges count [] = true
 are_ranges count (range ∷ ranges) = nat_lt (block_of range) count && are_ranges count ranges
 
--- so is that of the default, where there is one
+-- the number of the default, where there is one, is that of a result
 abbrev pub is_default : (count : ℕ) → Option ℕ → Bool
 is_default count None = true
 is_default count (Some number) = nat_lt number count
 
--- a value is that of one of some cases
+-- one of some cases has this value
 abbrev pub has_case : Literal → List SwitchCase → Bool
 has_case value [] = false
 has_case value (this ∷ cases) = same_literal value this.value || has_case value cases

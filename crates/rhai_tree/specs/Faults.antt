@@ -5,7 +5,7 @@ use Rattle.rhai_tree.specs.declared.fault.CheckFault.TheVariants.{BadMapKey, Bad
 use Rattle.rhai_tree.specs.declared.fault.CheckFault.TheVariants.{NotAnExpression, QualifiedMethod, NoMemory}
 use Rattle.rhai_tree.specs.Position.{none}
 
--- where a fault stands; want of memory stands nowhere
+-- where a fault stands, which is nowhere where memory ran out
 abbrev pub place_of : CheckFault → Position
 place_of (BadOffset pos) = pos
 place_of (BadImportOffset pos) = pos

@@ -21,7 +21,7 @@ is_eval_call namespace name count = is_unqualified namespace.path && bytes_eq na
 abbrev pub is_exported : ASTFlags → Bool
 is_exported options = bit_and options.0 8 == 8
 
--- a `throw`, which is marked as a `return` with `BREAK`
+-- a `throw`, which is a `return` with the option `BREAK`
 abbrev pub is_throw : ASTFlags → Bool
 is_throw options = bit_and options.0 2 == 2
 
@@ -35,6 +35,7 @@ catch_name (layer.Unit pos) = Some None
 catch_name (layer.Variable offset name namespace pos) = if is_unqualified namespace.path then Some (Some name) else None
 catch_name _ = None
 
+-- the name that an expression declares as a catch variable, if it can be one
 abbrev pub catch_of : Expr → Option (Option Name)
 catch_of e = catch_name (out-Expr e)
 
@@ -43,7 +44,7 @@ abbrev pub name_asked : Option Ident → Name
 name_asked None = []
 name_asked (Some alias) = alias.name
 
--- one of several parts
+-- one of several truth values is true
 abbrev pub any_of : List Bool → Bool
 any_of [] = false
 any_of (part ∷ parts) = part || any_of parts

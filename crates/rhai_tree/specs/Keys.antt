@@ -4,6 +4,7 @@ use Rattle.rhai_tree.specs.Lookup.{place_of, with_entry}
 use Rattle.rhai_tree.specs.Types.{MapEntry}
 use Rattle.rhai_tree.specs.Names.{Name}
 
+-- the key of an entry of a map
 abbrev pub key_of : MapEntry → Name
 key_of entry = entry.key
 

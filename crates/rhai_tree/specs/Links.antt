@@ -5,6 +5,7 @@ use Rattle.rhai_tree.specs.declared.expr.Expr.TheOpen as layer
 use Rattle.rhai_tree.specs.declared.expr.Expr.TheFolds.{fold-Expr}
 use Rattle.rhai_tree.specs.Layers.{ExprLayer}
 
+-- the links of a chain, from those behind its operator; what is no chain has none
 abbrev pub links_step : layer.Expr-F ℕ (Unit {0}) (Unit {0}) (Unit {0}) (Unit {0}) (Unit {0}) → ℕ
 links_step (layer.Index lhs rhs options pos) = 1 + rhs
 links_step (layer.Dot lhs rhs options pos) = 1 + rhs
@@ -15,7 +16,7 @@ abbrev pub links_in : Expr → ℕ
 links_in = fold-Expr ℕ (Unit {0}) (Unit {0}) (Unit {0}) (Unit {0}) (Unit {0}) links_step (λ stmt. tt) (λ conditional. tt) (λ call. tt)
     (λ entry. tt) (λ block. tt)
 
--- the same from one level of the tree
+-- the links of a chain, from one level of the tree; what is no chain has none
 abbrev pub links : ExprLayer → ℕ
 links (layer.Index lhs rhs options pos) = 1 + links_in rhs
 links (layer.Dot lhs rhs options pos) = 1 + links_in rhs

@@ -4,7 +4,7 @@ use Rattle.std.specs.List.{position_or_len}
 use Rattle.std.specs.Str.{bytes_eq}
 use Rattle.rhai_tree.specs.Ascending.{is_before}
 
--- the place of a key
+-- the index of a key, if it is there
 abbrev pub place_of : List ℕ → List (List ℕ) → Option ℕ
 place_of key keys = position (λ k. bytes_eq k key) keys
 
@@ -12,14 +12,15 @@ place_of key keys = position (λ k. bytes_eq k key) keys
 abbrev pub rank : List ℕ → List (List ℕ) → ℕ
 rank key keys = position_or_len (λ k. not (is_before k key)) keys
 
--- the value of a key
+-- the value that a map has for a key, if the key is there
 abbrev pub value_of : {T : Type 0} → List ℕ → List (List ℕ) × List T → Option T
 value_of key t = option_and_then (λ at. slice_get t.1 at) (place_of key t.0)
 
--- a map with a value for a key: in its place where the key is there, else under the new key
+-- a map with a value for a key: at its index where the key is there, else under the new key
 abbrev pub put_at : {T : Type 0} → Option ℕ → List ℕ → T → List (List ℕ) × List T → List (List ℕ) × List T
 put_at (Some at) key x t = (t.0, slice_set t.1 at x)
 put_at None key x t = (insert t.0 (rank key t.0) key, insert t.1 (rank key t.0) x)
 
+-- a map with a value for a key, which replaces the one that it had
 abbrev pub with_entry : {T : Type 0} → List ℕ → T → List (List ℕ) × List T → List (List ℕ) × List T
 with_entry key x t = put_at (place_of key t.0) key x t

@@ -4,10 +4,11 @@ use Rattle.std.specs.Str.{bytes_eq}
 use Rattle.std.specs.Int.NonZero.{non_zero_usize_get}
 use Rattle.std.specs.declared.num.NonZeroUsize.{NonZeroUsize}
 
+-- a name, by the bytes of its text
 abbrev pub Name : Type 0
 Name = List ℕ
 
--- the place found further on, or else this one, where the name stands here
+-- the offset found further on, or else this one, where the name stands here, or else zero
 abbrev pub further : ℕ → Bool → ℕ → ℕ
 further (suc k) test at = suc k
 further zero true at = at
@@ -23,12 +24,12 @@ abbrev pub stands : Name → ℕ → List Name → Bool
 stands name zero names = false
 stands name (suc k) names = nat_eq (offset_of name names) (suc k)
 
--- an offset that is not given, or that is good
+-- an offset is not given, or the newest of the name stands there
 abbrev pub is_good : Option NonZeroUsize → Name → List Name → Bool
 is_good None name names = true
 is_good (Some offset) name names = stands name (non_zero_usize_get offset) names
 
--- so is the index of a path for its root among the imports; an empty path has no root
+-- the index of a path is not given, or the newest import of its root's name stands there; an empty path has no root
 abbrev pub is_good_root : Option NonZeroUsize → (path : List Name) → (imports : List Name) → Bool
 is_good_root index [] imports = true
 is_good_root index (root ∷ path) imports = is_good index root imports
@@ -38,14 +39,15 @@ pub record Frame : Type 0 where
   pub names : List Name
   pub imports : List Name
 
--- with one more variable, and with one more import
+-- a frame with one more variable, the newest
 abbrev pub with_variable : Name → Frame → Frame
 with_variable name frame = record frame { names = frame.names ++ name ∷ [] }
 
+-- a frame with one more import, the newest
 abbrev pub with_import : Name → Frame → Frame
 with_import name frame = record frame { imports = frame.imports ++ name ∷ [] }
 
--- with other names of variables
+-- a frame whose names of variables are changed by a function
 abbrev pub naming : (List Name → List Name) → Frame → Frame
 naming change frame = record frame { names = change frame.names }
 

@@ -12,7 +12,7 @@ use Rattle.rhai_tree.specs.declared.function.ScriptFuncPayload.TheVariants.{Stat
 use Rattle.rhai_tree.specs.Position.{none}
 use Rattle.rhai_tree.specs.Layers.{ExprLayer, StmtLayer}
 
--- an expression's own position: of a chain or an operator call its operator, of another call its name, of a block its opening brace
+-- where an expression stands: a chain or an operator call at its operator, another call at its name, a block at its opening brace
 abbrev pub position_at : ExprLayer → Position
 position_at (layer.DynamicConstant value pos) = pos
 position_at (layer.BoolConstant value pos) = pos
@@ -35,6 +35,7 @@ position_at (layer.And parts pos) = pos
 position_at (layer.Or parts pos) = pos
 position_at (layer.Coalesce parts pos) = pos
 
+-- where a whole expression stands
 abbrev pub position_of : Expr → Position
 position_of e = position_at (out-Expr e)
 
@@ -58,6 +59,7 @@ abbrev pub start_of_call : Option Position → Position → Position
 start_of_call (Some left) pos = left
 start_of_call None pos = pos
 
+-- where an expression's text starts, from where those of its parts do
 abbrev pub start_step : layer.Expr-F Position (Unit {0}) (Unit {0}) (Option Position) (Unit {0}) Position → Position
 start_step (layer.DynamicConstant value pos) = pos
 start_step (layer.BoolConstant value pos) = pos
@@ -80,7 +82,7 @@ start_step (layer.And parts pos) = first_or pos parts
 start_step (layer.Or parts pos) = first_or pos parts
 start_step (layer.Coalesce parts pos) = first_or pos parts
 
--- where an expression's text starts
+-- where the text of a whole expression starts
 abbrev pub start_of : Expr → Position
 start_of = fold-Expr Position (Unit {0}) (Unit {0}) (Option Position) (Unit {0}) Position
     start_step
@@ -95,7 +97,7 @@ abbrev pub first_shared : List SharedVariable → Position
 first_shared [] = none
 first_shared (variable ∷ variables) = variable.ident.pos
 
--- a statement's position: its first token
+-- where a statement stands: at its first token
 abbrev pub stmt_position_at : StmtLayer → Position
 stmt_position_at (layer.Noop pos) = pos
 stmt_position_at (layer.Expr expr) = start_of expr
@@ -115,12 +117,14 @@ stmt_position_at (layer.Import expr alias pos) = pos
 stmt_position_at (layer.Export name alias pos) = pos
 stmt_position_at (layer.Share variables) = first_shared variables
 
+-- where a whole statement stands
 abbrev pub stmt_position_of : Stmt → Position
 stmt_position_of s = stmt_position_at (out-Stmt s)
 
--- where a function's body starts and ends
+-- where a function's body starts: at its opening brace
 abbrev pub start_of_payload : ScriptFuncPayload → Position
 start_of_payload (Statements block) = block.position
 
+-- where a function's body ends: at its closing brace
 abbrev pub end_of_payload : ScriptFuncPayload → Position
 end_of_payload (Statements block) = block.end_position

@@ -17,8 +17,7 @@ use Rattle.rhai_tree.specs.Links.{is_counted}
 use Rattle.rhai_tree.specs.Names.{Frame, Name, is_good, is_good_root, with_import, with_variable}
 use Rattle.rhai_tree.specs.Positions.{first_or, start_of_name, start_of_operands, start_of_call}
 
--- A way of reading a tree: what it keeps of what surrounds a form, what it gathers of a form's parts, and what it finds of how many links
--- a chain has.
+-- a way of reading a tree: what it keeps of what surrounds a form, and what it finds of faults, of parts and of a chain's links
 pub record Reading : Type 1 where
   pub Around : Type 0
   pub names : Around → List Name
@@ -35,7 +34,7 @@ pub record Reading : Type 1 where
   pub fault : CheckFault → Found
   pub counted : (links : ℕ) → Found
 
--- the faults that stand, in the order of the tree; that a chain is long is none
+-- the reading for the faults that stand, in the order of the tree; a chain may have any number of links
 abbrev pub faulty : Reading
 faulty = record {
   Around = Context;
@@ -54,7 +53,7 @@ faulty = record {
   counted = λ links. [];
 }
 
--- whether none stands above a frame, wherever the form is, and a list counts the links of each chain
+-- the reading for whether no fault stands above a frame, wherever the form is, and a list counts the links of each chain
 abbrev pub sound : Reading
 sound = record {
   Around = Frame;
@@ -116,9 +115,11 @@ module _ (r : Reading) where
   abbrev pub SeenConditional : Type 0
   SeenConditional = Finds
 
+  -- the key that is seen of an entry
   abbrev pub key_in : SeenEntry → Name
   key_in entry = entry.key
 
+  -- where an expression is seen to start
   abbrev pub start_in : Seen → Position
   start_in seen = seen.start
 
@@ -126,11 +127,11 @@ module _ (r : Reading) where
   abbrev pub nothing : Finds
   nothing c = r.none
 
-  -- a form that starts where it stands, and is no place, no chain and no catch variable
+  -- a form that starts where it stands, may not be assigned to, and is no chain and no catch variable
   abbrev pub plain : Position → Finds → Seen
   plain pos value = record { start = pos; pos = pos; is_place = false; links = 0; value = value; link = IndexAlone; catch = None }
 
-  -- variables, `this` and chains from them are places, and nothing else is
+  -- a variable or `this`, which may be assigned to
   abbrev pub place : Position → Finds → Seen
   place pos value = record (plain pos value) { is_place = true }
 
@@ -138,18 +139,18 @@ module _ (r : Reading) where
   abbrev pub from : (start : Position) → Seen → Seen
   from start seen = record seen { start = start }
 
-  -- a property or a method is no expression by itself
+  -- a property or a method, which is no expression by itself
   abbrev pub named : (is_method : Bool) → Position → Finds → Seen
   named is_method pos value = record (plain pos (λ c. r.fault (NotAnExpression pos))) { link = Named is_method value }
 
   -- ---- chains
 
-  -- as a property or a method
+  -- what is found of an expression as a property or a method, if it is one
   abbrev pub named_in : Link → Option Finds
   named_in (Named is_method value) = Some value
   named_in _ = None
 
-  -- a variable or `this`, which a chain that is assigned to starts from
+  -- a chain that starts from this may be assigned to: it is a variable or `this`
   abbrev pub is_root : (is_place : Bool) → Link → Bool
   is_root true IndexAlone = true
   is_root _ _ = false
@@ -159,23 +160,24 @@ module _ (r : Reading) where
   found_behind_bracket false (GoesOn first named behind ends_in_method) value c = r.both (first c) (behind c)
   found_behind_bracket _ _ value c = value c
 
-  -- behind a dot stands a property or a method, or a chain that goes on from one
+  -- behind a dot: a property or a method, and what is behind it; anything else is a fault
   abbrev pub found_from_name : Option Finds → (behind : Finds) → Position → Finds
   found_from_name (Some value) behind pos c = r.both (value c) (behind c)
   found_from_name None behind pos c = r.fault (BadChain pos)
 
+  -- behind a dot stands a property or a method, or a chain that goes on from one
   abbrev pub found_behind_dot : (ends : Bool) → Link → Position → Finds
   found_behind_dot ends (Named is_method value) pos c = value c
   found_behind_dot false (GoesOn first named behind ends_in_method) pos c = found_from_name named behind pos c
   found_behind_dot _ _ pos c = r.fault (BadChain pos)
 
-  -- a chain that ends in a method
+  -- a chain ends in a method: behind its dot stands one, or a chain that goes on and ends in one
   abbrev pub method_ends : (ends : Bool) → Link → Bool
   method_ends ends (Named is_method value) = is_method
   method_ends false (GoesOn first named behind ends_in_method) = ends_in_method
   method_ends _ _ = false
 
-  -- of an index only the chain that goes on can
+  -- a chain ends in a method: behind its bracket stands a chain that goes on and ends in one
   abbrev pub index_ends : (ends : Bool) → Link → Bool
   index_ends false (GoesOn first named behind ends_in_method) = ends_in_method
   index_ends _ _ = false
@@ -192,7 +194,7 @@ module _ (r : Reading) where
     catch = None;
   }
 
-  -- the left side of an assignment is a place
+  -- the left side of an assignment, which may be assigned to
   abbrev pub found_in_target : Seen → Finds
   found_in_target lhs c = if lhs.is_place then lhs.value c else r.both (r.fault (BadAssignment lhs.start)) (lhs.value c)
 
@@ -215,6 +217,7 @@ module _ (r : Reading) where
   abbrev pub found_in_keys : Bool → Position → Finds
   found_in_keys good pos c = if good then r.none else r.fault (BadMapKey pos)
 
+  -- a map: its keys, and the values of its entries
   abbrev pub found_in_map : List SeenEntry → (template : List Name) → Position → Finds
   found_in_map entries template pos c =
       r.both (found_in_keys (are_keys (map key_in entries) template) pos c) (found_in_entries entries c)
@@ -234,12 +237,12 @@ module _ (r : Reading) where
   found_in_namespace namespace c =
       if r.in_imports namespace.index namespace.path c then r.none else r.fault (BadImportOffset namespace.position)
 
-  -- a variable's path, and its offset, which is among the names before it; a name behind a path stands in a module, and has none
+  -- a variable's path, and its offset, which is among the names before it; one behind a path stands in a module, and has no offset
   abbrev pub found_in_variable : Option NonZeroUsize → Name → Namespace → Position → Finds
   found_in_variable offset name namespace pos c = r.both (found_in_namespace namespace c)
       (found_at_offset offset name pos (if is_unqualified namespace.path then r.names c else []))
 
-  -- so is that of each variable that closures share
+  -- among some names the offset of each variable that closures share is that of the newest of its name
   abbrev pub found_in_shared : List SharedVariable → List Name → r.Found
   found_in_shared [] names = r.none
   found_in_shared (variable ∷ variables) names =
@@ -253,7 +256,7 @@ module _ (r : Reading) where
   abbrev pub found_in_cases : Bool → Position → Finds
   found_in_cases good pos c = if good then r.none else r.fault (BadSwitch pos)
 
-  -- its conditions and results, each looked at once
+  -- the conditions of a `switch` and their results, each looked at once
   abbrev pub found_in_conditionals : List SeenConditional → Finds
   found_in_conditionals [] c = r.none
   found_in_conditionals (part ∷ parts) c = r.both (part c) (found_in_conditionals parts c)
@@ -267,6 +270,7 @@ module _ (r : Reading) where
   after None c = c
   after (Some name) c = r.declaring name c
 
+  -- the name of an identifier
   abbrev pub name_in : Ident → Name
   name_in ident = ident.name
 
@@ -279,11 +283,12 @@ module _ (r : Reading) where
   found_in_catch_variable (Some name) pos = r.none
   found_in_catch_variable None pos = r.fault (BadCatch pos)
 
-  -- what surrounds its branch, for which alone it declares its name
+  -- what surrounds the branch of a catch variable, for which alone it declares its name
   abbrev pub after_catch : (catch : Option (Option Name)) → r.Around → r.Around
   after_catch (Some name) c = after name c
   after_catch None c = c
 
+  -- a catch variable, and its branch behind it
   abbrev pub found_in_catch : (catch : Option (Option Name)) → Position → (branch : Finds) → Finds
   found_in_catch catch pos branch c = r.both (found_in_catch_variable catch pos) (branch (after_catch catch c))
 
@@ -297,7 +302,7 @@ module _ (r : Reading) where
   found_in_var index ident expr options pos c = r.both (found_in_export (r.in_top c) options pos)
       (r.both (found_at_offset index ident.name ident.pos (r.names c)) (expr.value c))
 
-  -- what surrounds the next statement: only a variable that overwrites none declares its name
+  -- what surrounds the statement after a declaration: only a variable that overwrites none declares its name
   abbrev pub after_var : Option NonZeroUsize → Name → r.Around → r.Around
   after_var None name c = r.declaring name c
   after_var (Some offset) name c = c
@@ -328,9 +333,11 @@ module _ (r : Reading) where
   form_step (layer.Or parts pos) = from (first_or pos (map start_in parts)) (plain pos (found_in_all parts))
   form_step (layer.Coalesce parts pos) = from (first_or pos (map start_in parts)) (plain pos (found_in_all parts))
 
+  -- an expression as its form is written, with what it declares as a catch variable
   abbrev pub expr_step : layer.Expr-F Seen SeenStmt SeenConditional SeenCall SeenEntry Seen → Seen
   expr_step form = record (form_step form) { catch = catch_name form }
 
+  -- a call and its arguments: the index of a path is good, `eval` is not called by its name, and a method has no path
   abbrev pub call_step : layer.FnCallExpr-F Seen SeenStmt SeenConditional SeenCall SeenEntry Seen → SeenCall
   call_step call = record {
     operand = start_of_operands call.op_token (map start_in call.args);
@@ -340,9 +347,11 @@ module _ (r : Reading) where
     method = λ pos c. if is_unqualified call.namespace.path then found_in_all call.args c else r.fault (QualifiedMethod pos);
   }
 
+  -- an entry of a map: its key, and what is found of its value
   abbrev pub entry_step : layer.MapEntry-F Seen SeenStmt SeenConditional SeenCall SeenEntry Seen → SeenEntry
   entry_step entry = record { key = entry.key; value = entry.value.value }
 
+  -- a condition of a `switch`, and then its result
   abbrev pub conditional_step : layer.ConditionalExpr-F Seen SeenStmt SeenConditional SeenCall SeenEntry Seen → SeenConditional
   conditional_step conditional c = r.both (conditional.condition.value c) (conditional.expr.value c)
 
@@ -350,6 +359,7 @@ module _ (r : Reading) where
   abbrev pub block_step : layer.StmtBlock-F Seen SeenStmt SeenConditional SeenCall SeenEntry Seen → Seen
   block_step block = plain block.position (λ c. (found_in_list block.statements (r.inside c)).0)
 
+  -- a statement as its form is written, and what surrounds the next one
   abbrev pub stmt_step : layer.Stmt-F Seen SeenStmt SeenConditional SeenCall SeenEntry Seen → SeenStmt
   stmt_step (layer.Noop pos) c = (r.none, c)
   stmt_step (layer.Expr expr) c = (expr.value c, c)
@@ -372,26 +382,32 @@ module _ (r : Reading) where
   stmt_step (layer.Export name alias pos) c = (r.none, c)
   stmt_step (layer.Share variables) c = (found_in_shared variables (r.names c), c)
 
+  -- what is seen of a whole expression
   abbrev pub seen_expr : Expr → Seen
   seen_expr = fold-Expr Seen SeenStmt SeenConditional SeenCall SeenEntry Seen expr_step stmt_step conditional_step call_step entry_step
       block_step
 
+  -- what is seen of a whole call
   abbrev pub seen_call : FnCallExpr → SeenCall
   seen_call = fold-FnCallExpr Seen SeenStmt SeenConditional SeenCall SeenEntry Seen expr_step stmt_step conditional_step call_step
       entry_step block_step
 
+  -- what is seen of a whole block
   abbrev pub seen_block : StmtBlock → Seen
   seen_block = fold-StmtBlock Seen SeenStmt SeenConditional SeenCall SeenEntry Seen expr_step stmt_step conditional_step call_step
       entry_step block_step
 
+  -- what is seen of a whole statement
   abbrev pub seen_stmt : Stmt → SeenStmt
   seen_stmt = fold-Stmt Seen SeenStmt SeenConditional SeenCall SeenEntry Seen expr_step stmt_step conditional_step call_step entry_step
       block_step
 
+  -- what is found of a whole condition of a `switch` and its result
   abbrev pub seen_conditional : ConditionalExpr → SeenConditional
   seen_conditional = fold-ConditionalExpr Seen SeenStmt SeenConditional SeenCall SeenEntry Seen expr_step stmt_step conditional_step
       call_step entry_step block_step
 
+  -- what is seen of a whole entry of a map
   abbrev pub seen_entry : MapEntry → SeenEntry
   seen_entry = fold-MapEntry Seen SeenStmt SeenConditional SeenCall SeenEntry Seen expr_step stmt_step conditional_step call_step
       entry_step block_step

@@ -8,13 +8,13 @@ use Rattle.rhai_tree.specs.declared.literal.Literal.TheOpen as literal
 use Rattle.rhai_tree.specs.declared.literal.Literal.TheFolds.{fold-Literal}
 use Rattle.rhai_tree.specs.declared.literal.LiteralFnPtr.{LiteralFnPtr}
 
--- each test holds at its place, and there are as many values
+-- each value passes the test at its index, and there are as many tests
 abbrev pub each : {A : Type 0} → List (A → Bool) → List A → Bool
 each [] [] = true
 each (test ∷ tests) (v ∷ values) = test v && each tests values
 each _ _ = false
 
--- a kind of constant with tests for what it holds, and another constant, one level of it
+-- one level of a constant, with tests for what it contains, and one of another: one kind, whose content passes the tests
 abbrev pub same_kind : literal.Literal-F (Literal → Bool) Unit → literal.Literal-F Literal LiteralFnPtr → Bool
 same_kind literal.Unit literal.Unit = true
 same_kind (literal.Bool x) (literal.Bool y) = beq x y
@@ -28,6 +28,6 @@ same_kind (literal.Blob x) (literal.Blob y) = bytes_eq x y
 same_kind (literal.Map tests) (literal.Map values) = each (map bytes_eq tests.0) values.0 && each tests.1 values.1
 same_kind _ _ = false
 
--- two constants are one value; a pointer is the same as nothing
+-- two constants are one value; a pointer equals no constant
 abbrev pub same_literal : Literal → Literal → Bool
 same_literal = fold-Literal (Literal → Bool) Unit (λ l other. same_kind l (out-Literal other)) (λ _. tt)

@@ -8,7 +8,7 @@ use Rattle.rhai_tree.specs.declared.function.ScriptFuncPayload.{ScriptFuncPayloa
 use Rattle.rhai_tree.specs.declared.function.ScriptFuncPayload.TheVariants.{Statements}
 use Rattle.rhai_tree.specs.Position.{none}
 
--- who may call it: only what is private says so
+-- who may call a function: only a private one says so
 abbrev pub access_text : FnAccess → List ℕ
 access_text Private = codes "private "
 access_text Public = []

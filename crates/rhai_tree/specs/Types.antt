@@ -1,4 +1,4 @@
--- The types that the definitions here speak of, from one place.
+-- The types that the definitions here speak of, in one file.
 pub use Rattle.rhai_tree.specs.declared.fault.CheckFault.{CheckFault}
 pub use Rattle.rhai_tree.specs.declared.expr.ConditionalExpr.{ConditionalExpr}
 pub use Rattle.rhai_tree.specs.declared.expr.Expr.{Expr}

@@ -32,14 +32,14 @@ impl<T> Boxed<T> {
         Ok(Boxed { inner })
     }
 
-    /// The value.
+    /// Lends the value.
     pub fn get(&self) -> &T
         ensures { result.now ≡ self.now }
     {
         &self.inner
     }
 
-    /// The value, to be changed in place.
+    /// Lends the value, to be changed in place.
     pub fn get_mut(&mut self) -> &mut T
         ensures* writes_back { sem 𝓛 (Lends (the_row T.row) T.row self.entry result (λ w. w)) }
         ensures value { result.now ≡ self.old }

@@ -33,7 +33,7 @@ impl Model for CheckedFn {
 }
 
 impl CheckedFn {
-    /// A function that is well formed; the checker alone calls this.
+    /// Wraps a function that is well formed. The checker alone calls this.
     pub fn new(def: ScriptFuncDef) -> CheckedFn
         requires formed { IsFormedFunction def }
         requires resolves { ResolvesFunction def }
@@ -42,7 +42,7 @@ impl CheckedFn {
         CheckedFn { def }
     }
 
-    /// The function.
+    /// Lends the function.
     pub fn def(&self) -> &ScriptFuncDef
         ensures value { result.now ≡ self.now }
         ensures formed { IsFormedFunction self.now }
@@ -80,7 +80,7 @@ impl Model for CheckedTree {
 }
 
 impl CheckedTree {
-    /// A tree that is well formed, with its functions; the checker alone calls this.
+    /// Wraps a tree that is well formed, with its functions. The checker alone calls this.
     pub fn new(statements: Items<Stmt>, functions: Items<Shared<CheckedFn>>) -> CheckedTree
         requires formed { IsFormed statements }
         requires functions_formed { AreFormed functions }
@@ -93,7 +93,7 @@ impl CheckedTree {
         }
     }
 
-    /// The statements at the top.
+    /// Lends the statements at the top.
     pub fn statements(&self) -> &[Stmt]
         ensures value { result.now ≡ self.now.0 }
         ensures formed { IsFormed self.now.0 }
@@ -102,7 +102,7 @@ impl CheckedTree {
         self.statements.as_slice()
     }
 
-    /// The functions.
+    /// Lends the functions.
     pub fn functions(&self) -> &[Shared<CheckedFn>]
         ensures value { result.now ≡ self.now.1 }
         ensures formed { AreFormed self.now.1 }

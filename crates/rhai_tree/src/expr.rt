@@ -47,7 +47,7 @@ pub enum Expr {
     Unit(Position),
     InterpolatedString(Items<Expr>, Position),
     Array(Items<Expr>, Position),
-    /// The entries, and a template of the map that holds their keys.
+    /// The entries, and a template of the map that has their keys.
     Map(Items<MapEntry>, Table<Literal>, Position),
     ThisPtr(Position),
     Variable {
@@ -112,8 +112,8 @@ impl Drop for Expr {
 }
 
 impl Expr {
-    /// Where the expression stands: of a chain or an operator call its operator, of another call
-    /// its name, of a block its opening brace. Ports upstream's `Expr::position`.
+    /// Finds where the expression stands. A chain or an operator call stands at its operator,
+    /// another call at its name, a block at its opening brace. Ports upstream's `Expr::position`.
     pub fn position(&self) -> Position
         ensures { result ≡ position_of self.now }
     {
@@ -141,9 +141,9 @@ impl Expr {
         }
     }
 
-    /// Where the expression's text starts: a chain, an operator between two operands and the
-    /// operators over lists start at their first operand, a qualified variable at its path.
-    /// Ports upstream's `Expr::start_position`.
+    /// Finds where the expression's text starts. A chain, an operator between two operands and the
+    /// operators over lists start at their first operand, a qualified variable at its path. Ports
+    /// upstream's `Expr::start_position`.
     pub fn start_position(&self) -> Position
         ensures { result ≡ start_of self.now }
     {
@@ -338,8 +338,9 @@ impl Drop for Stmt {
 }
 
 impl Stmt {
-    /// Where the statement starts: of an expression or an assignment the start of its text, of
-    /// `Share` its first name, none where it has no names. Ports upstream's `Stmt::position`.
+    /// Finds where the statement starts. An expression or an assignment starts where its text does,
+    /// `Share` at its first name, or nowhere where it has no names. Ports upstream's
+    /// `Stmt::position`.
     pub fn position(&self) -> Position
         ensures { result ≡ stmt_position_of self.now }
     {

@@ -39,7 +39,7 @@ pub enum CheckFault {
 }
 
 impl CheckFault {
-    /// Where the fault stands; nowhere for want of memory.
+    /// Tells where the fault stands, which is nowhere where memory ran out.
     pub fn position(&self) -> Position
         ensures { result ≡ place_of self.now }
     {

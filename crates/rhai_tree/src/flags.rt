@@ -10,9 +10,9 @@ pub struct ASTFlags(u8);
 
 bitflag_items! {
     impl ASTFlags: u8 {
-        /// A chain's link that stops at `()`; `until` in place of `while` in a `do`.
+        /// A chain's link that stops at `()`; `until` instead of `while` in a `do`.
         const NEGATED = 1;
-        /// The end of a chain; `break` in place of `continue`; `throw` in place of `return`.
+        /// The end of a chain; `break` instead of `continue`; `throw` instead of `return`.
         const BREAK = 2;
         /// A constant.
         const CONSTANT = 4;

@@ -26,7 +26,7 @@ pub enum ScriptFuncPayload {
 }
 
 impl ScriptFuncPayload {
-    /// Where it starts: of statements their opening brace.
+    /// Tells where the body starts. Statements start at their opening brace.
     pub fn start_position(&self) -> Position
         ensures { result ≡ start_of_payload self.now }
     {
@@ -35,7 +35,7 @@ impl ScriptFuncPayload {
         }
     }
 
-    /// Where it ends: of statements their closing brace.
+    /// Tells where the body ends. Statements end at their closing brace.
     pub fn end_position(&self) -> Position
         ensures { result ≡ end_of_payload self.now }
     {
@@ -44,7 +44,7 @@ impl ScriptFuncPayload {
         }
     }
 
-    /// No statements, and no positions.
+    /// Makes a body without statements and without positions.
     fn empty(alloc: Global) -> ScriptFuncPayload
         ensures { result ≡ empty_body }
     {
@@ -81,8 +81,8 @@ impl Drop for ScriptFuncDef {
 }
 
 impl ScriptFuncDef {
-    /// The same function with an empty body, which has no positions. Its texts are shared. Ports upstream's
-    /// `ScriptFuncDef::clone_function_signatures`.
+    /// Copies the function with an empty body, which has no positions. Its texts are shared. Ports
+    /// upstream's `ScriptFuncDef::clone_function_signatures`.
     pub fn clone_function_signatures(&self, alloc: Global) -> Result<ScriptFuncDef, AllocError>
         ensures body { IfOk result (λ copy. copy.body ≡ empty_body) }
         ensures name { IfOk result (λ copy. copy.name ≡ self.now.name) }
@@ -103,7 +103,7 @@ impl ScriptFuncDef {
     }
 }
 
-/// The same texts, each with another owner.
+/// Shares each text of a list with another owner.
 fn share_texts(alloc: Global, texts: &[Shared<Text>]) -> Result<Items<Shared<Text>>, AllocError>
     ensures { IfOk result (λ shared. shared ≡ texts.now) }
 {

@@ -28,7 +28,7 @@ impl<T> Model for Items<T> {
 }
 
 impl<T> Items<T> {
-    /// The empty list. It takes no memory.
+    /// Makes the empty list. It takes no memory.
     pub fn new(alloc: Global) -> Items<T>
         ensures { result ≡ [] }
     {
@@ -37,14 +37,14 @@ impl<T> Items<T> {
         }
     }
 
-    /// The same list, without a copy.
+    /// Turns a `Vec` into a list, without a copy.
     pub fn from_vec(items: Vec<T>) -> Items<T>
         ensures { result ≡ items.items }
     {
         Items { items }
     }
 
-    /// The same list, without a copy.
+    /// Turns the list into a `Vec`, without a copy.
     pub fn into_vec(self) -> Vec<T>
         ensures { result.items ≡ self }
     {
@@ -52,19 +52,19 @@ impl<T> Items<T> {
         items
     }
 
-    /// The allocator that the list was made with.
+    /// Returns the allocator that the list was made with.
     pub fn allocator(&self) -> Global {
         *self.items.allocator()
     }
 
-    /// The items.
+    /// Lends the items.
     pub fn as_slice(&self) -> &[T]
         ensures { result.now ≡ self.now }
     {
         self.items.as_slice()
     }
 
-    /// The items, to be changed in place.
+    /// Lends the items, to be changed in place.
     pub fn as_mut_slice(&mut self) -> &mut [T]
         ensures* writes_back { sem 𝓛 (Lends (the_row T.row) (Array T.row 0) self.entry result
             (λ w. take (length self.old) (w ++ drop (length w) self.old))) }
@@ -73,7 +73,7 @@ impl<T> Items<T> {
         self.items.as_mut_slice()
     }
 
-    /// The item at an index, to be changed in place.
+    /// Lends the item at an index, to be changed in place.
     pub fn at_mut(&mut self, at: usize) -> &mut T
         requires { at < length self.old }
         ensures* writes_back { sem 𝓛 (Lends (the_row T.row) T.row self.entry result
@@ -83,21 +83,21 @@ impl<T> Items<T> {
         &mut self.items[at]
     }
 
-    /// How many items there are.
+    /// Counts the items.
     pub fn len(&self) -> usize
         ensures { result ≡ length self.now }
     {
         self.items.len()
     }
 
-    /// Whether there is no item.
+    /// Tells whether there is no item.
     pub fn is_empty(&self) -> bool
         ensures { IsTrue result ↔ (self.now ≡ []) }
     {
         self.items.is_empty()
     }
 
-    /// The item at an index, if there is one.
+    /// Finds the item at an index, if there is one.
     pub fn get(&self, at: usize) -> Option<&T>
         ensures value { option_copied result ≡ slice_get self.now at }
         ensures within { OnSome result (at < length self.now) }
@@ -161,7 +161,7 @@ impl<T: Drop> Items<T> {
         self.items.truncate(count);
     }
 
-    /// Puts an item in the place of another.
+    /// Replaces the item at an index by another.
     pub fn set(&mut self, at: usize, item: T)
         requires { at < length self.old }
         ensures { self.new ≡ slice_set self.old at item }
@@ -180,7 +180,7 @@ impl<T: Drop> Items<T> {
 }
 
 impl<T: Copy> Items<T> {
-    /// A copy of a list.
+    /// Copies a slice into a list.
     pub fn from_slice(alloc: Global, items: &[T]) -> Result<Items<T>, AllocError>
         ensures { IfOk result (λ it. it ≡ items.now) }
     {

@@ -1,6 +1,7 @@
-//! The tree of a script, what makes it well formed and what passed; and the containers it is made of, which contracts see as
-//! what they hold: a list as its items, a text as its bytes, a shared or boxed value as the value. Two values that differ only
-//! in capacity or address are equal, so trees and values made of these containers are plain data to a proof.
+//! The tree of a script, what makes it well formed and what passed; and the containers it is made of, which
+//! contracts see as what they contain: a list as its items, a text as its bytes, a shared or boxed value as
+//! the value. Two values that differ only in capacity or address are equal, so trees and values made of these
+//! containers are plain data to a proof.
 #![tactic(auto)]
 
 mod boxed;

@@ -50,7 +50,7 @@ pub enum LiteralFnPtrKind {
     Native(NativeId),
 }
 
-/// Whether two constants are one value, by type and content. A pointer is the same as nothing.
+/// Tells whether two constants are one value, by type and content. A pointer equals no constant.
 #[cycle(same)]
 pub fn same_literal(this: &Literal, that: &Literal) -> bool
     ensures { result ≡ same_literal this.now that.now }
@@ -87,7 +87,7 @@ fn all_same(these: &[Literal], those: &[Literal]) -> bool
     true
 }
 
-/// Whether two lists of texts are the same.
+/// Tells whether two lists of texts are the same.
 fn same_texts(these: &[Shared<Text>], those: &[Shared<Text>]) -> bool
     ensures { result ≡ each (map bytes_eq these.now) those.now }
 {
@@ -102,7 +102,7 @@ fn same_texts(these: &[Shared<Text>], those: &[Shared<Text>]) -> bool
     true
 }
 
-/// Whether two texts are the same.
+/// Tells whether two texts are the same.
 fn same_text(this: &Shared<Text>, that: &Shared<Text>) -> bool
     ensures { result ≡ bytes_eq this.now that.now }
 {

@@ -1,13 +1,13 @@
 //! Where something stands in a script's text.
 
 ghost use Rattle.std.specs.Prelude.{◌≡◌, ◌≢◌, ◌==◌, IsTrue, ◌↔◌, Some};
-ghost use Rattle.rhai_tree.specs.Position.{at, none, number_of, place_text};
+ghost use Rattle.rhai_tree.specs.Position.{at, none, number_of, position_text};
 
 use std::fmt;
 use std::fmt::{Display, Formatter, Write};
 
-/// A place in a script's text: a line and a position in it, both counted from 1, or no place.
-/// Ports upstream's `Position`.
+/// Where something stands in a script's text: a line and a position in it, both counted from 1, or
+/// nowhere. Ports upstream's `Position`.
 #[derive(Clone, Copy, Debug, PartialEq, Eq)]
 pub struct Position {
     line: u16,
@@ -15,10 +15,10 @@ pub struct Position {
 }
 
 impl Position {
-    /// No place.
+    /// No position.
     pub const NONE: Position = Position { line: 0, pos: 0 };
 
-    /// The place at a line and a position.
+    /// Makes the position at a line and a position in it.
     pub fn new(line: u16, position: u16) -> Position
         requires line { line ≢ 0 }
         requires position { position ≢ 0 }
@@ -30,14 +30,14 @@ impl Position {
         }
     }
 
-    /// Whether this is no place.
+    /// Tells whether this is no position.
     pub fn is_none(self) -> bool
         ensures { result ≡ (self.line == 0) }
     {
         self.line == 0
     }
 
-    /// The line, counted from 1, or `None` for no place.
+    /// Returns the line, counted from 1, or `None` for no position.
     pub fn line(self) -> Option<u16>
         ensures { result ≡ number_of self.line }
     {
@@ -48,7 +48,7 @@ impl Position {
         }
     }
 
-    /// The position in the line, counted from 1, or `None` for no place.
+    /// Returns the position in the line, counted from 1, or `None` for no position.
     pub fn position(self) -> Option<u16>
         ensures { result ≡ number_of self.pos }
     {
@@ -58,7 +58,7 @@ impl Position {
 
 /// `line 1, position 3`, or `none`. In the manner of upstream's `Display` of `Position`.
 impl Display for Position {
-    ghost output = { λ p. Some (place_text p) };
+    ghost output = { λ p. Some (position_text p) };
 
     fn fmt<W: Write>(&self, f: &mut Formatter<W>) -> fmt::Result {
         if self.line == 0 {

@@ -21,7 +21,7 @@ impl<T> Model for Shared<T> {
 }
 
 impl<T> Shared<T> {
-    /// The value.
+    /// Lends the value.
     pub fn get(&self) -> &T
         ensures { result.now ≡ self.now }
     {
@@ -39,8 +39,8 @@ impl<T: Drop> Shared<T> {
         })
     }
 
-    /// Another owner of the same value. It copies nothing, and fails only where there are too
-    /// many owners to count.
+    /// Gives the value another owner. It copies nothing, and fails only where there are too many
+    /// owners to count.
     pub fn share(&self) -> Result<Shared<T>, AllocError>
         ensures { IfOk result (λ b. b ≡ self.now) }
     {

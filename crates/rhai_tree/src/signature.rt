@@ -12,12 +12,12 @@ use crate::{Shared, Text};
 use std::fmt;
 use std::fmt::{Formatter, Write};
 
-/// The name of a parameter, as a list of parameters holds it.
+/// The name of a parameter, as a list of parameters has it.
 pub trait ParamName {
     /// The bytes of the name.
     ghost bytes_of: { Self → List ℕ };
 
-    /// The name.
+    /// Lends the name.
     fn as_name(&self) -> &str
         ensures { result.now ≡ bytes_of self.now };
 }
@@ -38,8 +38,8 @@ impl ParamName for &str {
     }
 }
 
-/// Writes a function without its body: `private ` where it is private, the type that its `this` must have,
-/// in quotes, with a dot behind it, its name, and its parameters in round brackets.
+/// Writes a function without its body. This is `private ` where it is private, the type that its `this`
+/// must have, in quotes, with a dot behind it, its name, and its parameters in round brackets.
 pub fn write_signature<P: ParamName, W: Write>(
     access: FnAccess,
     this_type: Option<&str>,

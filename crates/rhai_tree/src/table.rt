@@ -35,7 +35,7 @@ impl<T> Model for Table<T> {
 }
 
 impl<T> Table<T> {
-    /// The empty map. It takes no memory.
+    /// Makes the empty map. It takes no memory.
     pub fn new(alloc: Global) -> Table<T>
         ensures { result ≡ ([], []) }
     {
@@ -45,7 +45,7 @@ impl<T> Table<T> {
         }
     }
 
-    /// How many entries there are.
+    /// Counts the entries.
     pub fn len(&self) -> usize
         ensures keys { result ≡ length self.now.0 }
         ensures values { result ≡ length self.now.1 }
@@ -53,7 +53,7 @@ impl<T> Table<T> {
         self.keys.len()
     }
 
-    /// The keys, in order.
+    /// Lends the keys, in order.
     pub fn keys(&self) -> &[Shared<Text>]
         ensures value { result.now ≡ self.now.0 }
         ensures ascending { IsTrue (is_ascending self.now.0) }
@@ -61,7 +61,7 @@ impl<T> Table<T> {
         self.keys.as_slice()
     }
 
-    /// The values, in the order of their keys.
+    /// Lends the values, in the order of their keys.
     pub fn values(&self) -> &[T]
         ensures value { result.now ≡ self.now.1 }
         ensures as_many { length result.now ≡ length self.now.0 }
@@ -69,7 +69,7 @@ impl<T> Table<T> {
         self.values.as_slice()
     }
 
-    /// The values, in the order of their keys, to be changed in place.
+    /// Lends the values, in the order of their keys, to be changed in place.
     pub fn values_mut(&mut self) -> &mut [T]
         ensures* writes_back { sem 𝓛 (Lends (the_row T.row) (Array T.row 0) self.entry result
             (λ w. (self.old.0, take (length self.old.1) (w ++ drop (length w) self.old.1)))) }
@@ -78,7 +78,7 @@ impl<T> Table<T> {
         self.values.as_mut_slice()
     }
 
-    /// Other values under the same keys.
+    /// Makes a map of other values under the same keys.
     pub fn with_values<U: Drop>(
         &self,
         alloc: Global,
@@ -94,7 +94,7 @@ impl<T> Table<T> {
         Ok(Table { keys, values })
     }
 
-    /// The value at a place in the order of the keys.
+    /// Finds the value at an index in the order of the keys, if there is one.
     pub fn value_at(&self, at: usize) -> Option<&T>
         ensures { option_copied result ≡ slice_get self.now.1 at }
     {

@@ -20,7 +20,7 @@ impl Model for Text {
 }
 
 impl Text {
-    /// The empty text.
+    /// Makes the empty text.
     pub fn new(alloc: Global) -> Text
         ensures { result ≡ [] }
     {
@@ -29,14 +29,14 @@ impl Text {
         }
     }
 
-    /// The same text, without a copy.
+    /// Turns a `String` into a text, without a copy.
     pub fn from_string(text: String) -> Text
         ensures { result ≡ string_bytes text }
     {
         Text { text }
     }
 
-    /// A copy of a text.
+    /// Copies a `str` into a text.
     pub fn from_str(alloc: Global, text: &str) -> Result<Text, AllocError>
         ensures { IfOk result (λ t. t ≡ text.now) }
     {
@@ -45,7 +45,7 @@ impl Text {
         })
     }
 
-    /// The same text, without a copy.
+    /// Turns the text into a `String`, without a copy.
     pub fn into_string(self) -> String
         ensures { string_bytes result ≡ self }
     {
@@ -53,28 +53,28 @@ impl Text {
         text
     }
 
-    /// The text.
+    /// Lends the text as a `str`.
     pub fn as_str(&self) -> &str
         ensures { result.now ≡ self.now }
     {
         self.text.as_str()
     }
 
-    /// How many bytes the text has.
+    /// Counts the bytes of the text.
     pub fn len(&self) -> usize
         ensures { result ≡ length self.now }
     {
         self.text.len()
     }
 
-    /// Whether the text is empty.
+    /// Tells whether the text is empty.
     pub fn is_empty(&self) -> bool
         ensures { IsTrue result ↔ (self.now ≡ []) }
     {
         self.text.is_empty()
     }
 
-    /// A copy.
+    /// Copies the text.
     pub fn try_clone(&self) -> Result<Text, AllocError>
         ensures { IfOk result (λ t. t ≡ self.now) }
     {

@@ -30,7 +30,7 @@ pub enum Token {
 }
 
 impl Token {
-    /// The operator as it is written. Ports upstream's `Token::literal_syntax`.
+    /// Returns the operator as it is written. Ports upstream's `Token::literal_syntax`.
     pub fn as_str(self) -> &'static str
         ensures { result.now ≡ syntax_of self }
     {

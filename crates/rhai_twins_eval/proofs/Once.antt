@@ -11,12 +11,12 @@ use Rattle.rhai_machine.specs.machine.Machine.{Halt}
 use Rattle.rhai_machine.specs.machine.Point.{Point, Reaches, here, next, after, ◌⨾◌}
 use Rattle.rhai_machine.specs.language.Setting.{Rules, cut}
 use Rattle.rhai_machine.specs.language.State.{Local, State, HasMemory}
-use Rattle.rhai_machine.specs.language.Frames.{Control, Frame, Core, ended, marked, Back, Changed, IndexerTried}
+use Rattle.rhai_machine.specs.language.Frames.{Control, Frame, Core, ended, ended_or_changed, Back, Changed, IndexerTried}
 use Rattle.rhai_machine.specs.language.Language.{machine}
 use Rattle.rhai_machine.specs.language.Runs.{at, with_core}
 use Rattle.rhai_machine.specs.language.Script.{EndsAsMachine}
 use Rattle.rhai_eval.specs.Assigned.{assigned}
-use Rattle.rhai_eval.specs.Calls.{value_with}
+use Rattle.rhai_eval.specs.ArgumentValues.{value_with}
 use Rattle.rhai_eval.specs.Ends.{Ends, EndsAlone, EndsAssigned, EndsFrom}
 use Rattle.rhai_twins_eval.specs.Same.{Same}
 use Rattle.rhai_twins_eval.proofs.Halts.{from_halt, one_halt, either_way, first_step}
@@ -76,28 +76,28 @@ module _ {S H : Type 0} (rules : Rules S H) where
     call_once r s same start a b r_has s_has =
         both_halt r s one other (a.runs r_has []) (moved_run (HasMemory s) (ended s) same start b.runs s_has [])
 
-  -- ---- values that come back with a mark
+  -- ---- values that come back with whether the call changed its first argument
 
-  -- without it
-  unmarked : Result (Dynamic H × Bool) (EvalAltResult H) → Result (Dynamic H) (EvalAltResult H)
-  unmarked (Ok (v, mark)) = Ok v
-  unmarked (Err e) = Err e
+  -- without that
+  value_alone : Result (Dynamic H × Bool) (EvalAltResult H) → Result (Dynamic H) (EvalAltResult H)
+  value_alone (Ok (v, mark)) = Ok v
+  value_alone (Err e) = Err e
 
-  -- over the empty stack a marked value leads to the value
-  to_value : {p : Point S (Core H)} (r : Result (Dynamic H × Bool) (EvalAltResult H)) (s : State S H) → Leads p (at (marked r) [] s) →
-      Leads p (at (ended (unmarked r)) [] s)
-  unfolding after unmarked
+  -- over the empty stack such a value leads to the value alone
+  to_value : {p : Point S (Core H)} (r : Result (Dynamic H × Bool) (EvalAltResult H)) (s : State S H) → Leads p (at (ended_or_changed r) [] s) →
+      Leads p (at (ended (value_alone r)) [] s)
+  unfolding after value_alone
   to_value (Ok (v, true)) s run = run ⨾ next here
   to_value (Ok (v, false)) s run = run
   to_value (Err e) s run = run
 
-  -- over a frame that hands the mark on, a marked value and one without a mark do not lead to one another
+  -- over a frame that hands this on, `Changed` and `Back` do not lead to one another
   abbrev handing_on : List (Frame H)
   handing_on = IndexerTried (Err (error.ErrorUnboundThis none)) ∷ []
 
-  marked_apart : (v w : Dynamic H) (s t : State S H) → Leads (at (Changed v) handing_on s) (at (Back w) handing_on t) → ⊥
+  changed_apart : (v w : Dynamic H) (s t : State S H) → Leads (at (Changed v) handing_on s) (at (Back w) handing_on t) → ⊥
   unfolding after
-  marked_apart v w s t run = elim (first_step (machine rules) (cut rules) run) [
+  changed_apart v w s t run = elim (first_step (machine rules) (cut rules) run) [
     | inl e ↦ (let same = ap (λ p. p.core.control) e in cc)
     | inr rest ↦ elim (first_step (machine rules) (cut rules) rest) [
       | inl e ↦ (let same = ap (λ p. p.core.stack) e in cc)
@@ -112,10 +112,10 @@ module _ {S H : Type 0} (rules : Rules S H) where
     | inr rest ↦ (let same = ap (λ p. p.core.stack) (from_halt (machine rules) (cut rules) refl rest) in cc)
   ]
 
-  one_mark : {p : Point S (Core H)} (v w : Dynamic H) (s t : State S H) → Leads p (at (Changed v) handing_on s) →
+  one_change : {p : Point S (Core H)} (v w : Dynamic H) (s t : State S H) → Leads p (at (Changed v) handing_on s) →
       Leads p (at (Back w) handing_on t) → ⊥
-  one_mark v w s t a b = elim (either_way (machine rules) (cut rules) a b) [
-    | inl run ↦ marked_apart v w s t run
+  one_change v w s t a b = elim (either_way (machine rules) (cut rules) a b) [
+    | inl run ↦ changed_apart v w s t run
     | inr run ↦ plain_apart w v t s run
   ]
 
@@ -127,31 +127,31 @@ module _ {S H : Type 0} (rules : Rules S H) where
   error_of (Ok v) otherwise = otherwise
   error_of (Err e) otherwise = e
 
-  -- results with the same mark are one where they are without it
-  same_marked : (r s : Result (Dynamic H × Bool) (EvalAltResult H)) {p : Point S (Core H)} (one other : State S H) →
-      Leads p (at (marked r) handing_on one) → Leads p (at (marked s) handing_on other) → unmarked r ≡ unmarked s → r ≡ s
-  unfolding unmarked value_of error_of
-  same_marked (Ok (v, true)) (Ok (w, true)) one other a b e = ap (λ x. Ok (x, true)) (ap (λ r. value_of r v) e)
-  same_marked (Ok (v, false)) (Ok (w, false)) one other a b e = ap (λ x. Ok (x, false)) (ap (λ r. value_of r v) e)
-  same_marked (Ok (v, true)) (Ok (w, false)) one other a b e = absurd (one_mark v w one other a b)
-  same_marked (Ok (v, false)) (Ok (w, true)) one other a b e = absurd (one_mark w v other one b a)
-  same_marked (Ok (v, mark)) (Err f) one other a b e = cc
-  same_marked (Err f) (Ok (w, mark)) one other a b e = cc
-  same_marked (Err f) (Err g) one other a b e = ap (λ x. Err x) (ap (λ r. error_of r f) e)
+  -- two such results from one start are one where their values or errors are
+  same_changed : (r s : Result (Dynamic H × Bool) (EvalAltResult H)) {p : Point S (Core H)} (one other : State S H) →
+      Leads p (at (ended_or_changed r) handing_on one) → Leads p (at (ended_or_changed s) handing_on other) → value_alone r ≡ value_alone s → r ≡ s
+  unfolding value_alone value_of error_of
+  same_changed (Ok (v, true)) (Ok (w, true)) one other a b e = ap (λ x. Ok (x, true)) (ap (λ r. value_of r v) e)
+  same_changed (Ok (v, false)) (Ok (w, false)) one other a b e = ap (λ x. Ok (x, false)) (ap (λ r. value_of r v) e)
+  same_changed (Ok (v, true)) (Ok (w, false)) one other a b e = absurd (one_change v w one other a b)
+  same_changed (Ok (v, false)) (Ok (w, true)) one other a b e = absurd (one_change w v other one b a)
+  same_changed (Ok (v, mark)) (Err f) one other a b e = cc
+  same_changed (Err f) (Ok (w, mark)) one other a b e = cc
+  same_changed (Err f) (Err g) one other a b e = ap (λ x. Err x) (ap (λ r. error_of r f) e)
 
   module _ (begins also_begins : List (Frame H) → Local H → Core H) (old also one other : State S H) where
-    marks_once : (r s : Result (Dynamic H × Bool) (EvalAltResult H)) → begins ≡ also_begins → old ≡ also →
-        Run begins old (HasMemory r) (marked r) one → Run also_begins also (HasMemory s) (marked s) other → Same r s one other
-    marks_once r s same start a b r_has s_has =
-        let c = moved_run begins also_begins old also one other (HasMemory s) (marked s) same start b in
-        let ends = both_halt (unmarked r) (unmarked s) one other (to_value r one (a r_has [])) (to_value s other (c s_has [])) in
-        (same_marked r s one other (a r_has handing_on) (c s_has handing_on) ends.0, ends.1)
+    changes_once : (r s : Result (Dynamic H × Bool) (EvalAltResult H)) → begins ≡ also_begins → old ≡ also →
+        Run begins old (HasMemory r) (ended_or_changed r) one → Run also_begins also (HasMemory s) (ended_or_changed s) other → Same r s one other
+    changes_once r s same start a b r_has s_has =
+        let c = moved_run begins also_begins old also one other (HasMemory s) (ended_or_changed s) same start b in
+        let ends = both_halt (value_alone r) (value_alone s) one other (to_value r one (a r_has [])) (to_value s other (c s_has [])) in
+        (same_changed r s one other (a r_has handing_on) (c s_has handing_on) ends.0, ends.1)
 
-    -- two calls that give a value with a mark
-    pub mark_once : (r s : Result (Dynamic H × Bool) (EvalAltResult H)) → begins ≡ also_begins → old ≡ also →
-        Ends rules begins old (HasMemory r) (marked r) one → Ends rules also_begins also (HasMemory s) (marked s) other →
+    -- two calls that say whether they changed their first argument
+    pub changed_once : (r s : Result (Dynamic H × Bool) (EvalAltResult H)) → begins ≡ also_begins → old ≡ also →
+        Ends rules begins old (HasMemory r) (ended_or_changed r) one → Ends rules also_begins also (HasMemory s) (ended_or_changed s) other →
         Same r s one other
-    mark_once r s same start a b = marks_once r s same start a.runs b.runs
+    changed_once r s same start a b = changes_once r s same start a.runs b.runs
 
     -- two calls with nothing behind them leave one state
     pub alone_once : begins ≡ also_begins → old ≡ also → EndsAlone rules begins old one → EndsAlone rules also_begins also other →
@@ -160,21 +160,21 @@ module _ {S H : Type 0} (rules : Rules S H) where
         let P : State S H → Type 0 = λ x. EndsAlone rules also_begins x other in
         let Q : (List (Frame H) → Local H → Core H) → Type 0 = λ x. EndsAlone rules x old other in
         let c : EndsAlone rules begins old other = subst Q (sym same) (subst P (sym start) b) in
-        (both_halt (unmarked a.0) (unmarked c.0) one other (to_value a.0 one a.1) (to_value c.0 other c.1)).1
+        (both_halt (value_alone a.0) (value_alone c.0) one other (to_value a.0 one a.1) (to_value c.0 other c.1)).1
 
     -- two assignments
     pub assignment_once : (r s : Result (Unit {0}) (EvalAltResult H)) → begins ≡ also_begins → old ≡ also →
         EndsAssigned rules begins old r one → EndsAssigned rules also_begins also s other → Same r s one other
     assignment_once (Ok x) (Ok y) same start a b r_has s_has =
-        (refl, (marks_once (assigned (Ok x)) (assigned (Ok y)) same start a.runs b.runs r_has s_has).1)
+        (refl, (changes_once (assigned (Ok x)) (assigned (Ok y)) same start a.runs b.runs r_has s_has).1)
     assignment_once (Ok x) (Err f) same start a b r_has s_has =
-        let ends = marks_once (assigned (Ok x)) (Err f) same start a.runs b.runs r_has s_has in
+        let ends = changes_once (assigned (Ok x)) (Err f) same start a.runs b.runs r_has s_has in
         (let e = ends.0 in cc, ends.1)
     assignment_once (Err f) (Ok x) same start a b r_has s_has =
-        let ends = marks_once (Err f) (assigned (Ok x)) same start a.runs b.runs r_has s_has in
+        let ends = changes_once (Err f) (assigned (Ok x)) same start a.runs b.runs r_has s_has in
         (let e = ends.0 in cc, ends.1)
     assignment_once (Err e) (Err f) same start a b r_has s_has =
-        let ends = marks_once (Err e) (Err f) same start a.runs b.runs r_has s_has in
+        let ends = changes_once (Err e) (Err f) same start a.runs b.runs r_has s_has in
         (let same_error : e ≡ f = let told = ends.0 in cc in ap (λ x. Err x) same_error, ends.1)
 
   module _ (begins also_begins : List (Frame H) → Local H → Core H) (old also one other : State S H) (start : Position) where

@@ -15,7 +15,7 @@ use Rattle.rhai_places.specs.declared.spot.Access.{Access}
 use Rattle.rhai_places.specs.declared.target.Part.{Part}
 use Rattle.rhai_places.specs.declared.target.Part.TheVariants as part
 use Rattle.rhai_places.specs.declared.target.Target.{Target}
-use Rattle.rhai_index.specs.Indexers.{as_temporary, asks_indexer, effect_of, outcome_of, reading}
+use Rattle.rhai_index.specs.Indexers.{as_temporary, asks_indexer, effect_of, outcome_of, read_call}
 use Rattle.rhai_index.specs.Indexes.{Indexes}
 use Rattle.rhai_machine.specs.language.State.{HasMemory}
 use Rattle.rhai_twins_places.specs.Ends.{SameTarget}
@@ -103,11 +103,11 @@ module _ {S H T : Type 0} (limits : Limits) (host : H → List ℕ) (natives : N
     limit = limits.max_operations
 
     abbrev effect_at : S → Effect S H
-    effect_at state = effect_of natives host (cells_of g.cells) state (reading i how.op_pos) x
+    effect_at state = effect_of natives host (cells_of g.cells) state (read_call i how.op_pos) x
 
     abbrev GivesAt : S → Result (Target H) (EvalAltResult H) → Type 0
     GivesAt state =
-        Gives (as_temporary (outcome_of limits host natives (cells_of g.cells) state (reading i how.op_pos) x)) (effect_at state).first
+        Gives (as_temporary (outcome_of limits host natives (cells_of g.cells) state (read_call i how.op_pos) x)) (effect_at state).first
 
     abbrev Kind : Bool → Type 0
     Kind asked = asks_indexer use_indexers (layer_of x) ≡ asked

@@ -1,10 +1,10 @@
-//! Calls on a first argument, an object or a target.
+//! Calls on a first argument, on a value that is indexed, or on a target.
 
 ghost use Rattle.std.specs.Prelude.{◌≡◌, Some};
 ghost use Rattle.rhai_values.specs.Cells.{IsNoHandle};
 ghost use Rattle.rhai_places.specs.Targets.{shown};
 ghost use Rattle.rhai_machine.specs.language.State.{HasMemory};
-ghost use Rattle.rhai_methods.specs.Targets.{stands};
+ghost use Rattle.rhai_methods.specs.Targets.{value_walked_on};
 ghost use Rattle.rhai_eval.specs.Places.{with_place};
 ghost use Rattle.rhai_steps.specs.States.{holding, state_of};
 ghost use Rattle.rhai_twins_eval.specs.Same.{Same};
@@ -22,7 +22,7 @@ use rhai_tree::token::Token;
 use rhai_values::base::value::{Dynamic, Host};
 use std::alloc::Global;
 
-/// Of `Engine::exec_native_fn_call` on a first argument.
+/// Shows that two calls of `Engine::exec_native_fn_call` on a first argument from equal starts end equally.
 pub fn exec_native_fn_call<H: Host, T: NativeTable<H>>(
     engine: &Engine<H>,
     alloc: Global,
@@ -84,7 +84,7 @@ pub fn exec_native_fn_call<H: Host, T: NativeTable<H>>(
     )
 }
 
-/// Of `Engine::call_indexer_get`.
+/// Shows that two calls of `Engine::call_indexer_get` from equal starts end equally.
 pub fn call_indexer_get<H: Host, T: NativeTable<H>>(
     engine: &Engine<H>,
     alloc: Global,
@@ -129,7 +129,7 @@ pub fn call_indexer_get<H: Host, T: NativeTable<H>>(
     )
 }
 
-/// Of `Engine::call_indexer_set`.
+/// Shows that two calls of `Engine::call_indexer_set` from equal starts end equally.
 pub fn call_indexer_set<H: Host, T: NativeTable<H>>(
     engine: &Engine<H>,
     alloc: Global,
@@ -183,7 +183,7 @@ pub fn call_indexer_set<H: Host, T: NativeTable<H>>(
     )
 }
 
-/// Of `Engine::make_method_call`.
+/// Shows that two calls of `Engine::make_method_call` from equal starts end equally.
 pub fn make_method_call<H: Host, T: NativeTable<H>>(
     engine: &Engine<H>,
     alloc: Global,
@@ -212,9 +212,9 @@ pub fn make_method_call<H: Host, T: NativeTable<H>>(
     requires call_args { call_args.old ≡ also_call_args.old }
     ensures run { (scope : _) (this : _) → Same result.0 result.1
         (state_of (T.state table.new) global.new scope
-        (with_place this (Some (stands target.new.part target.new.at.now))))
+        (with_place this (Some (value_walked_on target.new.part target.new.at.now))))
         (state_of (T.state also_table.new) also_global.new scope
-        (with_place this (Some (stands also_target.new.part also_target.new.at.now)))) }
+        (with_place this (Some (value_walked_on also_target.new.part also_target.new.at.now)))) }
     ensures shown { HasMemory result.0 → HasMemory result.1 → shown target.new.part target.new.at.now
         ≡ shown also_target.new.part also_target.new.at.now }
     ensures call_args { call_args.new ≡ also_call_args.new }
@@ -247,7 +247,7 @@ pub fn make_method_call<H: Host, T: NativeTable<H>>(
     )
 }
 
-/// Of `Engine::eval_op_assignment`.
+/// Shows that two calls of `Engine::eval_op_assignment` from equal starts end equally.
 pub fn eval_op_assignment<H: Host, T: NativeTable<H>>(
     engine: &Engine<H>,
     alloc: Global,
@@ -273,9 +273,9 @@ pub fn eval_op_assignment<H: Host, T: NativeTable<H>>(
     requires value { IsNoHandle new_val.value }
     ensures run { (scope : _) (this : _) → Same result.0 result.1
         (state_of (T.state table.new) global.new scope
-        (with_place this (Some (stands target.new.part target.new.at.now))))
+        (with_place this (Some (value_walked_on target.new.part target.new.at.now))))
         (state_of (T.state also_table.new) also_global.new scope
-        (with_place this (Some (stands also_target.new.part also_target.new.at.now)))) }
+        (with_place this (Some (value_walked_on also_target.new.part also_target.new.at.now)))) }
     ensures shown { HasMemory result.0 → HasMemory result.1 → shown target.new.part target.new.at.now
         ≡ shown also_target.new.part also_target.new.at.now }
     ensures caches { caches.new ≡ also_caches.new }
@@ -296,7 +296,8 @@ pub fn eval_op_assignment<H: Host, T: NativeTable<H>>(
     )
 }
 
-/// Of `Engine::exec_fn_call` on a scope and a first argument that is a place of the caller.
+/// Shows that two calls of `Engine::exec_fn_call` from equal starts end equally. Each has a scope and a first
+/// argument that is a place of the caller.
 pub fn exec_fn_call<H: Host, T: NativeTable<H>>(
     engine: &Engine<H>,
     alloc: Global,
@@ -366,7 +367,8 @@ pub fn exec_fn_call<H: Host, T: NativeTable<H>>(
     )
 }
 
-/// Of `Engine::exec_fn_call` on a scope and a first argument that is handed in by value.
+/// Shows that two calls of `Engine::exec_fn_call` from equal starts end equally. Each has a scope and a first
+/// argument that is handed in by value.
 pub fn exec_fn_call_by_value<H: Host, T: NativeTable<H>>(
     engine: &Engine<H>,
     alloc: Global,

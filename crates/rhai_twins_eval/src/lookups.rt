@@ -8,7 +8,7 @@ ghost use Rattle.rhai_state.specs.Errors.{is_out_of_memory};
 ghost use Rattle.rhai_state.specs.Scope.{entries_of, in_use, Fits};
 ghost use Rattle.rhai_steps.specs.Offsets.{offset_in};
 ghost use Rattle.rhai_eval.specs.Search.{is_variable, names_variable};
-ghost use Rattle.rhai_twins_places.specs.Ends.{SameTarget, Told};
+ghost use Rattle.rhai_twins_places.specs.Ends.{SameTarget, SameError};
 ghost use Rattle.rhai_twins_eval.specs.Same.{SameEnd};
 
 use rhai_eval::engine::Engine;
@@ -28,14 +28,14 @@ use rhai_tree::position::Position;
 use rhai_values::base::value::{Dynamic, Host, Module};
 use std::alloc::Global;
 
-/// Of `Engine::new`.
+/// Shows that two calls of `Engine::new` make equal engines.
 pub fn new<H: Host>(alloc: Global) -> (Engine<H>, Engine<H>)
     ensures { result.0 ≡ result.1 }
 {
     (Engine::new(alloc), Engine::new(alloc))
 }
 
-/// Of `Engine::track_operation`.
+/// Shows that two calls of `Engine::track_operation` from equal states end equally.
 pub fn track_operation<H: Host>(
     engine: &Engine<H>,
     global: &mut GlobalRuntimeState<H>,
@@ -52,14 +52,14 @@ pub fn track_operation<H: Host>(
     )
 }
 
-/// Of `ChainType::from`.
+/// Shows that two calls of `ChainType::from` on one expression answer equally.
 pub fn chain_type(expr: &Expr) -> (ChainType, ChainType)
     ensures { result.0 ≡ result.1 }
 {
     (ChainType::from(expr), ChainType::from(expr))
 }
 
-/// Of `Engine::scope_index`.
+/// Shows that two calls of `Engine::scope_index` on one expression answer equally.
 pub fn scope_index<H: Host>(
     engine: &Engine<H>,
     state: &GlobalRuntimeState<H>,
@@ -75,8 +75,8 @@ pub fn scope_index<H: Host>(
     )
 }
 
-/// Of `search::variable_mut`: what it lends. What the scope is when the borrow ends is told by its clause
-/// `writes_back`.
+/// Shows that two calls of `search::variable_mut` on equal scopes lend equal values. What the scope is when
+/// the borrow ends is told by its clause `writes_back`.
 pub fn variable<'s, H: Host>(
     scope: &'s mut Scope<H>,
     also_scope: &'s mut Scope<H>,
@@ -91,7 +91,7 @@ pub fn variable<'s, H: Host>(
     requires fits { Fits (offset_in global.now.always_search_scope (out-Expr expr.now))
         (length (entries_of scope.old)) }
     ensures found { IfOk result.0 (λ place. IfOk result.1 (λ also. place.now ≡ also.now)) }
-    ensures missed { IfErr result.0 (λ e. IfErr result.1 (λ f. Told e f)) }
+    ensures missed { IfErr result.0 (λ e. IfErr result.1 (λ f. SameError e f)) }
 {
     (
         variable_mut(scope, global, expr),
@@ -99,7 +99,8 @@ pub fn variable<'s, H: Host>(
     )
 }
 
-/// Of `Engine::search_scope_only`: what its target shows, and what it is a part of.
+/// Shows that two calls of `Engine::search_scope_only` from equal starts end equally. Their targets show
+/// equal parts of equal values.
 pub fn search_scope_only<'s, H: Host, T: NativeTable<H>>(
     engine: &Engine<H>,
     alloc: Global,
@@ -145,7 +146,8 @@ pub fn search_scope_only<'s, H: Host, T: NativeTable<H>>(
     )
 }
 
-/// Of `Engine::search_namespace`: what its target shows, and what it is a part of.
+/// Shows that two calls of `Engine::search_namespace` from equal starts end equally. Their targets show equal
+/// parts of equal values.
 pub fn search_namespace<'s, H: Host, T: NativeTable<H>>(
     engine: &Engine<H>,
     alloc: Global,
@@ -191,7 +193,7 @@ pub fn search_namespace<'s, H: Host, T: NativeTable<H>>(
     )
 }
 
-/// Of `Engine::search_imports`.
+/// Shows that two calls of `Engine::search_imports` in one state find equal modules.
 pub fn search_imports<'m, H: Host>(
     engine: &'m Engine<H>,
     global: &'m GlobalRuntimeState<H>,
@@ -206,7 +208,8 @@ pub fn search_imports<'m, H: Host>(
     )
 }
 
-/// Of `Engine::get_indexed_mut`: what its target shows.
+/// Shows that two calls of `Engine::get_indexed_mut` from equal starts end equally. Their targets show equal
+/// parts of equal values.
 pub fn get_indexed_mut<'t, H: Host, T: NativeTable<H>>(
     engine: &Engine<H>,
     alloc: Global,
@@ -268,8 +271,9 @@ pub fn get_indexed_mut<'t, H: Host, T: NativeTable<H>>(
     )
 }
 
-/// The same where it is refused, of the function of `rhai_index` that the call makes: the object is left as
-/// it was, or as the indexer left it.
+/// Shows that two indexes that are refused, from equal starts, leave equal values of what is indexed. It is
+/// told of the function of `rhai_index` that `Engine::get_indexed_mut` calls: it leaves the value as it was,
+/// or as the indexer left it.
 pub fn refused_index<H: Host, T: NativeTable<H>>(
     alloc: Global,
     limits: &Limits,

@@ -7,7 +7,7 @@ ghost use Rattle.rhai_tree.specs.Forms.{is_unqualified};
 ghost use Rattle.rhai_tree.specs.Frame.{all_resolve, all_resolve_exprs, resolves_call, resolves_expr};
 ghost use Rattle.rhai_tree.specs.Frame.{resolves_stmt, tests_of};
 ghost use Rattle.rhai_machine.specs.language.Links.{first_in};
-ghost use Rattle.rhai_pointers.specs.Leading.{all_args};
+ghost use Rattle.rhai_call_forms.specs.Leading.{all_args};
 ghost use Rattle.rhai_eval.specs.Chains.{AssignsNoHandle, chain_resolves};
 ghost use Rattle.rhai_steps.specs.Agreement.{AgreesAt, passes};
 ghost use Rattle.rhai_steps.specs.States.{holding, state_of};
@@ -25,7 +25,7 @@ use rhai_tree::token::Token;
 use rhai_values::base::value::{Dynamic, Host};
 use std::alloc::Global;
 
-/// Of `Engine::eval_expr`.
+/// Shows that two calls of `Engine::eval_expr` from equal starts end equally.
 pub fn eval_expr<H: Host, T: NativeTable<H>>(
     engine: &Engine<H>,
     alloc: Global,
@@ -70,7 +70,7 @@ pub fn eval_expr<H: Host, T: NativeTable<H>>(
     )
 }
 
-/// Of `Engine::eval_stmt`.
+/// Shows that two calls of `Engine::eval_stmt` from equal starts end equally.
 pub fn eval_stmt<H: Host, T: NativeTable<H>>(
     engine: &Engine<H>,
     alloc: Global,
@@ -126,7 +126,7 @@ pub fn eval_stmt<H: Host, T: NativeTable<H>>(
     )
 }
 
-/// Of `Engine::eval_stmt_block`.
+/// Shows that two calls of `Engine::eval_stmt_block` from equal starts end equally.
 pub fn eval_stmt_block<H: Host, T: NativeTable<H>>(
     engine: &Engine<H>,
     alloc: Global,
@@ -183,7 +183,7 @@ pub fn eval_stmt_block<H: Host, T: NativeTable<H>>(
     )
 }
 
-/// Of `Engine::eval_fn_call_expr`.
+/// Shows that two calls of `Engine::eval_fn_call_expr` from equal starts end equally.
 pub fn eval_fn_call_expr<H: Host, T: NativeTable<H>>(
     engine: &Engine<H>,
     alloc: Global,
@@ -230,7 +230,7 @@ pub fn eval_fn_call_expr<H: Host, T: NativeTable<H>>(
     )
 }
 
-/// Of `Engine::get_arg_value`.
+/// Shows that two calls of `Engine::get_arg_value` from equal starts end equally.
 pub fn get_arg_value<H: Host, T: NativeTable<H>>(
     engine: &Engine<H>,
     alloc: Global,
@@ -275,7 +275,7 @@ pub fn get_arg_value<H: Host, T: NativeTable<H>>(
     )
 }
 
-/// Of `Engine::make_function_call`.
+/// Shows that two calls of `Engine::make_function_call` from equal starts end equally.
 pub fn make_function_call<H: Host, T: NativeTable<H>>(
     engine: &Engine<H>,
     alloc: Global,
@@ -344,7 +344,7 @@ pub fn make_function_call<H: Host, T: NativeTable<H>>(
     )
 }
 
-/// Of `Engine::make_qualified_function_call`.
+/// Shows that two calls of `Engine::make_qualified_function_call` from equal starts end equally.
 pub fn make_qualified_function_call<H: Host, T: NativeTable<H>>(
     engine: &Engine<H>,
     alloc: Global,
@@ -407,7 +407,7 @@ pub fn make_qualified_function_call<H: Host, T: NativeTable<H>>(
     )
 }
 
-/// Of `Engine::eval_dot_index_chain`.
+/// Shows that two calls of `Engine::eval_dot_index_chain` from equal starts end equally.
 pub fn eval_dot_index_chain<'a, H: Host, T: NativeTable<H>>(
     engine: &Engine<H>,
     alloc: Global,

@@ -17,7 +17,7 @@ use rhai_tree::position::Position;
 use rhai_values::base::value::{Dynamic, EncapsulatedEnviron, Host};
 use std::alloc::Global;
 
-/// Of `Engine::eval_global_statements`.
+/// Shows that two calls of `Engine::eval_global_statements` from equal starts end equally.
 pub fn eval_global_statements<H: Host, T: NativeTable<H>>(
     engine: &Engine<H>,
     alloc: Global,
@@ -70,7 +70,8 @@ pub fn eval_global_statements<H: Host, T: NativeTable<H>>(
     )
 }
 
-/// Of `Engine::call_script_fn` on a `this`: what is left of the arguments is open.
+/// Shows that two calls of `Engine::call_script_fn` on a `this` from equal starts end equally. What is left
+/// of the arguments is equal too.
 pub fn call_script_fn<H: Host, T: NativeTable<H>>(
     engine: &Engine<H>,
     alloc: Global,
@@ -137,7 +138,7 @@ pub fn call_script_fn<H: Host, T: NativeTable<H>>(
     )
 }
 
-/// Of `Engine::has_script_fn`.
+/// Shows that two calls of `Engine::has_script_fn` in one state answer equally.
 pub fn has_script_fn<H: Host>(
     engine: &Engine<H>,
     state: &GlobalRuntimeState<H>,

@@ -1,6 +1,6 @@
-//! The contracts of the calls that the crate for hosts has of its own, each determined. Nothing here is
-//! run: a function calls what its law is of twice, from equal starts, and its contract says that both
-//! calls end equally, want of memory aside.
+//! The contracts of the calls that the crate for hosts has of its own, each determined. Nothing here is run:
+//! a function calls what its law is of twice, from equal starts, and its contract says that both calls end
+//! equally, unless memory runs out.
 #![tactic(auto)]
 
 ghost use Rattle.std.specs.Prelude.{◌≡◌, is_ok};
@@ -9,7 +9,7 @@ ghost use Rattle.std.specs.Option.{option_map};
 use rhai::{CheckedFn, CheckedTree, Module, Shared};
 use std::alloc::{AllocError, Global};
 
-/// Of `library_of`.
+/// Shows that two calls of `library_of` on equal trees build equal libraries.
 pub fn library_of<H: Drop>(
     alloc: Global,
     one: &CheckedTree,
@@ -21,7 +21,7 @@ pub fn library_of<H: Drop>(
     (rhai::library_of(alloc, one), rhai::library_of(alloc, other))
 }
 
-/// Of `function_of`.
+/// Shows that two calls of `function_of` on equal trees and names find equal functions.
 pub fn function_of<'t>(
     one: &'t CheckedTree,
     other: &'t CheckedTree,

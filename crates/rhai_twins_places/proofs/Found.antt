@@ -22,7 +22,7 @@ module _ {H : Type 0} where
   found_once (Err told) (Err e) (Ok u) one other = absurd other
   found_once (Err told) (Err e) (Err f) one other = λ e_told f_told. one e_told ∙ sym (other f_told)
 
-  -- the same of an object that stands in two places
+  -- the same of two values that are equal
   pub found_from : (by : Dynamic H → Result (Dynamic H × Spot) (EvalAltResult H)) (x y : Dynamic H)
       (r s : Result (Target H) (EvalAltResult H)) → x ≡ y → Leads (by x) r → Leads (by y) s → SameTarget r s
   found_from by x y r s same one other =

@@ -7,7 +7,7 @@ use Rattle.rhai_state.specs.Errors.{is_out_of_memory}
 use Rattle.rhai_places.specs.declared.target.Part.{Part}
 use Rattle.rhai_places.specs.declared.target.Part.TheVariants as part
 use Rattle.rhai_places.specs.Targets.{propagated, IsNotPropagated}
-use Rattle.rhai_twins_places.specs.Ends.{Same}
+use Rattle.rhai_twins_places.specs.Ends.{SameAnswer}
 
 module _ {H : Type 0} (name : H → List ℕ) (position : Position) where
   -- what goes back is not refused
@@ -28,14 +28,14 @@ module _ {H : Type 0} (name : H → List ℕ) (position : Position) where
   Put p place new r = OnOk r (propagated p place ≡ Some new) × IfErr r (λ e. IsNotPropagated name p place position e)
 
   one_answer : (p : Part H) (place n m : Dynamic H) (r s : Result (Unit {0}) (EvalAltResult H)) → Put p place n r →
-      Put p place m s → Same r s
+      Put p place m s → SameAnswer r s
   one_answer p place n m (Ok x) (Ok y) one other = λ a b. refl
   one_answer p place n m (Ok x) (Err f) one other = λ a b. absurd (not_both p place n f one.0 other.1 b)
   one_answer p place n m (Err e) (Ok y) one other = λ a b. absurd (not_both p place m e other.0 one.1 a)
   one_answer p place n m (Err e) (Err f) one other = λ a b. ap (λ x. Err x) (one_reason p place e f one.1 other.1 a b)
 
   pub put_once : (p q : Part H) (x y n m : Dynamic H) (r s : Result (Unit {0}) (EvalAltResult H)) → p ≡ q → x ≡ y →
-      Put p x n r → Put q y m s → Same r s
+      Put p x n r → Put q y m s → SameAnswer r s
   put_once p q x y n m r s same_part same_place one other =
       let P : Part H → Type 0 = λ z. Put z y m s in
       let Q : Dynamic H → Type 0 = λ z. Put p z m s in

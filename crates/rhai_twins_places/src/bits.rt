@@ -4,7 +4,7 @@ ghost use Rattle.std.specs.Prelude.{◌≡◌, ◌<◌, ◌≤◌};
 
 use rhai_places::bits::{bit, field, with_bit, with_field};
 
-/// Of `bits::bit`.
+/// Shows that two calls of `bits::bit` answer equally.
 pub fn bit_of(number: i64, at: usize) -> (bool, bool)
     requires { at < 64 }
     ensures { result.0 ≡ result.1 }
@@ -12,7 +12,7 @@ pub fn bit_of(number: i64, at: usize) -> (bool, bool)
     (bit(number, at), bit(number, at))
 }
 
-/// Of `bits::with_bit`.
+/// Shows that two calls of `bits::with_bit` answer equally.
 pub fn bit_written(number: i64, at: usize, on: bool) -> (i64, i64)
     requires { at < 64 }
     ensures { result.0 ≡ result.1 }
@@ -20,7 +20,7 @@ pub fn bit_written(number: i64, at: usize, on: bool) -> (i64, i64)
     (with_bit(number, at, on), with_bit(number, at, on))
 }
 
-/// Of `bits::field`.
+/// Shows that two calls of `bits::field` answer equally.
 pub fn field_of(number: i64, start: usize, end: usize) -> (i64, i64)
     requires within { end ≤ 64 }
     requires ordered { start ≤ end }
@@ -29,7 +29,7 @@ pub fn field_of(number: i64, start: usize, end: usize) -> (i64, i64)
     (field(number, start, end), field(number, start, end))
 }
 
-/// Of `bits::with_field`.
+/// Shows that two calls of `bits::with_field` answer equally.
 pub fn field_written(number: i64, start: usize, end: usize, value: i64) -> (i64, i64)
     requires within { end ≤ 64 }
     requires ordered { start ≤ end }

@@ -9,7 +9,7 @@ use rhai_natives::{Arguments, Datum, Integers, Listed, ListedNatives, Natives, R
 use rhai_values::base::value::{Dynamic, Host, Union};
 use std::alloc::{AllocError, Global};
 
-/// Of `Arguments::new`.
+/// Shows that two calls of `Arguments::new` have equal values.
 pub fn arguments<'a, H>(
     first: Option<&'a Dynamic<H>>,
     rest: &'a [Dynamic<H>],
@@ -19,7 +19,7 @@ pub fn arguments<'a, H>(
     (Arguments::new(first, rest), Arguments::new(first, rest))
 }
 
-/// Of `Arguments::none`.
+/// Shows that two calls of `Arguments::none` on equal values answer equally.
 pub fn none<'a, H>(one: &Arguments<'a, H>, other: &Arguments<'a, H>) -> (Option<()>, Option<()>)
     requires { given.values_of one.now ≡ given.values_of other.now }
     ensures { result.0 ≡ result.1 }
@@ -27,7 +27,7 @@ pub fn none<'a, H>(one: &Arguments<'a, H>, other: &Arguments<'a, H>) -> (Option<
     (one.none(), other.none())
 }
 
-/// Of `Arguments::int`.
+/// Shows that two calls of `Arguments::int` on equal values answer equally.
 pub fn int<'a, H>(one: &Arguments<'a, H>, other: &Arguments<'a, H>) -> (Option<i64>, Option<i64>)
     requires { given.values_of one.now ≡ given.values_of other.now }
     ensures { result.0 ≡ result.1 }
@@ -35,7 +35,7 @@ pub fn int<'a, H>(one: &Arguments<'a, H>, other: &Arguments<'a, H>) -> (Option<i
     (one.int(), other.int())
 }
 
-/// Of `Arguments::ints`.
+/// Shows that two calls of `Arguments::ints` on equal values answer equally.
 pub fn ints<'a, H>(
     one: &Arguments<'a, H>,
     other: &Arguments<'a, H>,
@@ -46,7 +46,7 @@ pub fn ints<'a, H>(
     (one.ints(), other.ints())
 }
 
-/// Of `Arguments::host`.
+/// Shows that two calls of `Arguments::host` on equal values answer equally.
 pub fn host<'a, H>(
     one: &Arguments<'a, H>,
     other: &Arguments<'a, H>,
@@ -57,7 +57,7 @@ pub fn host<'a, H>(
     (one.host(), other.host())
 }
 
-/// Of `Arguments::hosts`.
+/// Shows that two calls of `Arguments::hosts` on equal values answer equally.
 pub fn hosts<'a, H>(
     one: &Arguments<'a, H>,
     other: &Arguments<'a, H>,
@@ -71,7 +71,7 @@ pub fn hosts<'a, H>(
     (one.hosts(), other.hosts())
 }
 
-/// Of `Arguments::host_and_int`.
+/// Shows that two calls of `Arguments::host_and_int` on equal values answer equally.
 pub fn host_and_int<'a, H>(
     one: &Arguments<'a, H>,
     other: &Arguments<'a, H>,
@@ -83,7 +83,7 @@ pub fn host_and_int<'a, H>(
     (one.host_and_int(), other.host_and_int())
 }
 
-/// Of `Arguments::host_and_ints`.
+/// Shows that two calls of `Arguments::host_and_ints` on equal values answer equally.
 pub fn host_and_ints<'a, H>(
     one: &Arguments<'a, H>,
     other: &Arguments<'a, H>,
@@ -96,7 +96,7 @@ pub fn host_and_ints<'a, H>(
     (one.host_and_ints(), other.host_and_ints())
 }
 
-/// Of `Arguments::host_and_array`.
+/// Shows that two calls of `Arguments::host_and_array` on equal values answer equally.
 pub fn host_and_array<'a, H>(
     one: &Arguments<'a, H>,
     other: &Arguments<'a, H>,
@@ -112,7 +112,7 @@ pub fn host_and_array<'a, H>(
     (one.host_and_array(), other.host_and_array())
 }
 
-/// Of `Natives::new`.
+/// Shows that two calls of `Natives::new` on equal natives have equal ones.
 pub fn natives<N>(alloc: Global, natives: N, also_natives: N) -> (Natives<N>, Natives<N>)
     requires { natives ≡ also_natives }
     ensures { result.0.natives ≡ result.1.natives }
@@ -123,7 +123,7 @@ pub fn natives<N>(alloc: Global, natives: N, also_natives: N) -> (Natives<N>, Na
     )
 }
 
-/// Of `Integers::new`.
+/// Shows that two calls of `Integers::new` build equal lists, unless memory runs out.
 pub fn integers<H: Drop>(
     alloc: Global,
     numbers: &[i64],
@@ -136,7 +136,7 @@ pub fn integers<H: Drop>(
     (Integers::new(alloc, numbers), Integers::new(alloc, numbers))
 }
 
-/// Of `Datum::into_union`.
+/// Shows that two calls of `Datum::into_union` on equal data answer equally.
 pub fn union<H>(one: Datum<H>, other: Datum<H>) -> (Union<H>, Union<H>)
     requires { one ≡ other }
     ensures { result.0 ≡ result.1 }
@@ -144,7 +144,7 @@ pub fn union<H>(one: Datum<H>, other: Datum<H>) -> (Union<H>, Union<H>)
     (one.into_union(), other.into_union())
 }
 
-/// Of `Response::changing`.
+/// Shows that two calls of `Response::changing` on equal data answer equally.
 pub fn changing<H>(first: Datum<H>, also_first: Datum<H>) -> (Response<H>, Response<H>)
     requires { first ≡ also_first }
     ensures { result.0 ≡ result.1 }
@@ -152,14 +152,14 @@ pub fn changing<H>(first: Datum<H>, also_first: Datum<H>) -> (Response<H>, Respo
     (Response::changing(first), Response::changing(also_first))
 }
 
-/// Of `Response::text`.
+/// Shows that two calls of `Response::text` answer equally, unless memory runs out.
 pub fn text<H>(alloc: Global, text: &str) -> (Response<H>, Response<H>)
     ensures { BothAnswer result.0 result.1 → result.0 ≡ result.1 }
 {
     (Response::text(alloc, text), Response::text(alloc, text))
 }
 
-/// Of `Response::arithmetic`.
+/// Shows that two calls of `Response::arithmetic` answer equally, unless memory runs out.
 pub fn arithmetic<H>(alloc: Global, text: &str) -> (Response<H>, Response<H>)
     ensures { BothAnswer result.0 result.1 → result.0 ≡ result.1 }
 {
@@ -169,7 +169,7 @@ pub fn arithmetic<H>(alloc: Global, text: &str) -> (Response<H>, Response<H>)
     )
 }
 
-/// Of `Response::integers`.
+/// Shows that two calls of `Response::integers` answer equally, unless memory runs out.
 pub fn response_of_integers<H: Drop>(alloc: Global, numbers: &[i64]) -> (Response<H>, Response<H>)
     ensures { BothAnswer result.0 result.1 → result.0 ≡ result.1 }
 {
@@ -179,7 +179,7 @@ pub fn response_of_integers<H: Drop>(alloc: Global, numbers: &[i64]) -> (Respons
     )
 }
 
-/// Of `ListedNatives::listed`.
+/// Shows that two calls of `ListedNatives::listed` lend lists of equal entries.
 pub fn listed<'a, H: Host, N: ListedNatives<H>>(
     one: &'a N,
     other: &'a N,
@@ -189,7 +189,8 @@ pub fn listed<'a, H: Host, N: ListedNatives<H>>(
     (one.listed(), other.listed())
 }
 
-/// Of `ListedNatives::call`.
+/// Shows that two calls of `ListedNatives::call` from equal states answer equally and leave equal states,
+/// unless memory runs out.
 pub fn called<H: Host, N: ListedNatives<H>>(
     one: &mut N,
     other: &mut N,
@@ -207,7 +208,7 @@ pub fn called<H: Host, N: ListedNatives<H>>(
     )
 }
 
-/// Of `Response::host`.
+/// Shows that two calls of `Response::host` on equal values answer equally, unless memory runs out.
 pub fn host_given<H: Host>(alloc: Global, value: H, also_value: H) -> (Response<H>, Response<H>)
     requires { value ≡ also_value }
     ensures { BothAnswer result.0 result.1 → result.0 ≡ result.1 }
@@ -218,7 +219,7 @@ pub fn host_given<H: Host>(alloc: Global, value: H, also_value: H) -> (Response<
     )
 }
 
-/// Of `Response::changing_host`.
+/// Shows that two calls of `Response::changing_host` on equal values answer equally, unless memory runs out.
 pub fn host_changed<H: Host>(alloc: Global, first: H, also_first: H) -> (Response<H>, Response<H>)
     requires { first ≡ also_first }
     ensures { BothAnswer result.0 result.1 → result.0 ≡ result.1 }

@@ -1,7 +1,7 @@
 //! The built-in operators.
 
 ghost use Rattle.std.specs.Prelude.{◌≡◌};
-ghost use Rattle.rhai_twins_places.specs.Ends.{may_want};
+ghost use Rattle.rhai_twins_places.specs.Ends.{option_ran_out};
 
 use rhai_operators::direct::{assign_integers, compare_integers};
 use rhai_operators::{builtin_binary, builtin_op_assign, builtin_unary};
@@ -10,7 +10,7 @@ use rhai_tree::token::Token;
 use rhai_values::base::value::{Dynamic, Host};
 use std::alloc::Global;
 
-/// Of `builtin_unary`.
+/// Shows that two calls of `builtin_unary` answer equally, unless memory runs out.
 pub fn unary<H: Host>(
     alloc: Global,
     op: Token,
@@ -19,12 +19,12 @@ pub fn unary<H: Host>(
     Option<Result<Dynamic<H>, EvalAltResult<H>>>,
     Option<Result<Dynamic<H>, EvalAltResult<H>>>,
 )
-    ensures { may_want result.0 ≡ may_want result.1 → result.0 ≡ result.1 }
+    ensures { option_ran_out result.0 ≡ option_ran_out result.1 → result.0 ≡ result.1 }
 {
     (builtin_unary(alloc, op, x), builtin_unary(alloc, op, x))
 }
 
-/// Of `builtin_binary`.
+/// Shows that two calls of `builtin_binary` answer equally, unless memory runs out.
 pub fn binary<H: Host>(
     alloc: Global,
     op: Token,
@@ -34,7 +34,7 @@ pub fn binary<H: Host>(
     Option<Result<Dynamic<H>, EvalAltResult<H>>>,
     Option<Result<Dynamic<H>, EvalAltResult<H>>>,
 )
-    ensures { may_want result.0 ≡ may_want result.1 → result.0 ≡ result.1 }
+    ensures { option_ran_out result.0 ≡ option_ran_out result.1 → result.0 ≡ result.1 }
 {
     (
         builtin_binary(alloc, op, x, y),
@@ -42,7 +42,7 @@ pub fn binary<H: Host>(
     )
 }
 
-/// Of `builtin_op_assign`.
+/// Shows that two calls of `builtin_op_assign` answer equally, unless memory runs out.
 pub fn op_assign<H: Host>(
     alloc: Global,
     op: Token,
@@ -52,7 +52,7 @@ pub fn op_assign<H: Host>(
     Option<Result<Dynamic<H>, EvalAltResult<H>>>,
     Option<Result<Dynamic<H>, EvalAltResult<H>>>,
 )
-    ensures { may_want result.0 ≡ may_want result.1 → result.0 ≡ result.1 }
+    ensures { option_ran_out result.0 ≡ option_ran_out result.1 → result.0 ≡ result.1 }
 {
     (
         builtin_op_assign(alloc, op, x, y),
@@ -60,7 +60,7 @@ pub fn op_assign<H: Host>(
     )
 }
 
-/// Of `direct::compare_integers`.
+/// Shows that two calls of `direct::compare_integers` answer equally.
 pub fn compared<H: Host>(op: Token, x: i64, y: i64) -> (Option<bool>, Option<bool>)
     ensures { result.0 ≡ result.1 }
 {
@@ -70,7 +70,7 @@ pub fn compared<H: Host>(op: Token, x: i64, y: i64) -> (Option<bool>, Option<boo
     )
 }
 
-/// Of `direct::assign_integers`.
+/// Shows that two calls of `direct::assign_integers` answer equally.
 pub fn assigned<H: Host>(op: Token, x: i64, y: i64) -> (Option<i64>, Option<i64>)
     ensures { result.0 ≡ result.1 }
 {

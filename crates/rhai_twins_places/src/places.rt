@@ -6,7 +6,7 @@ ghost use Rattle.rhai_values.specs.Layers.{layer_of};
 ghost use Rattle.rhai_values.specs.declared.base.value.Union.{out-Union};
 ghost use Rattle.rhai_places.specs.Found.{IsKeyless, IsText};
 ghost use Rattle.rhai_places.specs.Parts.{IsPart, IsPlace};
-ghost use Rattle.rhai_twins_places.specs.Ends.{Told, Same, SameTarget, EndsOnce};
+ghost use Rattle.rhai_twins_places.specs.Ends.{SameError, SameAnswer, SameTarget, EndsOnce};
 
 use rhai_places::errors::{data_race, indexing_error, indexing_text, mismatch, property_not_found};
 use rhai_places::indexing::{add_key, get_indexed_mut, missing_key, value_of_index};
@@ -24,7 +24,7 @@ use rhai_values::cells::CellStore;
 use std::alloc::{AllocError, Global};
 use std::marker::PhantomData;
 
-/// Of `errors::indexing_error`.
+/// Shows that two calls of `errors::indexing_error` build equal errors, unless memory runs out.
 pub fn not_indexed<H: Host>(
     alloc: Global,
     cells: &CellStore<H>,
@@ -33,7 +33,7 @@ pub fn not_indexed<H: Host>(
     how: Access,
     refusal: Refusal,
 ) -> (EvalAltResult<H>, EvalAltResult<H>)
-    ensures { Told result.0 result.1 }
+    ensures { SameError result.0 result.1 }
 {
     (
         indexing_error(alloc, cells, source, index, how, refusal),
@@ -41,7 +41,7 @@ pub fn not_indexed<H: Host>(
     )
 }
 
-/// Of `errors::indexing_text`.
+/// Shows that two calls of `errors::indexing_text` write equal texts, unless memory runs out.
 pub fn not_indexed_text(
     alloc: Global,
     object: &str,
@@ -55,14 +55,14 @@ pub fn not_indexed_text(
     )
 }
 
-/// Of `errors::mismatch`.
+/// Shows that two calls of `errors::mismatch` build equal errors, unless memory runs out.
 pub fn mismatched<H>(
     alloc: Global,
     wanted: &str,
     found: &str,
     position: Position,
 ) -> (EvalAltResult<H>, EvalAltResult<H>)
-    ensures { Told result.0 result.1 }
+    ensures { SameError result.0 result.1 }
 {
     (
         mismatch(alloc, wanted, found, position),
@@ -70,12 +70,12 @@ pub fn mismatched<H>(
     )
 }
 
-/// Of `errors::property_not_found`.
+/// Shows that two calls of `errors::property_not_found` build equal errors, unless memory runs out.
 pub fn no_property<H>(
     key: &Shared<Text>,
     position: Position,
 ) -> (EvalAltResult<H>, EvalAltResult<H>)
-    ensures { Told result.0 result.1 }
+    ensures { SameError result.0 result.1 }
 {
     (
         property_not_found(key, position),
@@ -83,14 +83,14 @@ pub fn no_property<H>(
     )
 }
 
-/// Of `errors::data_race`.
+/// Shows that two calls of `errors::data_race` build equal errors, unless memory runs out.
 pub fn race<H>(alloc: Global, position: Position) -> (EvalAltResult<H>, EvalAltResult<H>)
-    ensures { Told result.0 result.1 }
+    ensures { SameError result.0 result.1 }
 {
     (data_race(alloc, position), data_race(alloc, position))
 }
 
-/// Of `indexing::value_of_index`.
+/// Shows that two calls of `indexing::value_of_index` answer equally.
 pub fn index_value<'a, H>(
     cells: &'a CellStore<H>,
     index: &'a Dynamic<H>,
@@ -100,7 +100,8 @@ pub fn index_value<'a, H>(
     (value_of_index(cells, index), value_of_index(cells, index))
 }
 
-/// Of `indexing::add_key`.
+/// Shows that two calls of `indexing::add_key` on equal values answer equally and leave equal values, unless
+/// memory runs out.
 pub fn key_added<H: Host>(
     source: &mut Dynamic<H>,
     also_source: &mut Dynamic<H>,
@@ -114,15 +115,15 @@ pub fn key_added<H: Host>(
     (add_key(source, index), add_key(also_source, index))
 }
 
-/// Of `indexing::missing_key`.
+/// Shows that two calls of `indexing::missing_key` build equal errors, unless memory runs out.
 pub fn no_key<H: Host>(index: &Dynamic<H>, how: Access) -> (EvalAltResult<H>, EvalAltResult<H>)
     requires { IsText (layer_of index.now) }
-    ensures { Told result.0 result.1 }
+    ensures { SameError result.0 result.1 }
 {
     (missing_key(index, how), missing_key(index, how))
 }
 
-/// Of `locate::locate`.
+/// Shows that two calls of `locate::locate` answer equally.
 pub fn located<H>(
     source: &Dynamic<H>,
     index: &Dynamic<H>,
@@ -132,7 +133,7 @@ pub fn located<H>(
     (locate(source, index), locate(source, index))
 }
 
-/// Of `part::read_part`.
+/// Shows that two calls of `part::read_part` answer equally, unless memory runs out.
 pub fn part_read<H>(
     alloc: Global,
     source: &Dynamic<H>,
@@ -150,14 +151,14 @@ pub fn part_read<H>(
     )
 }
 
-/// Of `part::is_part`.
+/// Shows that two calls of `part::is_part` answer equally.
 pub fn has_part<H>(source: &Dynamic<H>, spot: Spot) -> (bool, bool)
     ensures { result.0 ≡ result.1 }
 {
     (is_part(source, spot), is_part(source, spot))
 }
 
-/// Of `place::place_mut`, whatever is written.
+/// Shows that two calls of `place::place_mut` on equal values leave equal values, whatever is written.
 pub fn place_lent<H: Drop>(
     source: &mut Union<H>,
     also_source: &mut Union<H>,
@@ -174,7 +175,8 @@ pub fn place_lent<H: Drop>(
     *place_mut(also_source, spot) = also_value;
 }
 
-/// Of `put::put_part`.
+/// Shows that two calls of `put::put_part` on equal values answer equally and leave equal values, unless
+/// memory runs out.
 pub fn part_put<H: Host>(
     alloc: Global,
     source: &mut Dynamic<H>,
@@ -185,7 +187,7 @@ pub fn part_put<H: Host>(
 ) -> (Result<(), EvalAltResult<H>>, Result<(), EvalAltResult<H>>)
     requires source { source.old ≡ also_source.old }
     requires part { IsPart (layer_of source.old) spot }
-    ensures result { Same result.0 result.1 }
+    ensures result { SameAnswer result.0 result.1 }
     ensures source { is_ok result.0 ≡ is_ok result.1 → source.new ≡ also_source.new }
 {
     (

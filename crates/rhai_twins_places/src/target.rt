@@ -2,7 +2,7 @@
 
 ghost use Rattle.std.specs.Prelude.{◌≡◌, false};
 ghost use Rattle.rhai_places.specs.Targets.{is_place};
-ghost use Rattle.rhai_twins_places.specs.Ends.{wants, Same, SameTarget, EndsOnce};
+ghost use Rattle.rhai_twins_places.specs.Ends.{memory_ran_out, SameAnswer, SameTarget, EndsOnce};
 
 use rhai_places::indexing::get_indexed_mut;
 use rhai_places::spot::Access;
@@ -15,7 +15,7 @@ use rhai_values::cells::CellStore;
 use std::alloc::Global;
 use std::marker::PhantomData;
 
-/// Of `Target::as_ref`.
+/// Shows that two calls of `Target::as_ref` on equal targets lend equal values.
 pub fn as_ref<'a, 't, H>(
     one: &'a Target<'t, H>,
     other: &'a Target<'t, H>,
@@ -26,7 +26,7 @@ pub fn as_ref<'a, 't, H>(
     (one.as_ref(), other.as_ref())
 }
 
-/// Of `Target::is_ref`.
+/// Shows that two calls of `Target::is_ref` on equal targets answer equally.
 pub fn is_ref<'t, H>(one: &Target<'t, H>, other: &Target<'t, H>) -> (bool, bool)
     requires { one.now ≡ other.now }
     ensures { result.0 ≡ result.1 }
@@ -34,7 +34,7 @@ pub fn is_ref<'t, H>(one: &Target<'t, H>, other: &Target<'t, H>) -> (bool, bool)
     (one.is_ref(), other.is_ref())
 }
 
-/// Of `Target::is_temp_value`.
+/// Shows that two calls of `Target::is_temp_value` on equal targets answer equally.
 pub fn is_temp_value<'t, H>(one: &Target<'t, H>, other: &Target<'t, H>) -> (bool, bool)
     requires { one.now ≡ other.now }
     ensures { result.0 ≡ result.1 }
@@ -42,7 +42,7 @@ pub fn is_temp_value<'t, H>(one: &Target<'t, H>, other: &Target<'t, H>) -> (bool
     (one.is_temp_value(), other.is_temp_value())
 }
 
-/// Of `Target::is_shared`.
+/// Shows that two calls of `Target::is_shared` on equal targets answer equally.
 pub fn is_shared<'t, H>(one: &Target<'t, H>, other: &Target<'t, H>) -> (bool, bool)
     requires { one.now ≡ other.now }
     ensures { result.0 ≡ result.1 }
@@ -50,7 +50,7 @@ pub fn is_shared<'t, H>(one: &Target<'t, H>, other: &Target<'t, H>) -> (bool, bo
     (one.is_shared(), other.is_shared())
 }
 
-/// Of `Target::take_or_clone`.
+/// Shows that two calls of `Target::take_or_clone` on equal targets answer equally, unless memory runs out.
 pub fn take_or_clone<'t, H: Host>(
     alloc: Global,
     one: Target<'t, H>,
@@ -61,12 +61,13 @@ pub fn take_or_clone<'t, H: Host>(
 )
     requires place { one.at.now ≡ other.at.now }
     requires part { one.part ≡ other.part }
-    ensures { Same result.0 result.1 }
+    ensures { SameAnswer result.0 result.1 }
 {
     (one.take_or_clone(alloc), other.take_or_clone(alloc))
 }
 
-/// Of `target::take_shown`, and that it leaves the place.
+/// Shows that two calls of `target::take_shown` on equal places answer equally, unless memory runs out. The
+/// places that they leave are equal.
 pub fn take_shown<H: Host>(
     alloc: Global,
     one: &mut Dynamic<H>,
@@ -79,7 +80,7 @@ pub fn take_shown<H: Host>(
 )
     requires place { one.old ≡ other.old }
     requires part { part ≡ also_part }
-    ensures result { Same result.0 result.1 }
+    ensures result { SameAnswer result.0 result.1 }
     ensures place { one.new ≡ other.new }
 {
     (
@@ -88,7 +89,7 @@ pub fn take_shown<H: Host>(
     )
 }
 
-/// Of `Part::value_mut`, whatever is written.
+/// Shows that two calls of `Part::value_mut` on equal parts leave equal parts, whatever is written.
 pub fn value_lent<H: Drop>(
     one: &mut Part<H>,
     other: &mut Part<H>,
@@ -104,7 +105,8 @@ pub fn value_lent<H: Drop>(
     *other.value_mut() = also_value;
 }
 
-/// Of `Target::propagate_changed_value`.
+/// Shows that two calls of `Target::propagate_changed_value` on equal targets answer equally and leave equal
+/// targets, unless memory runs out.
 pub fn put_back<'t, 's, H: Host>(
     alloc: Global,
     one: &mut Target<'t, H>,
@@ -113,9 +115,9 @@ pub fn put_back<'t, 's, H: Host>(
 ) -> (Result<(), EvalAltResult<H>>, Result<(), EvalAltResult<H>>)
     requires place { one.old.at.now ≡ other.old.at.now }
     requires part { one.old.part ≡ other.old.part }
-    ensures answer { Same result.0 result.1 }
+    ensures answer { SameAnswer result.0 result.1 }
     ensures part { one.new.part ≡ other.new.part }
-    ensures place { wants result.0 ≡ wants result.1 → one.new.at.now ≡ other.new.at.now }
+    ensures place { memory_ran_out result.0 ≡ memory_ran_out result.1 → one.new.at.now ≡ other.new.at.now }
 {
     (
         one.propagate_changed_value(alloc, position),
@@ -123,7 +125,8 @@ pub fn put_back<'t, 's, H: Host>(
     )
 }
 
-/// Of `indexing::get_indexed_mut`: what its target shows and of which part it is, or its error.
+/// Shows that two calls of `indexing::get_indexed_mut` on equal values find equal targets, unless memory runs
+/// out. Of a target that is what it shows and of which part it is; where there is none, the errors are equal.
 pub fn indexed<'t, 's, H: Host>(
     one: &'t mut Dynamic<H>,
     other: &'s mut Dynamic<H>,
@@ -144,8 +147,8 @@ pub fn indexed<'t, 's, H: Host>(
     )
 }
 
-/// Of the clause `writes_back` of `indexing::get_indexed_mut`: what stands at the place when the borrow
-/// ends settles what the object is then.
+/// Shows that what stands at the place when the borrow ends settles what the value is then. This is of the
+/// clause `writes_back` of `indexing::get_indexed_mut`.
 pub fn indexed_end<H: Host>(of: PhantomData<H>)
     ensures { EndsOnce H }
 {}

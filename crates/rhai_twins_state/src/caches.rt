@@ -6,7 +6,7 @@ ghost use Rattle.rhai_state.specs.Caches.{depth_of, is_on};
 use rhai_state::caches::Caches;
 use std::alloc::{AllocError, Global};
 
-/// Of `Caches::new`.
+/// Shows that two calls of `Caches::new` create caches of one depth, both on or both off.
 pub fn new<H>(alloc: Global) -> (Caches<H>, Caches<H>)
     ensures depth { depth_of result.0 ≡ depth_of result.1 }
     ensures on { is_on result.0 ≡ is_on result.1 }
@@ -14,7 +14,7 @@ pub fn new<H>(alloc: Global) -> (Caches<H>, Caches<H>)
     (Caches::new(alloc), Caches::new(alloc))
 }
 
-/// Of `Caches::off`.
+/// Shows that two calls of `Caches::off` create caches of one depth, both on or both off.
 pub fn off<H>(alloc: Global) -> (Caches<H>, Caches<H>)
     ensures depth { depth_of result.0 ≡ depth_of result.1 }
     ensures on { is_on result.0 ≡ is_on result.1 }
@@ -22,7 +22,7 @@ pub fn off<H>(alloc: Global) -> (Caches<H>, Caches<H>)
     (Caches::off(alloc), Caches::off(alloc))
 }
 
-/// Of `Caches::len`.
+/// Shows that `Caches::len` counts the levels of caches of one depth alike.
 pub fn len<H>(one: &Caches<H>, other: &Caches<H>) -> (usize, usize)
     requires depth { depth_of one.now ≡ depth_of other.now }
     ensures { result.0 ≡ result.1 }
@@ -30,7 +30,7 @@ pub fn len<H>(one: &Caches<H>, other: &Caches<H>) -> (usize, usize)
     (one.len(), other.len())
 }
 
-/// Of `Caches::push`.
+/// Shows that `Caches::push` keeps two caches alike, in their depth and in whether they are on.
 pub fn push<H: Drop>(
     one: &mut Caches<H>,
     other: &mut Caches<H>,
@@ -43,7 +43,7 @@ pub fn push<H: Drop>(
     (one.push(), other.push())
 }
 
-/// Of `Caches::rewind`.
+/// Shows that `Caches::rewind` keeps two caches alike, in their depth and in whether they are on.
 pub fn rewind<H: Drop>(one: &mut Caches<H>, other: &mut Caches<H>, len: usize)
     requires depth { depth_of one.old ≡ depth_of other.old }
     requires on { is_on one.old ≡ is_on other.old }
@@ -54,7 +54,7 @@ pub fn rewind<H: Drop>(one: &mut Caches<H>, other: &mut Caches<H>, len: usize)
     other.rewind(len);
 }
 
-/// Of `Caches::clear`.
+/// Shows that `Caches::clear` keeps two caches alike, in their depth and in whether they are on.
 pub fn clear<H: Drop>(one: &mut Caches<H>, other: &mut Caches<H>)
     requires depth { depth_of one.old ≡ depth_of other.old }
     requires on { is_on one.old ≡ is_on other.old }

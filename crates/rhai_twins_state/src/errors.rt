@@ -5,7 +5,7 @@ ghost use Rattle.std.specs.Prelude.{◌≡◌};
 use rhai_state::error::{EvalAltResult, WayOut};
 use rhai_tree::position::Position;
 
-/// Of `EvalAltResult::way_out`.
+/// Shows that `EvalAltResult::way_out` makes equal ways out of equal errors.
 pub fn way_out<H>(one: EvalAltResult<H>, other: EvalAltResult<H>) -> (WayOut<H>, WayOut<H>)
     requires { one ≡ other }
     ensures { result.0 ≡ result.1 }
@@ -13,7 +13,7 @@ pub fn way_out<H>(one: EvalAltResult<H>, other: EvalAltResult<H>) -> (WayOut<H>,
     (one.way_out(), other.way_out())
 }
 
-/// Of `EvalAltResult::position`.
+/// Shows that `EvalAltResult::position` reads equal positions from equal errors.
 pub fn position<H>(one: &EvalAltResult<H>, other: &EvalAltResult<H>) -> (Position, Position)
     requires { one.now ≡ other.now }
     ensures { result.0 ≡ result.1 }
@@ -21,7 +21,7 @@ pub fn position<H>(one: &EvalAltResult<H>, other: &EvalAltResult<H>) -> (Positio
     (one.position(), other.position())
 }
 
-/// Of `EvalAltResult::set_position`.
+/// Shows that `EvalAltResult::set_position` leaves equal errors equal.
 pub fn set_position<H>(one: &mut EvalAltResult<H>, other: &mut EvalAltResult<H>, position: Position)
     requires { one.old ≡ other.old }
     ensures { one.new ≡ other.new }
@@ -30,7 +30,7 @@ pub fn set_position<H>(one: &mut EvalAltResult<H>, other: &mut EvalAltResult<H>,
     other.set_position(position);
 }
 
-/// Of `EvalAltResult::name`.
+/// Shows that `EvalAltResult::name` names equal errors alike.
 pub fn name<H>(one: &EvalAltResult<H>, other: &EvalAltResult<H>) -> (&'static str, &'static str)
     requires { one.now ≡ other.now }
     ensures { result.0.now ≡ result.1.now }
@@ -38,7 +38,7 @@ pub fn name<H>(one: &EvalAltResult<H>, other: &EvalAltResult<H>) -> (&'static st
     (one.name(), other.name())
 }
 
-/// Of `EvalAltResult::is_catchable`.
+/// Shows that `EvalAltResult::is_catchable` answers alike for equal errors.
 pub fn is_catchable<H>(one: &EvalAltResult<H>, other: &EvalAltResult<H>) -> (bool, bool)
     requires { one.now ≡ other.now }
     ensures { result.0 ≡ result.1 }
@@ -46,7 +46,7 @@ pub fn is_catchable<H>(one: &EvalAltResult<H>, other: &EvalAltResult<H>) -> (boo
     (one.is_catchable(), other.is_catchable())
 }
 
-/// Of `EvalAltResult::is_pseudo_error`.
+/// Shows that `EvalAltResult::is_pseudo_error` answers alike for equal errors.
 pub fn is_pseudo_error<H>(one: &EvalAltResult<H>, other: &EvalAltResult<H>) -> (bool, bool)
     requires { one.now ≡ other.now }
     ensures { result.0 ≡ result.1 }
@@ -54,7 +54,7 @@ pub fn is_pseudo_error<H>(one: &EvalAltResult<H>, other: &EvalAltResult<H>) -> (
     (one.is_pseudo_error(), other.is_pseudo_error())
 }
 
-/// Of `EvalAltResult::is_system_exception`.
+/// Shows that `EvalAltResult::is_system_exception` answers alike for equal errors.
 pub fn is_system_exception<H>(one: &EvalAltResult<H>, other: &EvalAltResult<H>) -> (bool, bool)
     requires { one.now ≡ other.now }
     ensures { result.0 ≡ result.1 }

@@ -19,7 +19,8 @@ use rhai_tree::{Shared, Text};
 use rhai_values::base::value::{Dynamic, EncapsulatedEnviron, Host, Import, Module, ModuleFn};
 use std::alloc::{AllocError, Global};
 
-/// Of `environ::environ_of`.
+/// Shows that two calls of `environ::environ_of` build environments of equal libraries, imports and
+/// constants.
 pub fn environ<H: Drop>(
     alloc: Global,
     global: &GlobalRuntimeState<H>,
@@ -37,14 +38,14 @@ pub fn environ<H: Drop>(
     (environ_of(alloc, global), environ_of(alloc, global))
 }
 
-/// Of `key::has_key`.
+/// Shows that two calls of `key::has_key` answer alike.
 pub fn key(def: &ScriptFuncDef, key: FnKey<'_>) -> (bool, bool)
     ensures { result.0 ≡ result.1 }
 {
     (has_key(def, key), has_key(def, key))
 }
 
-/// Of `lookup::find_in_module`.
+/// Shows that two calls of `lookup::find_in_module` find equal functions.
 pub fn in_module<'m, H>(
     within: &'m Module<H>,
     key: FnKey<'_>,
@@ -54,7 +55,7 @@ pub fn in_module<'m, H>(
     (find_in_module(within, key), find_in_module(within, key))
 }
 
-/// Of `lookup::find_in_modules`.
+/// Shows that two calls of `lookup::find_in_modules` find equal functions.
 pub fn in_modules<'m, H>(
     modules: &'m [Shared<Module<H>>],
     key: FnKey<'_>,
@@ -64,7 +65,7 @@ pub fn in_modules<'m, H>(
     (find_in_modules(modules, key), find_in_modules(modules, key))
 }
 
-/// Of `lookup::find_function`.
+/// Shows that two calls of `lookup::find_function` find equal functions.
 pub fn function<'m, H>(
     key: FnKey<'_>,
     lib: &'m [Shared<Module<H>>],
@@ -80,7 +81,8 @@ pub fn function<'m, H>(
     )
 }
 
-/// Of `metadata::metadata_of`.
+/// Shows that two calls of `metadata::metadata_of` tell a function's name, parameters, access and type of
+/// `this` alike.
 pub fn metadata<'m>(
     alloc: Global,
     def: &'m ScriptFuncDef,
@@ -98,7 +100,8 @@ pub fn metadata<'m>(
     (metadata_of(alloc, def), metadata_of(alloc, def))
 }
 
-/// Of `ScriptFnMetadata::try_clone`.
+/// Shows that `ScriptFnMetadata::try_clone` copies name, parameters, access and type of `this` alike,
+/// from equal originals.
 pub fn metadata_copy<'m>(
     one: &ScriptFnMetadata<'m>,
     other: &ScriptFnMetadata<'m>,
@@ -117,14 +120,15 @@ pub fn metadata_copy<'m>(
     (one.try_clone(), other.try_clone())
 }
 
-/// Of `named::arity_named`.
+/// Shows that two calls of `named::arity_named` count alike.
 pub fn arity<H>(lib: &[Shared<Module<H>>], name: &str) -> (Option<usize>, Option<usize>)
     ensures { result.0 ≡ result.1 }
 {
     (arity_named(lib, name), arity_named(lib, name))
 }
 
-/// Of `entering::push_parameters`.
+/// Shows that `entering::push_parameters` leaves equal scopes and arguments, from equal scopes and
+/// arguments.
 pub fn parameters<H: Host>(
     scope: &mut Scope<H>,
     also_scope: &mut Scope<H>,
@@ -143,7 +147,7 @@ pub fn parameters<H: Host>(
     )
 }
 
-/// Of `function::share_function`.
+/// Shows that two calls of `function::share_function` share equal functions.
 pub fn share<H: Drop>(
     function: &ModuleFn<H>,
 ) -> (
@@ -155,7 +159,7 @@ pub fn share<H: Drop>(
     (share_function(function), share_function(function))
 }
 
-/// Of `function::called_function`.
+/// Shows that two calls of `function::called_function` find equal functions.
 pub fn called<H: Drop>(
     key: FnKey<'_>,
     offered: &Offered<'_, H>,

@@ -1,7 +1,7 @@
-//! The contracts of the state of a run and of functions of scripts, each determined. Nothing here is
-//! run: a function calls what its law is of twice, from equal starts, and its contract says that both
-//! calls end equally, want of memory aside. Its proof sees the contract of the call alone, so a body
-//! that meets that contract and ends differently for a caller does not exist.
+//! The contracts of the state of a run and of functions of scripts, each determined. Nothing here is run:
+//! a function calls what its law is of twice, from equal starts, and its contract says that both calls
+//! end equally, unless memory runs out. Its proof sees the contract of the call alone, so a body that
+//! meets that contract and ends differently for a caller does not exist.
 #![tactic(auto)]
 
 pub mod caches;

@@ -8,15 +8,15 @@ use rhai_functions::metadata::ScriptFnMetadata;
 use rhai_tree::function::FnAccess;
 use std::cmp::Ordering;
 
-/// Private comes before public.
+/// Shows that private comes before public.
 pub fn private_comes_first() -> Ordering
     ensures { result ≡ Less }
 {
     FnAccess::Private.cmp(&FnAccess::Public)
 }
 
-/// Functions stand in the order of their names; those of a name in that of their parameters, then of who may
-/// call them, and last of the type of their `this`.
+/// Shows that functions stand in the order of their names. Those of a name stand in that of their
+/// parameters, then of who may call them, and last of the type of their `this`.
 pub fn by_name_first<'a>(one: &ScriptFnMetadata<'a>, other: &ScriptFnMetadata<'a>) -> Ordering
     ensures { result ≡ ordering_then (⟦<&'a str as Ord>⟧.cmp one.now.name other.now.name)
         (ordering_then (⟦<Vec<&'a str> as Ord>⟧.cmp one.now.params other.now.params)

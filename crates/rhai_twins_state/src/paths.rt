@@ -8,7 +8,7 @@ use rhai_functions::paths;
 use rhai_tree::{Shared, Table, Text};
 use rhai_values::base::value::{Dynamic, Import, Module, ModuleFn};
 
-/// Of `paths::find_import`.
+/// Shows that two calls of `paths::find_import` find equal modules.
 pub fn find_import<'m, H>(
     imports: &'m [Import<H>],
     name: &str,
@@ -21,7 +21,7 @@ pub fn find_import<'m, H>(
     )
 }
 
-/// Of `paths::find_root`.
+/// Shows that two calls of `paths::find_root` find equal modules.
 pub fn find_root<'m, H>(
     imports: &'m [Import<H>],
     named: &'m Table<Shared<Module<H>>>,
@@ -35,7 +35,7 @@ pub fn find_root<'m, H>(
     )
 }
 
-/// Of `paths::find_down`.
+/// Shows that two calls of `paths::find_down` find equal modules.
 pub fn find_down<'m, H>(
     from: &'m Module<H>,
     path: &[Shared<Text>],
@@ -45,7 +45,7 @@ pub fn find_down<'m, H>(
     (paths::find_down(from, path), paths::find_down(from, path))
 }
 
-/// Of `paths::find_constant`.
+/// Shows that two calls of `paths::find_constant` find equal constants.
 pub fn find_constant<'m, H>(
     within: &'m Module<H>,
     name: &str,
@@ -58,7 +58,7 @@ pub fn find_constant<'m, H>(
     )
 }
 
-/// Of `paths::find_global_constant`.
+/// Shows that two calls of `paths::find_global_constant` find equal constants.
 pub fn find_global_constant<'m, H>(
     modules: &'m [Shared<Module<H>>],
     name: &str,
@@ -71,7 +71,7 @@ pub fn find_global_constant<'m, H>(
     )
 }
 
-/// Of `paths::find_public`.
+/// Shows that two calls of `paths::find_public` find equal functions.
 pub fn find_public<'m, H>(
     within: &'m Module<H>,
     key: FnKey<'_>,

@@ -2,7 +2,7 @@
 
 ghost use Rattle.std.specs.Prelude.{◌≡◌, ◌<◌, is_ok, length, string_bytes};
 ghost use Rattle.std.specs.Option.{option_map};
-ghost use Rattle.rhai_state.specs.Scope.{entries_of, shown, Fits};
+ghost use Rattle.rhai_state.specs.Scope.{entries_of, shown_entry, Fits};
 
 use rhai_state::scope;
 use rhai_state::scope::{Scope, ScopeEntry};
@@ -12,14 +12,14 @@ use rhai_values::base::value::{AccessMode, Dynamic};
 use std::alloc::{AllocError, Global};
 use std::num::NonZeroUsize;
 
-/// Of `Scope::new`.
+/// Shows that two calls of `Scope::new` create scopes of equal entries.
 pub fn new<H>(alloc: Global) -> (Scope<H>, Scope<H>)
     ensures { entries_of result.0 ≡ entries_of result.1 }
 {
     (Scope::new(alloc), Scope::new(alloc))
 }
 
-/// Of `Scope::len`.
+/// Shows that `Scope::len` counts equal entries alike.
 pub fn len<H>(one: &Scope<H>, other: &Scope<H>) -> (usize, usize)
     requires { entries_of one.now ≡ entries_of other.now }
     ensures { result.0 ≡ result.1 }
@@ -27,7 +27,7 @@ pub fn len<H>(one: &Scope<H>, other: &Scope<H>) -> (usize, usize)
     (one.len(), other.len())
 }
 
-/// Of `Scope::is_empty`.
+/// Shows that `Scope::is_empty` answers alike for equal entries.
 pub fn is_empty<H>(one: &Scope<H>, other: &Scope<H>) -> (bool, bool)
     requires { entries_of one.now ≡ entries_of other.now }
     ensures { result.0 ≡ result.1 }
@@ -35,7 +35,7 @@ pub fn is_empty<H>(one: &Scope<H>, other: &Scope<H>) -> (bool, bool)
     (one.is_empty(), other.is_empty())
 }
 
-/// Of `Scope::entries`.
+/// Shows that `Scope::entries` answers equal entries for equal ones.
 pub fn entries<'a, H>(
     one: &'a Scope<H>,
     other: &'a Scope<H>,
@@ -46,7 +46,7 @@ pub fn entries<'a, H>(
     (one.entries(), other.entries())
 }
 
-/// Of `Scope::contains`.
+/// Shows that `Scope::contains` answers alike for equal entries.
 pub fn contains<H>(one: &Scope<H>, other: &Scope<H>, name: &str) -> (bool, bool)
     requires { entries_of one.now ≡ entries_of other.now }
     ensures { result.0 ≡ result.1 }
@@ -54,7 +54,7 @@ pub fn contains<H>(one: &Scope<H>, other: &Scope<H>, name: &str) -> (bool, bool)
     (one.contains(name), other.contains(name))
 }
 
-/// Of `Scope::search`.
+/// Shows that `Scope::search` finds one index in equal entries.
 pub fn search<H>(one: &Scope<H>, other: &Scope<H>, name: &str) -> (Option<usize>, Option<usize>)
     requires { entries_of one.now ≡ entries_of other.now }
     ensures { result.0 ≡ result.1 }
@@ -62,7 +62,7 @@ pub fn search<H>(one: &Scope<H>, other: &Scope<H>, name: &str) -> (Option<usize>
     (one.search(name), other.search(name))
 }
 
-/// Of `Scope::place_of`.
+/// Shows that `Scope::place_of` finds one index in equal entries.
 pub fn place_of<H>(
     one: &Scope<H>,
     other: &Scope<H>,
@@ -76,7 +76,7 @@ pub fn place_of<H>(
     (one.place_of(offset, name), other.place_of(offset, name))
 }
 
-/// Of `Scope::get`.
+/// Shows that `Scope::get` reads equal parts from equal entries.
 pub fn get<'a, H>(
     one: &'a Scope<H>,
     other: &'a Scope<H>,
@@ -86,12 +86,12 @@ pub fn get<'a, H>(
     Option<(&'a str, &'a Dynamic<H>, &'a [Shared<Text>])>,
 )
     requires { entries_of one.now ≡ entries_of other.now }
-    ensures { option_map shown result.0 ≡ option_map shown result.1 }
+    ensures { option_map shown_entry result.0 ≡ option_map shown_entry result.1 }
 {
     (one.get(index), other.get(index))
 }
 
-/// Of `Scope::value_at`.
+/// Shows that `Scope::value_at` reads equal values from equal entries.
 pub fn value_at<'a, H>(
     one: &'a Scope<H>,
     other: &'a Scope<H>,
@@ -104,7 +104,7 @@ pub fn value_at<'a, H>(
     (one.value_at(index), other.value_at(index))
 }
 
-/// Of `Scope::exchange`.
+/// Shows that `Scope::exchange` answers equal entries and leaves equal scopes, from equal entries.
 pub fn exchange<H: Drop>(
     one: &mut Scope<H>,
     other: &mut Scope<H>,
@@ -119,7 +119,7 @@ pub fn exchange<H: Drop>(
     (one.exchange(entries), other.exchange(also_entries))
 }
 
-/// Of `scope::push_variable`.
+/// Shows that `scope::push_variable` leaves equal entries, from equal entries, names and values.
 pub fn push_variable<H: Drop>(
     one: &mut Items<ScopeEntry<H>>,
     other: &mut Items<ScopeEntry<H>>,
@@ -139,7 +139,7 @@ pub fn push_variable<H: Drop>(
     )
 }
 
-/// Of `scope::push_integer`.
+/// Shows that `scope::push_integer` leaves equal entries, from equal entries and names.
 pub fn push_integer<H: Drop>(
     one: &mut Items<ScopeEntry<H>>,
     other: &mut Items<ScopeEntry<H>>,
@@ -157,7 +157,8 @@ pub fn push_integer<H: Drop>(
     )
 }
 
-/// Of `Scope::value_at_mut`, whatever is written.
+/// Shows that `Scope::value_at_mut` leaves equal entries, from equal entries, whatever equal values are
+/// written.
 pub fn value_at_mut<H: Drop>(
     one: &mut Scope<H>,
     other: &mut Scope<H>,
@@ -174,7 +175,8 @@ pub fn value_at_mut<H: Drop>(
     *other.value_at_mut(index) = also_value;
 }
 
-/// Of `Scope::replace_value`.
+/// Shows that `Scope::replace_value` answers equal values and leaves equal entries, from equal entries
+/// and values.
 pub fn replace_value<H>(
     one: &mut Scope<H>,
     other: &mut Scope<H>,
@@ -194,7 +196,7 @@ pub fn replace_value<H>(
     )
 }
 
-/// Of `Scope::push_entry`.
+/// Shows that `Scope::push_entry` leaves equal entries, from equal entries, names and values.
 pub fn push_entry<H: Drop>(
     one: &mut Scope<H>,
     other: &mut Scope<H>,
@@ -215,7 +217,7 @@ pub fn push_entry<H: Drop>(
     )
 }
 
-/// Of `Scope::push_shared`.
+/// Shows that `Scope::push_shared` leaves equal entries, from equal entries, names and values.
 pub fn push_shared<H: Drop>(
     one: &mut Scope<H>,
     other: &mut Scope<H>,
@@ -236,7 +238,7 @@ pub fn push_shared<H: Drop>(
     )
 }
 
-/// Of `Scope::add_alias`.
+/// Shows that `Scope::add_alias` leaves equal entries, from equal entries and aliases.
 pub fn add_alias<H: Drop>(
     one: &mut Scope<H>,
     other: &mut Scope<H>,
@@ -256,7 +258,7 @@ pub fn add_alias<H: Drop>(
     )
 }
 
-/// Of `Scope::truncate_aliases`.
+/// Shows that `Scope::truncate_aliases` leaves equal entries, from equal entries.
 pub fn truncate_aliases<H: Drop>(one: &mut Scope<H>, other: &mut Scope<H>, index: usize, len: usize)
     requires same { entries_of one.old ≡ entries_of other.old }
     requires known { index < length (entries_of one.old) }
@@ -267,7 +269,7 @@ pub fn truncate_aliases<H: Drop>(one: &mut Scope<H>, other: &mut Scope<H>, index
     other.truncate_aliases(index, len);
 }
 
-/// Of `Scope::rewind`.
+/// Shows that `Scope::rewind` leaves equal entries, from equal entries.
 pub fn rewind<H: Drop>(one: &mut Scope<H>, other: &mut Scope<H>, len: usize)
     requires { entries_of one.old ≡ entries_of other.old }
     ensures { entries_of one.new ≡ entries_of other.new }
@@ -276,7 +278,7 @@ pub fn rewind<H: Drop>(one: &mut Scope<H>, other: &mut Scope<H>, len: usize)
     other.rewind(len);
 }
 
-/// Of `Scope::remove_range`.
+/// Shows that `Scope::remove_range` leaves equal entries, from equal entries.
 pub fn remove_range<H: Drop>(one: &mut Scope<H>, other: &mut Scope<H>, start: usize, len: usize)
     requires { entries_of one.old ≡ entries_of other.old }
     ensures { entries_of one.new ≡ entries_of other.new }
@@ -285,7 +287,8 @@ pub fn remove_range<H: Drop>(one: &mut Scope<H>, other: &mut Scope<H>, start: us
     other.remove_range(start, len);
 }
 
-/// Of `Scope::spare_mut`, whatever is written.
+/// Shows that `Scope::spare_mut` leaves equal scopes, from equal scopes, whatever equal values are
+/// written.
 pub fn spare_mut<H: Drop>(
     one: &mut Scope<H>,
     other: &mut Scope<H>,
@@ -299,7 +302,7 @@ pub fn spare_mut<H: Drop>(
     *other.spare_mut() = also_value;
 }
 
-/// Of `Slot::lend`, whatever is written.
+/// Shows that `Slot::lend` leaves equal slots, from equal slots, whatever equal values are written.
 pub fn lend<H: Drop>(
     one: &mut Slot<H>,
     other: &mut Slot<H>,

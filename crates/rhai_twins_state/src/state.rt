@@ -10,7 +10,7 @@ use rhai_values::base::value::{Dynamic, Host, Module};
 use std::alloc::{AllocError, Global};
 use std::num::NonZeroUsize;
 
-/// Of `limits::operation_limit`.
+/// Shows that two calls of `limits::operation_limit` answer one limit.
 pub fn operation_limit(max_operations: u64) -> (u64, u64)
     ensures { result.0 ≡ result.1 }
 {
@@ -20,7 +20,7 @@ pub fn operation_limit(max_operations: u64) -> (u64, u64)
     )
 }
 
-/// Of `GlobalRuntimeState::new`.
+/// Shows that two calls of `GlobalRuntimeState::new` create equal states.
 pub fn new<H: Drop>(
     alloc: Global,
 ) -> (
@@ -35,7 +35,8 @@ pub fn new<H: Drop>(
     )
 }
 
-/// Of `GlobalRuntimeState::push_import`.
+/// Shows that `GlobalRuntimeState::push_import` leaves equal states, from equal states, names and
+/// modules.
 pub fn push_import<H: Drop>(
     one: &mut GlobalRuntimeState<H>,
     other: &mut GlobalRuntimeState<H>,
@@ -55,7 +56,7 @@ pub fn push_import<H: Drop>(
     )
 }
 
-/// Of `GlobalRuntimeState::truncate_imports`.
+/// Shows that `GlobalRuntimeState::truncate_imports` leaves equal states equal.
 pub fn truncate_imports<H: Drop>(
     one: &mut GlobalRuntimeState<H>,
     other: &mut GlobalRuntimeState<H>,
@@ -68,7 +69,7 @@ pub fn truncate_imports<H: Drop>(
     other.truncate_imports(len);
 }
 
-/// Of `GlobalRuntimeState::find_import`.
+/// Shows that `GlobalRuntimeState::find_import` finds one index in equal states.
 pub fn find_import<H>(
     one: &GlobalRuntimeState<H>,
     other: &GlobalRuntimeState<H>,
@@ -80,7 +81,7 @@ pub fn find_import<H>(
     (one.find_import(name), other.find_import(name))
 }
 
-/// Of `GlobalRuntimeState::offset_in_use`.
+/// Shows that `GlobalRuntimeState::offset_in_use` answers equal offsets for equal states.
 pub fn offset_in_use<H>(
     one: &GlobalRuntimeState<H>,
     other: &GlobalRuntimeState<H>,
@@ -92,7 +93,7 @@ pub fn offset_in_use<H>(
     (one.offset_in_use(offset), other.offset_in_use(offset))
 }
 
-/// Of `GlobalRuntimeState::fits`.
+/// Shows that `GlobalRuntimeState::fits` answers alike for equal states and scopes.
 pub fn fits<H: Host>(
     one: &GlobalRuntimeState<H>,
     other: &GlobalRuntimeState<H>,

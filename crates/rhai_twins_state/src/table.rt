@@ -10,7 +10,8 @@ use rhai_tree::position::Position;
 use rhai_values::base::value::{Dynamic, Host};
 use rhai_values::cells::CellStore;
 
-/// Of `NativeTable::call` on a first argument.
+/// Shows that `NativeTable::call` on equal first arguments answers alike, and leaves equal arguments and
+/// states.
 pub fn call<H: Host, T: NativeTable<H>>(
     one: &mut T,
     other: &mut T,
@@ -34,7 +35,8 @@ pub fn call<H: Host, T: NativeTable<H>>(
     )
 }
 
-/// Of `NativeTable::call_numbered` on a first argument.
+/// Shows that `NativeTable::call_numbered` on equal first arguments answers alike, and leaves equal
+/// arguments and states.
 pub fn call_numbered<H: Host, T: NativeTable<H>>(
     one: &mut T,
     other: &mut T,
@@ -58,7 +60,7 @@ pub fn call_numbered<H: Host, T: NativeTable<H>>(
     )
 }
 
-/// Of `NativeTable::is_pure`.
+/// Shows that `NativeTable::is_pure` answers alike for tables in equal states.
 pub fn is_pure<H: Host, T: NativeTable<H>>(
     one: &T,
     other: &T,
@@ -75,7 +77,7 @@ pub fn is_pure<H: Host, T: NativeTable<H>>(
     )
 }
 
-/// Of `NativeTable::is_pure_numbered`.
+/// Shows that `NativeTable::is_pure_numbered` answers alike for tables in equal states.
 pub fn is_pure_numbered<H: Host, T: NativeTable<H>>(
     one: &T,
     other: &T,

@@ -5,7 +5,8 @@ ghost use Rattle.std.specs.Prelude.{◌≡◌, is_ok, IfOk, IfErr};
 use rhai_tree::Boxed;
 use std::alloc::{AllocError, AllocFailed, Global};
 
-/// Of `Boxed::try_new`.
+/// Shows that two calls of `Boxed::try_new` with equal values make equal boxes, or return equal
+/// values.
 pub fn try_new<T>(
     alloc: Global,
     value: T,
@@ -24,7 +25,7 @@ pub fn try_new<T>(
     )
 }
 
-/// Of `Boxed::get`.
+/// Shows that two calls of `Boxed::get` on equal boxes lend equal values.
 pub fn get<'a, T>(one: &'a Boxed<T>, other: &'a Boxed<T>) -> (&'a T, &'a T)
     requires { one.now ≡ other.now }
     ensures { result.0.now ≡ result.1.now }
@@ -32,7 +33,7 @@ pub fn get<'a, T>(one: &'a Boxed<T>, other: &'a Boxed<T>) -> (&'a T, &'a T)
     (one.get(), other.get())
 }
 
-/// Of `Boxed::get_mut`, whatever is written.
+/// Shows that two calls of `Boxed::get_mut` on equal boxes leave equal boxes, whatever is written.
 pub fn get_mut<T: Drop>(one: &mut Boxed<T>, other: &mut Boxed<T>, value: T, also_value: T)
     requires same { one.old ≡ other.old }
     requires value { value ≡ also_value }
@@ -42,7 +43,7 @@ pub fn get_mut<T: Drop>(one: &mut Boxed<T>, other: &mut Boxed<T>, value: T, also
     *other.get_mut() = also_value;
 }
 
-/// Of `Boxed::into_inner`.
+/// Shows that two calls of `Boxed::into_inner` on equal boxes give equal values.
 pub fn into_inner<T>(one: Boxed<T>, other: Boxed<T>) -> (T, T)
     requires { one ≡ other }
     ensures { result.0 ≡ result.1 }
@@ -50,7 +51,7 @@ pub fn into_inner<T>(one: Boxed<T>, other: Boxed<T>) -> (T, T)
     (one.into_inner(), other.into_inner())
 }
 
-/// Of `Boxed::new`.
+/// Shows that two calls of `Boxed::new` with equal values make equal boxes.
 pub fn new<T: Drop>(
     alloc: Global,
     value: T,

@@ -6,14 +6,14 @@ ghost use Rattle.std.specs.Option.{option_copied};
 use rhai_tree::Items;
 use std::alloc::{AllocError, AllocFailed, Global};
 
-/// Of `Items::new`.
+/// Shows that two calls of `Items::new` make equal lists.
 pub fn new<T>(alloc: Global) -> (Items<T>, Items<T>)
     ensures { result.0 ≡ result.1 }
 {
     (Items::new(alloc), Items::new(alloc))
 }
 
-/// Of `Items::from_vec`.
+/// Shows that two calls of `Items::from_vec` with equal items make equal lists.
 pub fn from_vec<T>(items: Vec<T>, also_items: Vec<T>) -> (Items<T>, Items<T>)
     requires { items.items ≡ also_items.items }
     ensures { result.0 ≡ result.1 }
@@ -21,7 +21,7 @@ pub fn from_vec<T>(items: Vec<T>, also_items: Vec<T>) -> (Items<T>, Items<T>)
     (Items::from_vec(items), Items::from_vec(also_items))
 }
 
-/// Of `Items::into_vec`.
+/// Shows that two calls of `Items::into_vec` on equal lists give equal items.
 pub fn into_vec<T>(one: Items<T>, other: Items<T>) -> (Vec<T>, Vec<T>)
     requires { one ≡ other }
     ensures { result.0.items ≡ result.1.items }
@@ -29,7 +29,7 @@ pub fn into_vec<T>(one: Items<T>, other: Items<T>) -> (Vec<T>, Vec<T>)
     (one.into_vec(), other.into_vec())
 }
 
-/// Of `Items::as_slice`.
+/// Shows that two calls of `Items::as_slice` on equal lists lend equal items.
 pub fn as_slice<'a, T>(one: &'a Items<T>, other: &'a Items<T>) -> (&'a [T], &'a [T])
     requires { one.now ≡ other.now }
     ensures { result.0.now ≡ result.1.now }
@@ -37,7 +37,8 @@ pub fn as_slice<'a, T>(one: &'a Items<T>, other: &'a Items<T>) -> (&'a [T], &'a 
     (one.as_slice(), other.as_slice())
 }
 
-/// Of `Items::as_mut_slice`, whatever is written to an item of it.
+/// Shows that two calls of `Items::as_mut_slice` on equal lists leave equal lists, whatever is
+/// written to an item.
 pub fn as_mut_slice<T: Drop>(
     one: &mut Items<T>,
     other: &mut Items<T>,
@@ -54,7 +55,7 @@ pub fn as_mut_slice<T: Drop>(
     other.as_mut_slice()[at] = also_item;
 }
 
-/// Of `Items::at_mut`, whatever is written.
+/// Shows that two calls of `Items::at_mut` on equal lists leave equal lists, whatever is written.
 pub fn at_mut<T: Drop>(one: &mut Items<T>, other: &mut Items<T>, at: usize, item: T, also_item: T)
     requires same { one.old ≡ other.old }
     requires item { item ≡ also_item }
@@ -65,7 +66,7 @@ pub fn at_mut<T: Drop>(one: &mut Items<T>, other: &mut Items<T>, at: usize, item
     *other.at_mut(at) = also_item;
 }
 
-/// Of `Items::len`.
+/// Shows that two calls of `Items::len` on equal lists answer equally.
 pub fn len<T>(one: &Items<T>, other: &Items<T>) -> (usize, usize)
     requires { one.now ≡ other.now }
     ensures { result.0 ≡ result.1 }
@@ -73,7 +74,7 @@ pub fn len<T>(one: &Items<T>, other: &Items<T>) -> (usize, usize)
     (one.len(), other.len())
 }
 
-/// Of `Items::is_empty`.
+/// Shows that two calls of `Items::is_empty` on equal lists answer equally.
 pub fn is_empty<T>(one: &Items<T>, other: &Items<T>) -> (bool, bool)
     requires { one.now ≡ other.now }
     ensures { result.0 ≡ result.1 }
@@ -81,7 +82,7 @@ pub fn is_empty<T>(one: &Items<T>, other: &Items<T>) -> (bool, bool)
     (one.is_empty(), other.is_empty())
 }
 
-/// Of `Items::get`.
+/// Shows that two calls of `Items::get` on equal lists find equal items.
 pub fn get<'a, T>(
     one: &'a Items<T>,
     other: &'a Items<T>,
@@ -93,7 +94,8 @@ pub fn get<'a, T>(
     (one.get(at), other.get(at))
 }
 
-/// Of `Items::try_push`.
+/// Shows that two calls of `Items::try_push` on equal lists with equal items leave equal lists, or
+/// return equal items.
 pub fn try_push<T>(
     one: &mut Items<T>,
     other: &mut Items<T>,
@@ -108,7 +110,7 @@ pub fn try_push<T>(
     (one.try_push(item), other.try_push(also_item))
 }
 
-/// Of `Items::pop`.
+/// Shows that two calls of `Items::pop` on equal lists take equal items and leave equal lists.
 pub fn pop<T>(one: &mut Items<T>, other: &mut Items<T>) -> (Option<T>, Option<T>)
     requires { one.old ≡ other.old }
     ensures result { result.0 ≡ result.1 }
@@ -117,7 +119,7 @@ pub fn pop<T>(one: &mut Items<T>, other: &mut Items<T>) -> (Option<T>, Option<T>
     (one.pop(), other.pop())
 }
 
-/// Of `Items::remove`.
+/// Shows that two calls of `Items::remove` on equal lists take equal items and leave equal lists.
 pub fn remove<T>(one: &mut Items<T>, other: &mut Items<T>, at: usize) -> (T, T)
     requires same { one.old ≡ other.old }
     requires within { at < length one.old }
@@ -127,7 +129,7 @@ pub fn remove<T>(one: &mut Items<T>, other: &mut Items<T>, at: usize) -> (T, T)
     (one.remove(at), other.remove(at))
 }
 
-/// Of `Items::push`.
+/// Shows that two calls of `Items::push` on equal lists with equal items leave equal lists.
 pub fn push<T: Drop>(
     one: &mut Items<T>,
     other: &mut Items<T>,
@@ -141,7 +143,7 @@ pub fn push<T: Drop>(
     (one.push(item), other.push(also_item))
 }
 
-/// Of `Items::insert`.
+/// Shows that two calls of `Items::insert` on equal lists with equal items leave equal lists.
 pub fn insert<T: Drop>(
     one: &mut Items<T>,
     other: &mut Items<T>,
@@ -157,7 +159,7 @@ pub fn insert<T: Drop>(
     (one.insert(at, item), other.insert(at, also_item))
 }
 
-/// Of `Items::truncate`.
+/// Shows that two calls of `Items::truncate` on equal lists leave equal lists.
 pub fn truncate<T: Drop>(one: &mut Items<T>, other: &mut Items<T>, count: usize)
     requires { one.old ≡ other.old }
     ensures { one.new ≡ other.new }
@@ -166,7 +168,7 @@ pub fn truncate<T: Drop>(one: &mut Items<T>, other: &mut Items<T>, count: usize)
     other.truncate(count);
 }
 
-/// Of `Items::set`.
+/// Shows that two calls of `Items::set` on equal lists with equal items leave equal lists.
 pub fn set<T: Drop>(one: &mut Items<T>, other: &mut Items<T>, at: usize, item: T, also_item: T)
     requires same { one.old ≡ other.old }
     requires item { item ≡ also_item }
@@ -177,7 +179,7 @@ pub fn set<T: Drop>(one: &mut Items<T>, other: &mut Items<T>, at: usize, item: T
     other.set(at, also_item);
 }
 
-/// Of `Items::append`.
+/// Shows that two calls of `Items::append` on equal lists with equal items leave equal lists.
 pub fn append<T: Drop>(
     one: &mut Items<T>,
     other: &mut Items<T>,
@@ -191,7 +193,7 @@ pub fn append<T: Drop>(
     (one.append(more), other.append(also_more))
 }
 
-/// Of `Items::from_slice`.
+/// Shows that two calls of `Items::from_slice` on one slice make equal lists.
 pub fn from_slice<T: Copy>(
     alloc: Global,
     items: &[T],

@@ -1,6 +1,6 @@
 //! The contracts of `rhai_tree`, each determined. Nothing here is run: a function calls what its law
-//! is of twice, from equal starts, and its contract says that both calls end equally, want of memory
-//! aside. Its proof sees the contract of the call alone, so a body that meets that contract and ends
+//! is of twice, from equal starts, and its contract says that both calls end equally, unless memory
+//! runs out. Its proof sees the contract of the call alone, so a body that meets that contract and ends
 //! differently for a caller does not exist.
 #![tactic(auto)]
 

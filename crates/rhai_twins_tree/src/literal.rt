@@ -4,7 +4,7 @@ ghost use Rattle.std.specs.Prelude.{◌≡◌};
 
 use rhai_tree::literal::Literal;
 
-/// Of `literal::same_literal`.
+/// Shows that two calls of `literal::same_literal` on two constants answer equally.
 pub fn same_literal(this: &Literal, that: &Literal) -> (bool, bool)
     ensures { result.0 ≡ result.1 }
 {

@@ -5,7 +5,7 @@ ghost use Rattle.std.specs.Prelude.{◌≡◌, is_ok};
 use rhai_tree::Shared;
 use std::alloc::{AllocError, Global};
 
-/// Of `Shared::get`.
+/// Shows that two calls of `Shared::get` on equal values lend equal values.
 pub fn get<'a, T>(one: &'a Shared<T>, other: &'a Shared<T>) -> (&'a T, &'a T)
     requires { one.now ≡ other.now }
     ensures { result.0.now ≡ result.1.now }
@@ -13,7 +13,7 @@ pub fn get<'a, T>(one: &'a Shared<T>, other: &'a Shared<T>) -> (&'a T, &'a T)
     (one.get(), other.get())
 }
 
-/// Of `Shared::new`.
+/// Shows that two calls of `Shared::new` with equal values make equal values.
 pub fn new<T: Drop>(
     alloc: Global,
     value: T,
@@ -25,7 +25,7 @@ pub fn new<T: Drop>(
     (Shared::new(alloc, value), Shared::new(alloc, also_value))
 }
 
-/// Of `Shared::share`.
+/// Shows that two calls of `Shared::share` on equal values give equal values.
 pub fn share<T: Drop>(
     one: &Shared<T>,
     other: &Shared<T>,

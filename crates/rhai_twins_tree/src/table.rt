@@ -6,14 +6,14 @@ ghost use Rattle.std.specs.Option.{option_copied};
 use rhai_tree::{Items, Shared, Table, Text};
 use std::alloc::{AllocError, Global};
 
-/// Of `Table::new`.
+/// Shows that two calls of `Table::new` make equal maps.
 pub fn new<T>(alloc: Global) -> (Table<T>, Table<T>)
     ensures { result.0 ≡ result.1 }
 {
     (Table::new(alloc), Table::new(alloc))
 }
 
-/// Of `Table::len`.
+/// Shows that two calls of `Table::len` on equal maps answer equally.
 pub fn len<T>(one: &Table<T>, other: &Table<T>) -> (usize, usize)
     requires { one.now ≡ other.now }
     ensures { result.0 ≡ result.1 }
@@ -21,7 +21,7 @@ pub fn len<T>(one: &Table<T>, other: &Table<T>) -> (usize, usize)
     (one.len(), other.len())
 }
 
-/// Of `Table::keys`.
+/// Shows that two calls of `Table::keys` on equal maps lend equal keys.
 pub fn keys<'a, T>(
     one: &'a Table<T>,
     other: &'a Table<T>,
@@ -32,7 +32,7 @@ pub fn keys<'a, T>(
     (one.keys(), other.keys())
 }
 
-/// Of `Table::values`.
+/// Shows that two calls of `Table::values` on equal maps lend equal values.
 pub fn values<'a, T>(one: &'a Table<T>, other: &'a Table<T>) -> (&'a [T], &'a [T])
     requires { one.now ≡ other.now }
     ensures { result.0.now ≡ result.1.now }
@@ -40,7 +40,8 @@ pub fn values<'a, T>(one: &'a Table<T>, other: &'a Table<T>) -> (&'a [T], &'a [T
     (one.values(), other.values())
 }
 
-/// Of `Table::values_mut`, whatever is written to a value of it.
+/// Shows that two calls of `Table::values_mut` on equal maps leave equal maps, whatever is written
+/// to a value.
 pub fn values_mut<T: Drop>(
     one: &mut Table<T>,
     other: &mut Table<T>,
@@ -57,7 +58,7 @@ pub fn values_mut<T: Drop>(
     other.values_mut()[at] = also_value;
 }
 
-/// Of `Table::with_values`.
+/// Shows that two calls of `Table::with_values` on equal maps with equal values make equal maps.
 pub fn with_values<T, U: Drop>(
     one: &Table<T>,
     other: &Table<T>,
@@ -76,7 +77,7 @@ pub fn with_values<T, U: Drop>(
     )
 }
 
-/// Of `Table::value_at`.
+/// Shows that two calls of `Table::value_at` on equal maps find equal values.
 pub fn value_at<'a, T>(
     one: &'a Table<T>,
     other: &'a Table<T>,
@@ -88,7 +89,7 @@ pub fn value_at<'a, T>(
     (one.value_at(at), other.value_at(at))
 }
 
-/// Of `Table::find`.
+/// Shows that two calls of `Table::find` on equal maps answer equally.
 pub fn find<T>(
     one: &Table<T>,
     other: &Table<T>,
@@ -100,7 +101,7 @@ pub fn find<T>(
     (one.find(key), other.find(key))
 }
 
-/// Of `Table::get`.
+/// Shows that two calls of `Table::get` on equal maps find equal values.
 pub fn get<'a, T>(
     one: &'a Table<T>,
     other: &'a Table<T>,
@@ -112,7 +113,7 @@ pub fn get<'a, T>(
     (one.get(key), other.get(key))
 }
 
-/// Of `Table::value_mut`, whatever is written.
+/// Shows that two calls of `Table::value_mut` on equal maps leave equal maps, whatever is written.
 pub fn value_mut<T: Drop>(
     one: &mut Table<T>,
     other: &mut Table<T>,
@@ -129,7 +130,7 @@ pub fn value_mut<T: Drop>(
     *other.value_mut(at) = also_value;
 }
 
-/// Of `Table::insert`.
+/// Shows that two calls of `Table::insert` on equal maps with equal entries leave equal maps.
 pub fn insert<T: Drop>(
     one: &mut Table<T>,
     other: &mut Table<T>,

@@ -5,14 +5,14 @@ ghost use Rattle.std.specs.Prelude.{◌≡◌, is_ok, string_bytes};
 use rhai_tree::Text;
 use std::alloc::{AllocError, Global};
 
-/// Of `Text::new`.
+/// Shows that two calls of `Text::new` make equal texts.
 pub fn new(alloc: Global) -> (Text, Text)
     ensures { result.0 ≡ result.1 }
 {
     (Text::new(alloc), Text::new(alloc))
 }
 
-/// Of `Text::from_string`.
+/// Shows that two calls of `Text::from_string` with equal bytes make equal texts.
 pub fn from_string(text: String, also_text: String) -> (Text, Text)
     requires { string_bytes text ≡ string_bytes also_text }
     ensures { result.0 ≡ result.1 }
@@ -20,14 +20,14 @@ pub fn from_string(text: String, also_text: String) -> (Text, Text)
     (Text::from_string(text), Text::from_string(also_text))
 }
 
-/// Of `Text::from_str`.
+/// Shows that two calls of `Text::from_str` on one text make equal texts.
 pub fn from_str(alloc: Global, text: &str) -> (Result<Text, AllocError>, Result<Text, AllocError>)
     ensures { is_ok result.0 ≡ is_ok result.1 → result.0 ≡ result.1 }
 {
     (Text::from_str(alloc, text), Text::from_str(alloc, text))
 }
 
-/// Of `Text::into_string`.
+/// Shows that two calls of `Text::into_string` on equal texts give equal bytes.
 pub fn into_string(one: Text, other: Text) -> (String, String)
     requires { one ≡ other }
     ensures { string_bytes result.0 ≡ string_bytes result.1 }
@@ -35,7 +35,7 @@ pub fn into_string(one: Text, other: Text) -> (String, String)
     (one.into_string(), other.into_string())
 }
 
-/// Of `Text::as_str`.
+/// Shows that two calls of `Text::as_str` on equal texts lend equal bytes.
 pub fn as_str<'a>(one: &'a Text, other: &'a Text) -> (&'a str, &'a str)
     requires { one.now ≡ other.now }
     ensures { result.0.now ≡ result.1.now }
@@ -43,7 +43,7 @@ pub fn as_str<'a>(one: &'a Text, other: &'a Text) -> (&'a str, &'a str)
     (one.as_str(), other.as_str())
 }
 
-/// Of `Text::len`.
+/// Shows that two calls of `Text::len` on equal texts answer equally.
 pub fn len(one: &Text, other: &Text) -> (usize, usize)
     requires { one.now ≡ other.now }
     ensures { result.0 ≡ result.1 }
@@ -51,7 +51,7 @@ pub fn len(one: &Text, other: &Text) -> (usize, usize)
     (one.len(), other.len())
 }
 
-/// Of `Text::is_empty`.
+/// Shows that two calls of `Text::is_empty` on equal texts answer equally.
 pub fn is_empty(one: &Text, other: &Text) -> (bool, bool)
     requires { one.now ≡ other.now }
     ensures { result.0 ≡ result.1 }
@@ -59,7 +59,7 @@ pub fn is_empty(one: &Text, other: &Text) -> (bool, bool)
     (one.is_empty(), other.is_empty())
 }
 
-/// Of `Text::try_clone`.
+/// Shows that two calls of `Text::try_clone` on equal texts make equal texts.
 pub fn try_clone(one: &Text, other: &Text) -> (Result<Text, AllocError>, Result<Text, AllocError>)
     requires { one.now ≡ other.now }
     ensures { is_ok result.0 ≡ is_ok result.1 → result.0 ≡ result.1 }

@@ -3,8 +3,8 @@ use Rattle.std.specs.Prelude.{Bool, true, false, Result, Ok, Err}
 use Rattle.rhai_tree.specs.declared.fault.CheckFault.{CheckFault}
 use Rattle.rhai_tree.specs.declared.fault.CheckFault.TheVariants as fault
 
--- there was no memory to check with
-abbrev pub wants_memory : {A : Type 0} → Result A CheckFault → Bool
-wants_memory (Ok value) = false
-wants_memory (Err fault.NoMemory) = true
-wants_memory (Err e) = false
+-- memory ran out while the checker ran
+abbrev pub check_ran_out : {A : Type 0} → Result A CheckFault → Bool
+check_ran_out (Ok value) = false
+check_ran_out (Err fault.NoMemory) = true
+check_ran_out (Err e) = false

@@ -8,14 +8,14 @@ use rhai_values::base::value::{CellId, Dynamic};
 use rhai_values::cells::{CellStore, put_back};
 use std::alloc::{AllocError, Global};
 
-/// Of `CellStore::new`.
+/// Shows that two calls of `CellStore::new` create stores of equal cells.
 pub fn new<H>(alloc: Global) -> (CellStore<H>, CellStore<H>)
     ensures { cells_of result.0 ≡ cells_of result.1 }
 {
     (CellStore::new(alloc), CellStore::new(alloc))
 }
 
-/// Of `CellStore::len`.
+/// Shows that `CellStore::len` counts equal cells alike.
 pub fn len<H>(one: &CellStore<H>, other: &CellStore<H>) -> (usize, usize)
     requires { cells_of one.now ≡ cells_of other.now }
     ensures { result.0 ≡ result.1 }
@@ -23,7 +23,7 @@ pub fn len<H>(one: &CellStore<H>, other: &CellStore<H>) -> (usize, usize)
     (one.len(), other.len())
 }
 
-/// Of `CellStore::get`.
+/// Shows that `CellStore::get` reads equal values from equal cells.
 pub fn get<'a, H>(
     one: &'a CellStore<H>,
     other: &'a CellStore<H>,
@@ -35,7 +35,7 @@ pub fn get<'a, H>(
     (one.get(id), other.get(id))
 }
 
-/// Of `CellStore::add`.
+/// Shows that `CellStore::add` answers alike and leaves equal cells, from equal cells and values.
 pub fn add<H>(
     one: &mut CellStore<H>,
     other: &mut CellStore<H>,
@@ -54,7 +54,7 @@ pub fn add<H>(
     (one.add(value), other.add(also_value))
 }
 
-/// Of `CellStore::take`.
+/// Shows that `CellStore::take` answers equal values and leaves equal cells, from equal cells.
 pub fn take<H>(
     one: &mut CellStore<H>,
     other: &mut CellStore<H>,
@@ -67,8 +67,8 @@ pub fn take<H>(
     (one.take(id), other.take(id))
 }
 
-/// Of `cells::put_back`.
-pub fn given_back<H: Drop>(
+/// Shows that `cells::put_back` leaves equal cells, from equal cells and values.
+pub fn put_back_again<H: Drop>(
     one: &mut CellStore<H>,
     other: &mut CellStore<H>,
     id: CellId,
@@ -84,7 +84,7 @@ pub fn given_back<H: Drop>(
     put_back(other, id, also_value);
 }
 
-/// Of `CellStore::put`.
+/// Shows that `CellStore::put` leaves equal cells, from equal cells and values.
 pub fn put<H: Drop>(
     one: &mut CellStore<H>,
     other: &mut CellStore<H>,

@@ -3,7 +3,7 @@
 ghost use Rattle.std.specs.Prelude.{◌≡◌, is_ok, IfOk};
 ghost use Rattle.rhai_tree.specs.Frame.{Resolves, ResolvesFunction};
 ghost use Rattle.rhai_tree.specs.WellFormed.{IsFormed, IsFormedFunction, AreFormed};
-ghost use Rattle.rhai_twins_values.specs.Checks.{wants_memory};
+ghost use Rattle.rhai_twins_values.specs.Checks.{check_ran_out};
 
 use rhai_check::check::{check_function, check_tree};
 use rhai_tree::checked::{CheckedFn, CheckedTree};
@@ -14,7 +14,8 @@ use rhai_tree::position::Position;
 use rhai_tree::{Items, Shared};
 use std::alloc::Global;
 
-/// Of `check::check_tree`: which trees pass, and what they are then; which of several faults is told is open.
+/// Shows that `check::check_tree` passes equal trees alike, and makes equal checked trees of them. Which
+/// of several faults is told is open.
 pub fn tree(
     alloc: Global,
     statements: Items<Stmt>,
@@ -27,7 +28,7 @@ pub fn tree(
 )
     requires statements { statements ≡ also_statements }
     requires functions { functions ≡ also_functions }
-    ensures passed { wants_memory result.0 ≡ wants_memory result.1 → is_ok result.0 ≡ is_ok result.1 }
+    ensures passed { check_ran_out result.0 ≡ check_ran_out result.1 → is_ok result.0 ≡ is_ok result.1 }
     ensures tree { IfOk result.0 (λ t. IfOk result.1 (λ u. t ≡ u)) }
 {
     (
@@ -36,20 +37,21 @@ pub fn tree(
     )
 }
 
-/// Of `check::check_function`, likewise.
+/// Shows that `check::check_function` passes equal functions alike, and makes equal checked functions of
+/// them. Which of several faults is told is open.
 pub fn function(
     alloc: Global,
     def: ScriptFuncDef,
     also_def: ScriptFuncDef,
 ) -> (Result<CheckedFn, CheckFault>, Result<CheckedFn, CheckFault>)
     requires { def ≡ also_def }
-    ensures passed { wants_memory result.0 ≡ wants_memory result.1 → is_ok result.0 ≡ is_ok result.1 }
+    ensures passed { check_ran_out result.0 ≡ check_ran_out result.1 → is_ok result.0 ≡ is_ok result.1 }
     ensures function { IfOk result.0 (λ f. IfOk result.1 (λ g. f ≡ g)) }
 {
     (check_function(alloc, def), check_function(alloc, also_def))
 }
 
-/// Of `CheckedFn::new`.
+/// Shows that `CheckedFn::new` makes equal checked functions of equal definitions.
 pub fn checked_function(def: ScriptFuncDef, also_def: ScriptFuncDef) -> (CheckedFn, CheckedFn)
     requires def { def ≡ also_def }
     requires formed { IsFormedFunction def }
@@ -59,7 +61,7 @@ pub fn checked_function(def: ScriptFuncDef, also_def: ScriptFuncDef) -> (Checked
     (CheckedFn::new(def), CheckedFn::new(also_def))
 }
 
-/// Of `CheckedFn::def`.
+/// Shows that `CheckedFn::def` reads equal definitions from equal functions.
 pub fn def<'a>(one: &'a CheckedFn, other: &'a CheckedFn) -> (&'a ScriptFuncDef, &'a ScriptFuncDef)
     requires { one.now ≡ other.now }
     ensures { result.0.now ≡ result.1.now }
@@ -67,7 +69,7 @@ pub fn def<'a>(one: &'a CheckedFn, other: &'a CheckedFn) -> (&'a ScriptFuncDef, 
     (one.def(), other.def())
 }
 
-/// Of `CheckedTree::new`.
+/// Shows that `CheckedTree::new` makes equal checked trees of equal statements and functions.
 pub fn checked_tree(
     statements: Items<Stmt>,
     also_statements: Items<Stmt>,
@@ -87,7 +89,7 @@ pub fn checked_tree(
     )
 }
 
-/// Of `CheckedTree::statements`.
+/// Shows that `CheckedTree::statements` reads equal statements from equal trees.
 pub fn statements<'a>(one: &'a CheckedTree, other: &'a CheckedTree) -> (&'a [Stmt], &'a [Stmt])
     requires { one.now ≡ other.now }
     ensures { result.0.now ≡ result.1.now }
@@ -95,7 +97,7 @@ pub fn statements<'a>(one: &'a CheckedTree, other: &'a CheckedTree) -> (&'a [Stm
     (one.statements(), other.statements())
 }
 
-/// Of `CheckedTree::functions`.
+/// Shows that `CheckedTree::functions` reads equal functions from equal trees.
 pub fn functions<'a>(
     one: &'a CheckedTree,
     other: &'a CheckedTree,
@@ -106,7 +108,7 @@ pub fn functions<'a>(
     (one.functions(), other.functions())
 }
 
-/// Of `CheckFault::position`.
+/// Shows that `CheckFault::position` reads equal positions from equal faults.
 pub fn fault_position(one: &CheckFault, other: &CheckFault) -> (Position, Position)
     requires { one.now ≡ other.now }
     ensures { result.0 ≡ result.1 }

@@ -5,7 +5,7 @@ ghost use Rattle.std.specs.Prelude.{◌≡◌};
 use rhai_values::base::size::{DataSizes, SizeFault};
 use rhai_values::base::value::Dynamic;
 
-/// Of `SizeFault::text`.
+/// Shows that `SizeFault::text` answers equal texts for equal faults.
 pub fn fault_text(one: SizeFault, other: SizeFault) -> (&'static str, &'static str)
     requires { one ≡ other }
     ensures { result.0.now ≡ result.1.now }
@@ -13,35 +13,35 @@ pub fn fault_text(one: SizeFault, other: SizeFault) -> (&'static str, &'static s
     (one.text(), other.text())
 }
 
-/// Of `DataSizes::none`.
+/// Shows that two calls of `DataSizes::none` answer equal sizes.
 pub fn none() -> (DataSizes, DataSizes)
     ensures { result.0 ≡ result.1 }
 {
     (DataSizes::none(), DataSizes::none())
 }
 
-/// Of `DataSizes::of_arrays`.
+/// Shows that two calls of `DataSizes::of_arrays` for one count answer equal sizes.
 pub fn of_arrays(count: usize) -> (DataSizes, DataSizes)
     ensures { result.0 ≡ result.1 }
 {
     (DataSizes::of_arrays(count), DataSizes::of_arrays(count))
 }
 
-/// Of `DataSizes::of_maps`.
+/// Shows that two calls of `DataSizes::of_maps` for one count answer equal sizes.
 pub fn of_maps(count: usize) -> (DataSizes, DataSizes)
     ensures { result.0 ≡ result.1 }
 {
     (DataSizes::of_maps(count), DataSizes::of_maps(count))
 }
 
-/// Of `DataSizes::of_strings`.
+/// Shows that two calls of `DataSizes::of_strings` for one count answer equal sizes.
 pub fn of_strings(count: usize) -> (DataSizes, DataSizes)
     ensures { result.0 ≡ result.1 }
 {
     (DataSizes::of_strings(count), DataSizes::of_strings(count))
 }
 
-/// Of `DataSizes::joined`.
+/// Shows that `DataSizes::joined` adds to equal sizes alike.
 pub fn joined(one: DataSizes, other: DataSizes, more: DataSizes) -> (DataSizes, DataSizes)
     requires { one ≡ other }
     ensures { result.0 ≡ result.1 }
@@ -49,7 +49,7 @@ pub fn joined(one: DataSizes, other: DataSizes, more: DataSizes) -> (DataSizes, 
     (one.joined(more), other.joined(more))
 }
 
-/// Of `DataSizes::exceeds`.
+/// Shows that `DataSizes::exceeds` finds equal faults in equal sizes.
 pub fn sizes_exceed(
     one: DataSizes,
     other: DataSizes,
@@ -66,7 +66,7 @@ pub fn sizes_exceed(
     )
 }
 
-/// Of `Dynamic::data_sizes`.
+/// Shows that `Dynamic::data_sizes` counts the data of equal values alike.
 pub fn data_sizes<H>(one: &Dynamic<H>, other: &Dynamic<H>) -> (DataSizes, DataSizes)
     requires { one.now ≡ other.now }
     ensures { result.0 ≡ result.1 }
@@ -74,7 +74,7 @@ pub fn data_sizes<H>(one: &Dynamic<H>, other: &Dynamic<H>) -> (DataSizes, DataSi
     (one.data_sizes(), other.data_sizes())
 }
 
-/// Of `Dynamic::holds_data`.
+/// Shows that `Dynamic::holds_data` answers alike for equal values.
 pub fn holds_data<H>(one: &Dynamic<H>, other: &Dynamic<H>) -> (bool, bool)
     requires { one.now ≡ other.now }
     ensures { result.0 ≡ result.1 }
@@ -82,7 +82,7 @@ pub fn holds_data<H>(one: &Dynamic<H>, other: &Dynamic<H>) -> (bool, bool)
     (one.holds_data(), other.holds_data())
 }
 
-/// Of `Dynamic::exceeds`.
+/// Shows that `Dynamic::exceeds` finds equal faults in equal values.
 pub fn exceeds<H>(
     one: &Dynamic<H>,
     other: &Dynamic<H>,

@@ -10,7 +10,7 @@ use rhai_tree::token::Token;
 use rhai_tree::{Shared, Text};
 use std::alloc::{AllocError, Global};
 
-/// Of `Expr::position`.
+/// Shows that `Expr::position` reads equal positions from equal expressions.
 pub fn expr_position(one: &Expr, other: &Expr) -> (Position, Position)
     requires { one.now ≡ other.now }
     ensures { result.0 ≡ result.1 }
@@ -18,7 +18,7 @@ pub fn expr_position(one: &Expr, other: &Expr) -> (Position, Position)
     (one.position(), other.position())
 }
 
-/// Of `Expr::start_position`.
+/// Shows that `Expr::start_position` finds equal positions in equal expressions.
 pub fn expr_start(one: &Expr, other: &Expr) -> (Position, Position)
     requires { one.now ≡ other.now }
     ensures { result.0 ≡ result.1 }
@@ -26,7 +26,7 @@ pub fn expr_start(one: &Expr, other: &Expr) -> (Position, Position)
     (one.start_position(), other.start_position())
 }
 
-/// Of `Stmt::position`.
+/// Shows that `Stmt::position` reads equal positions from equal statements.
 pub fn stmt_position(one: &Stmt, other: &Stmt) -> (Position, Position)
     requires { one.now ≡ other.now }
     ensures { result.0 ≡ result.1 }
@@ -34,7 +34,7 @@ pub fn stmt_position(one: &Stmt, other: &Stmt) -> (Position, Position)
     (one.position(), other.position())
 }
 
-/// Of `ScriptFuncPayload::start_position`.
+/// Shows that `ScriptFuncPayload::start_position` finds equal positions in equal bodies.
 pub fn body_start(one: &ScriptFuncPayload, other: &ScriptFuncPayload) -> (Position, Position)
     requires { one.now ≡ other.now }
     ensures { result.0 ≡ result.1 }
@@ -42,7 +42,7 @@ pub fn body_start(one: &ScriptFuncPayload, other: &ScriptFuncPayload) -> (Positi
     (one.start_position(), other.start_position())
 }
 
-/// Of `ScriptFuncPayload::end_position`.
+/// Shows that `ScriptFuncPayload::end_position` finds equal positions in equal bodies.
 pub fn body_end(one: &ScriptFuncPayload, other: &ScriptFuncPayload) -> (Position, Position)
     requires { one.now ≡ other.now }
     ensures { result.0 ≡ result.1 }
@@ -50,7 +50,7 @@ pub fn body_end(one: &ScriptFuncPayload, other: &ScriptFuncPayload) -> (Position
     (one.end_position(), other.end_position())
 }
 
-/// Of `ScriptFuncDef::clone_function_signatures`.
+/// Shows that `ScriptFuncDef::clone_function_signatures` copies equal functions alike.
 pub fn signatures(
     one: &ScriptFuncDef,
     other: &ScriptFuncDef,
@@ -68,7 +68,7 @@ pub fn signatures(
     )
 }
 
-/// Of `Position::new`.
+/// Shows that two calls of `Position::new` build equal positions.
 pub fn position(line: u16, position: u16) -> (Position, Position)
     requires line { line ≢ 0 }
     requires position { position ≢ 0 }
@@ -77,7 +77,7 @@ pub fn position(line: u16, position: u16) -> (Position, Position)
     (Position::new(line, position), Position::new(line, position))
 }
 
-/// Of `Position::is_none`.
+/// Shows that `Position::is_none` answers alike for equal positions.
 pub fn is_none(one: Position, other: Position) -> (bool, bool)
     requires { one ≡ other }
     ensures { result.0 ≡ result.1 }
@@ -85,7 +85,7 @@ pub fn is_none(one: Position, other: Position) -> (bool, bool)
     (one.is_none(), other.is_none())
 }
 
-/// Of `Position::line`.
+/// Shows that `Position::line` reads equal lines from equal positions.
 pub fn line(one: Position, other: Position) -> (Option<u16>, Option<u16>)
     requires { one ≡ other }
     ensures { result.0 ≡ result.1 }
@@ -93,7 +93,7 @@ pub fn line(one: Position, other: Position) -> (Option<u16>, Option<u16>)
     (one.line(), other.line())
 }
 
-/// Of `Position::position`.
+/// Shows that `Position::position` reads equal columns from equal positions.
 pub fn column(one: Position, other: Position) -> (Option<u16>, Option<u16>)
     requires { one ≡ other }
     ensures { result.0 ≡ result.1 }
@@ -101,7 +101,7 @@ pub fn column(one: Position, other: Position) -> (Option<u16>, Option<u16>)
     (one.position(), other.position())
 }
 
-/// Of `ParamName::as_name`.
+/// Shows that `ParamName::as_name` reads equal names from equal parameters.
 pub fn parameter_name<'a>(one: &'a Shared<Text>, other: &'a Shared<Text>) -> (&'a str, &'a str)
     requires { one.now ≡ other.now }
     ensures { result.0.now ≡ result.1.now }
@@ -109,7 +109,7 @@ pub fn parameter_name<'a>(one: &'a Shared<Text>, other: &'a Shared<Text>) -> (&'
     (one.as_name(), other.as_name())
 }
 
-/// Of `Token::as_str`.
+/// Shows that `Token::as_str` answers equal texts for equal tokens.
 pub fn token_text(one: Token, other: Token) -> (&'static str, &'static str)
     requires { one ≡ other }
     ensures { result.0.now ≡ result.1.now }

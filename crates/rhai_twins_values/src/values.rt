@@ -12,7 +12,7 @@ use rhai_values::base::value::{
 use rhai_values::cells::CellStore;
 use std::alloc::{AllocError, Global};
 
-/// Of `Dynamic::new`.
+/// Shows that `Dynamic::new` builds equal values of equal content.
 pub fn value<H>(value: Union<H>, also_value: Union<H>) -> (Dynamic<H>, Dynamic<H>)
     requires { value ≡ also_value }
     ensures { result.0 ≡ result.1 }
@@ -20,7 +20,7 @@ pub fn value<H>(value: Union<H>, also_value: Union<H>) -> (Dynamic<H>, Dynamic<H
     (Dynamic::new(value), Dynamic::new(also_value))
 }
 
-/// Of `Dynamic::try_clone`.
+/// Shows that `Dynamic::try_clone` copies equal values alike.
 pub fn try_clone<H: Host>(
     one: &Dynamic<H>,
     other: &Dynamic<H>,
@@ -35,7 +35,7 @@ pub fn try_clone<H: Host>(
     (one.try_clone(alloc), other.try_clone(alloc))
 }
 
-/// Of `Dynamic::access_mode`.
+/// Shows that `Dynamic::access_mode` reads equal modes from equal values.
 pub fn access_mode<H>(one: &Dynamic<H>, other: &Dynamic<H>) -> (AccessMode, AccessMode)
     requires { one.now ≡ other.now }
     ensures { result.0 ≡ result.1 }
@@ -43,7 +43,7 @@ pub fn access_mode<H>(one: &Dynamic<H>, other: &Dynamic<H>) -> (AccessMode, Acce
     (one.access_mode(), other.access_mode())
 }
 
-/// Of `Dynamic::set_access_mode`.
+/// Shows that `Dynamic::set_access_mode` leaves equal values equal.
 pub fn set_access_mode<H: Drop>(one: &mut Dynamic<H>, other: &mut Dynamic<H>, mode: AccessMode)
     requires { one.old ≡ other.old }
     ensures { one.new ≡ other.new }
@@ -52,7 +52,7 @@ pub fn set_access_mode<H: Drop>(one: &mut Dynamic<H>, other: &mut Dynamic<H>, mo
     other.set_access_mode(mode);
 }
 
-/// Of `Dynamic::type_name`.
+/// Shows that `Dynamic::type_name` names the types of equal values alike.
 pub fn type_name<'a, H: Host>(
     one: &'a Dynamic<H>,
     other: &'a Dynamic<H>,
@@ -64,7 +64,7 @@ pub fn type_name<'a, H: Host>(
     (one.type_name(cells), other.type_name(cells))
 }
 
-/// Of `Dynamic::own_type_name`.
+/// Shows that `Dynamic::own_type_name` names the types of equal values alike.
 pub fn own_type_name<'a, H: Host>(one: &'a Dynamic<H>, other: &'a Dynamic<H>) -> (&'a str, &'a str)
     requires { one.now ≡ other.now }
     ensures { result.0.now ≡ result.1.now }
@@ -72,7 +72,7 @@ pub fn own_type_name<'a, H: Host>(one: &'a Dynamic<H>, other: &'a Dynamic<H>) ->
     (one.own_type_name(), other.own_type_name())
 }
 
-/// Of `Dynamic::is_hashable`.
+/// Shows that `Dynamic::is_hashable` answers alike for equal values.
 pub fn is_hashable<H>(one: &Dynamic<H>, other: &Dynamic<H>) -> (bool, bool)
     requires { one.now ≡ other.now }
     ensures { result.0 ≡ result.1 }
@@ -80,7 +80,7 @@ pub fn is_hashable<H>(one: &Dynamic<H>, other: &Dynamic<H>) -> (bool, bool)
     (one.is_hashable(), other.is_hashable())
 }
 
-/// Of `hashable::literal_equals`.
+/// Shows that two calls of `hashable::literal_equals` answer alike.
 pub fn equals<H>(literal: &Literal, value: &Dynamic<H>) -> (bool, bool)
     ensures { result.0 ≡ result.1 }
 {
@@ -90,7 +90,7 @@ pub fn equals<H>(literal: &Literal, value: &Dynamic<H>) -> (bool, bool)
     )
 }
 
-/// Of `literal::literal_value`.
+/// Shows that two calls of `literal::literal_value` build equal values.
 pub fn constant<H: Drop>(
     alloc: Global,
     literal: &Literal,
@@ -103,7 +103,7 @@ pub fn constant<H: Drop>(
     (literal_value(alloc, literal), literal_value(alloc, literal))
 }
 
-/// Of `EncapsulatedEnviron::sharing`.
+/// Shows that two calls of `EncapsulatedEnviron::sharing` build equal environments.
 pub fn sharing<H: Drop>(
     alloc: Global,
     lib: &[Shared<Module<H>>],
@@ -121,7 +121,7 @@ pub fn sharing<H: Drop>(
     )
 }
 
-/// Of `EncapsulatedEnviron::try_clone`.
+/// Shows that `EncapsulatedEnviron::try_clone` copies equal environments alike.
 pub fn environ<H: Drop>(
     one: &EncapsulatedEnviron<H>,
     other: &EncapsulatedEnviron<H>,
@@ -136,21 +136,21 @@ pub fn environ<H: Drop>(
     (one.try_clone(alloc), other.try_clone(alloc))
 }
 
-/// Of `Module::new`.
+/// Shows that two calls of `Module::new` create equal modules.
 pub fn new_module<H>(alloc: Global) -> (Module<H>, Module<H>)
     ensures { result.0 ≡ result.1 }
 {
     (Module::new(alloc), Module::new(alloc))
 }
 
-/// Of `ModuleTable::new`.
+/// Shows that two calls of `ModuleTable::new` create equal tables.
 pub fn module_table<H>(alloc: Global) -> (ModuleTable<H>, ModuleTable<H>)
     ensures { result.0 ≡ result.1 }
 {
     (ModuleTable::new(alloc), ModuleTable::new(alloc))
 }
 
-/// Of `Host::try_clone`.
+/// Shows that `Host::try_clone` copies equal values alike, whatever the host.
 pub fn host_copy<H: Host>(
     one: &H,
     other: &H,
@@ -162,7 +162,7 @@ pub fn host_copy<H: Host>(
     (one.try_clone(alloc), other.try_clone(alloc))
 }
 
-/// Of `Host::type_name`.
+/// Shows that `Host::type_name` names the types of equal values alike, whatever the host.
 pub fn host_type_name<'a, H: Host>(one: &'a H, other: &'a H) -> (&'a str, &'a str)
     requires { one.now ≡ other.now }
     ensures { result.0.now ≡ result.1.now }

@@ -14,17 +14,17 @@ use Rattle.rhai_values.specs.declared.base.value.Union.TheVariants as value
 use Rattle.rhai_values.specs.Copy.{copy_of, copy_union, copy_row, copy_pointer}
 
 module _ (H : Type 0) where
-  -- the places of a list, and what stands in them
-  abbrev pub Placed : Type 0
-  Placed = (s : (items.the_former this).Shape) × block.Row_of-Dynamic H (arity (items.the_former this) s)
+  -- the shape of a list, and what stands in it
+  abbrev pub ShapedRow : Type 0
+  ShapedRow = (s : (items.the_former this).Shape) × block.Row_of-Dynamic H (arity (items.the_former this) s)
 
-  -- the keys and places of a map, and what stands in them
-  abbrev pub PlacedEntries : Type 0
-  PlacedEntries = (s : (table.the_former this).Shape) × block.Row_of-Dynamic H (arity (table.the_former this) s)
+  -- the keys and the shape of a map, and what stands in it
+  abbrev pub ShapedEntries : Type 0
+  ShapedEntries = (s : (table.the_former this).Shape) × block.Row_of-Dynamic H (arity (table.the_former this) s)
 
 module _ {H : Type 0} where
   copied_row : (xs : List (Dynamic H)) →
-      ◌≡◌ {A = Placed H} (block.shape-the_row-Dynamic-1 H xs, copy_row (block.hidden-the_row-Dynamic-1 H xs))
+      ◌≡◌ {A = ShapedRow H} (block.shape-the_row-Dynamic-1 H xs, copy_row (block.hidden-the_row-Dynamic-1 H xs))
       (block.shape-the_row-Dynamic-1 H (map copy_of xs), block.hidden-the_row-Dynamic-1 H (map copy_of xs))
   unfolding block.shape-the_row-Dynamic-1 block.hidden-the_row-Dynamic-1 hidden
   copied_row [] = refl
@@ -35,7 +35,7 @@ module _ {H : Type 0} where
   copy-Array xs = λ i. Array' tt (block.more_of-Union-Array-0-1 (copied_row xs i).0 (copied_row xs i).1 block.end_of-Union-Array-0-1)
 
   copied_entries : (keys : List (List ℕ)) (xs : List (Dynamic H)) →
-      ◌≡◌ {A = PlacedEntries H} (block.shape-the_row-Dynamic-3 H (keys, xs), copy_row (block.hidden-the_row-Dynamic-3 H (keys, xs)))
+      ◌≡◌ {A = ShapedEntries H} (block.shape-the_row-Dynamic-3 H (keys, xs), copy_row (block.hidden-the_row-Dynamic-3 H (keys, xs)))
       (block.shape-the_row-Dynamic-3 H (keys, map copy_of xs), block.hidden-the_row-Dynamic-3 H (keys, map copy_of xs))
   unfolding block.shape-the_row-Dynamic-3 block.hidden-the_row-Dynamic-3 hidden
   copied_entries keys [] = refl

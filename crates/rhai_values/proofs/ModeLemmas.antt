@@ -10,11 +10,11 @@ use Rattle.rhai_values.specs.declared.base.value.Dynamic.{Dynamic}
 use Rattle.rhai_values.specs.declared.base.value.FnPtrKind.TheBlock as block
 use Rattle.rhai_values.specs.declared.base.value.Union.{Array, Array', Map, Map'}
 use Rattle.rhai_values.specs.Modes.{with_mode, union_with_mode, row_with_mode}
-use Rattle.rhai_values.proofs.CopyLemmas.{Placed, PlacedEntries}
+use Rattle.rhai_values.proofs.CopyLemmas.{ShapedRow, ShapedEntries}
 
 module _ {H : Type 0} (mode : AccessMode) where
   moded_row : (xs : List (Dynamic H)) →
-      ◌≡◌ {A = Placed H} (block.shape-the_row-Dynamic-1 H xs, row_with_mode mode (block.hidden-the_row-Dynamic-1 H xs))
+      ◌≡◌ {A = ShapedRow H} (block.shape-the_row-Dynamic-1 H xs, row_with_mode mode (block.hidden-the_row-Dynamic-1 H xs))
       (block.shape-the_row-Dynamic-1 H (map (with_mode mode) xs), block.hidden-the_row-Dynamic-1 H (map (with_mode mode) xs))
   unfolding block.shape-the_row-Dynamic-1 block.hidden-the_row-Dynamic-1 hidden
   moded_row [] = refl
@@ -25,7 +25,7 @@ module _ {H : Type 0} (mode : AccessMode) where
   mode-Array xs = λ i. Array' tt (block.more_of-Union-Array-0-1 (moded_row xs i).0 (moded_row xs i).1 block.end_of-Union-Array-0-1)
 
   moded_entries : (keys : List (List ℕ)) (xs : List (Dynamic H)) →
-      ◌≡◌ {A = PlacedEntries H} (
+      ◌≡◌ {A = ShapedEntries H} (
         block.shape-the_row-Dynamic-3 H (keys, xs),
         row_with_mode mode (block.hidden-the_row-Dynamic-3 H (keys, xs)),
       )

@@ -36,18 +36,18 @@ module _ {A : Type 0} (f : A → DataSizes) where
   total-take (x ∷ xs) (suc i) d lt = plus-assoc (f x) _ _ ∙ ap (plus (f x)) (total-take xs i d (omega arith))
 
   -- the sums of the first values, one value further
-  pub held_more : (xs : List A) (i : ℕ) (x : A) (held : DataSizes) → i < length xs → x ≡ get_or xs i x →
+  pub joined_more : (xs : List A) (i : ℕ) (x : A) (held : DataSizes) → i < length xs → x ≡ get_or xs i x →
       held ≡ saturated (total_of (map f (take i xs))) → joined held (saturated (f x)) ≡ saturated (total_of (map f (take (i + 1) xs)))
-  held_more xs i x held lt is e =
+  joined_more xs i x held lt is e =
       rw add-one (ap (λ h. joined h (saturated (f x))) e ∙ joined-saturated _ (f x)
       ∙ ap (λ y. saturated (plus (total_of (map f (take i xs))) (f y))) is ∙ ap saturated (total-take xs i x lt))
 
--- what is counted of a list and what its items hold, stopping on the way
-pub held_with : (a b : DataSizes) → joined (saturated a) b ≡ saturated (plus b a)
-held_with a b = same_sizes _ _ (stops_left _ _ _) (stops_left _ _ _) (stops_left _ _ _)
+-- what is counted of a list and what its items contain, stopping on the way
+pub joined_with : (a b : DataSizes) → joined (saturated a) b ≡ saturated (plus b a)
+joined_with a b = same_sizes _ _ (stops_left _ _ _) (stops_left _ _ _) (stops_left _ _ _)
 
 module _ {H : Type 0} where
-  -- what a value holds, by its kind
+  -- what a value contains, by its kind
   abbrev total_union : Union H → DataSizes
   total_union = fold-Union H Unit DataSizes DataSizes Unit Unit Unit Unit Unit (λ _. tt) union_total (λ d. d.value) (λ _. tt) (λ _. tt)
       (λ _. tt) (λ _. tt) (λ _. tt)

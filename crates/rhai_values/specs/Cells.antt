@@ -7,6 +7,7 @@ use Rattle.rhai_values.specs.declared.base.value.Union.TheVariants as value
 use Rattle.rhai_values.specs.declared.cells.CellStore.{CellStore}
 
 module _ {H : Type 0} where
+  -- the cells of a store, in the order of their numbers
   abbrev pub cells_of : CellStore H → List (Option (Dynamic H))
   cells_of store = store.cells
 
@@ -18,10 +19,11 @@ module _ {H : Type 0} where
   abbrev pub IsHeld : List (Option (Dynamic H)) → ℕ → Type 0
   IsHeld cells number = slice_get cells number ≡ Some None
 
-  -- the cells after one is held, and after one has a value
+  -- the cells after one is held
   abbrev pub with_held : List (Option (Dynamic H)) → ℕ → List (Option (Dynamic H))
   with_held cells number = slice_set cells number None
 
+  -- the cells after one has a value
   abbrev pub with_value : List (Option (Dynamic H)) → ℕ → Dynamic H → List (Option (Dynamic H))
   with_value cells number value = slice_set cells number (Some value)
 

@@ -14,7 +14,7 @@ use Rattle.rhai_values.specs.declared.base.value.Union.{Union, Unit, Bool, Int, 
 use Rattle.rhai_values.specs.declared.base.value.Union.{Map', FnPtr', Host, Cell}
 
 module _ {H : Type 0} where
-  -- A copy, case by case. What is behind a pointer of its own stands in a row of one, and items stand in a row as long as their list.
+  -- a copy, case by case: what is behind a pointer of its own stands in a row of one, and items stand in a row as long as their list
   abbrev mutual
     pub copy_union : Union H → Union H
     copy_union Unit = Unit
@@ -31,14 +31,17 @@ module _ {H : Type 0} where
     copy_union (Host host) = Host host
     copy_union (Cell id) = Cell id
 
+    -- a copy of an array's items
     pub copy_array : {n : _} → Array_row H n → Array_row H n
     copy_array array_end = array_end
     copy_array (array_more shape items rest) = array_more shape (copy_row items) (copy_array rest)
 
+    -- a copy of a map's entries: the keys stay, and the values are copied
     pub copy_map : {n : _} → Map_row H n → Map_row H n
     copy_map map_end = map_end
     copy_map (map_more shape values rest) = map_more shape (copy_row values) (copy_map rest)
 
+    -- a copy of the pointer in a row of one
     pub copy_pointers : {n : _} → Pointer_row H n → Pointer_row H n
     copy_pointers pointer_end = pointer_end
     copy_pointers (pointer_more pointer rest) = pointer_more (copy_pointer pointer) (copy_pointers rest)
@@ -47,6 +50,7 @@ module _ {H : Type 0} where
     pub copy_pointer : FnPtr H → FnPtr H
     copy_pointer (Pointer' name shape curry kind) = Pointer' name shape (copy_row curry) kind
 
+    -- copies of the values in a row, each read-write
     pub copy_row : {n : _} → Row H n → Row H n
     copy_row end = end
     copy_row (more value mode rest) = more (copy_union value) ReadWrite (copy_row rest)

@@ -4,11 +4,12 @@ use Rattle.rhai_values.specs.declared.base.value.Dynamic.{Dynamic}
 use Rattle.rhai_values.specs.declared.base.value.FnPtrKind.TheOpen as layer
 use Rattle.rhai_values.specs.declared.base.value.FnPtrKind.TheFolds.{fold-Dynamic}
 
+-- every answer of a list is true
 abbrev pub all_of : List Bool → Bool
 all_of [] = true
 all_of (b ∷ rest) = b && all_of rest
 
--- a kind of value, from what is known of what it holds
+-- a value can be a case, from whether its items can
 abbrev pub is_hashable_kind : {H : Type 0} → layer.Union-F H Unit Bool Bool Unit Unit Unit Unit Unit → Bool
 is_hashable_kind (layer.Array items) = all_of items
 is_hashable_kind (layer.Map entries) = all_of entries.1

@@ -10,14 +10,14 @@ use Rattle.rhai_values.specs.declared.base.value.Dynamic.{Dynamic}
 use Rattle.rhai_values.specs.declared.base.value.FnPtrKind.TheOpen as layer
 use Rattle.rhai_values.specs.Layers.{UnionLayer, layer_of}
 
--- each test holds at its place, and there are as many values
+-- there are as many values as tests, and each test is passed by the value at its index
 abbrev pub each : {A : Type 0} → List (A → Bool) → List A → Bool
 each [] [] = true
 each (test ∷ tests) (v ∷ values) = test v && each tests values
 each _ _ = false
 
 module _ {H : Type 0} where
-  -- a kind of constant with tests for what it holds, and a value, one level of it
+  -- a constant and a value are of one kind and equal, where each item of the constant is a test for that of the value
   abbrev pub same_kind : literal.Literal-F (Dynamic H → Bool) Unit → UnionLayer H → Bool
   same_kind literal.Unit layer.Unit = true
   same_kind (literal.Bool x) (layer.Bool y) = beq x y

@@ -22,7 +22,7 @@ impl<H: Drop> Drop for CellStore<H> {
 }
 
 impl<H> CellStore<H> {
-    /// A store with no cell. It takes no memory.
+    /// Creates a store with no cell. It takes no memory.
     pub fn new(alloc: Global) -> CellStore<H>
         ensures { cells_of result ≡ [] }
     {
@@ -31,14 +31,14 @@ impl<H> CellStore<H> {
         }
     }
 
-    /// How many cells there are.
+    /// Counts the cells.
     pub fn len(&self) -> usize
         ensures { result ≡ length (cells_of self.now) }
     {
         self.cells.len()
     }
 
-    /// The value of a cell, if the cell is known and not held.
+    /// Returns the value of a cell, if the cell is known and not held.
     pub fn get(&self, id: CellId) -> Option<&Dynamic<H>>
         ensures { option_copied result ≡ value_of_cell (cells_of self.now) id.number }
     {

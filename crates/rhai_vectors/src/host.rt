@@ -25,7 +25,7 @@ impl Host for Stone {
     }
 }
 
-/// Two cells: `cell 0` with the value 2, and `cell 1`, which is held.
+/// Makes two cells: `cell 0` with the value 2, and `cell 1`, which is held.
 pub fn cells(line: &mut Reader<'_>) -> CellStore<Stone> {
     let mut cells = CellStore::new(line.allocator());
     add_cell(line, &mut cells, 2);
@@ -39,7 +39,7 @@ fn add_cell(line: &mut Reader<'_>, cells: &mut CellStore<Stone>, number: i64) ->
     match cells.add(Dynamic::new(Union::Int(number))).ok() {
         Some(added) => added,
         None => {
-            line.starve();
+            line.lack_memory();
             CellId { number: 0 }
         }
     }

@@ -2,7 +2,7 @@
 
 use crate::host::{Stone, cells};
 use crate::reader::Reader;
-use crate::shown::Sheet;
+use crate::sheet::Sheet;
 use rhai_places::indexing::get_indexed_mut;
 use rhai_places::spot::Access;
 use rhai_places::target::Target;
@@ -13,7 +13,7 @@ use rhai_values::cells::CellStore;
 use std::alloc::Global;
 use std::mem::swap;
 
-/// An object, and a value to be put where its index leads.
+/// A focus with an index, and a value to be put where the index leads.
 #[derive(Drop)]
 struct Call {
     object: Dynamic<Stone>,
@@ -22,24 +22,27 @@ struct Call {
     cells: CellStore<Stone>,
 }
 
-/// What a call with an object and an index answers: `index` what the index leads to, `strict` the
-/// same where a missing key is an error, and `insert` where it is inserted; `target` the kind of
-/// target, what it shows, and what is taken from it; and `put` the object after a third value was
-/// put where the index leads.
+/// Reads a call with a focus and an index, and writes what it answers:
+///
+/// - `index`: what the index leads to
+/// - `strict`: that too, where a missing key is an error
+/// - `insert`: that too, where a missing key is inserted
+/// - `target`: the kind of the `Target`, what it shows, and what is taken from it
+/// - `put`: the focus after a third value was put where the index leads
 pub fn answer(line: &mut Reader<'_>, out: &mut Sheet) {
     let form = line.word();
     let mut call = Call {
         object: line.value(),
         index: line.value(),
-        part: part(line, form),
+        part: part_to_put(line, form),
         cells: cells(line),
     };
     tell(line.allocator(), out, form, &mut call);
     drop(call);
 }
 
-/// The value that is to be put, where the form has one.
-fn part(line: &mut Reader<'_>, form: &str) -> Dynamic<Stone> {
+/// Reads the value that is to be put, where the form has one.
+fn part_to_put(line: &mut Reader<'_>, form: &str) -> Dynamic<Stone> {
     if form == "put" {
         return line.value();
     }
@@ -49,7 +52,7 @@ fn part(line: &mut Reader<'_>, form: &str) -> Dynamic<Stone> {
     Dynamic::new(Union::Unit)
 }
 
-/// How the object of a call is indexed. The operator is at 1:2, and the index at 1:3.
+/// Tells how the focus of a call is indexed. The operator is at 1:2, and the index at 1:3.
 fn access(form: &str) -> Access {
     Access {
         idx_pos: Position::new(1, 3),
@@ -59,19 +62,19 @@ fn access(form: &str) -> Access {
     }
 }
 
-/// What a call answers.
+/// Writes what a call answers.
 fn tell(alloc: Global, out: &mut Sheet, form: &str, call: &mut Call) {
     if form == "put" {
         let put = put(alloc, call);
         out.show(&call.object);
         tell_refusal(out, put);
     } else {
-        look(alloc, out, form, call);
+        tell_indexed(alloc, out, form, call);
     }
 }
 
 /// Writes what the index leads to.
-fn look(alloc: Global, out: &mut Sheet, form: &str, call: &mut Call) {
+fn tell_indexed(alloc: Global, out: &mut Sheet, form: &str, call: &mut Call) {
     let how = access(form);
     match get_indexed_mut(&mut call.object, alloc, &call.cells, &call.index, how) {
         Ok(target) => tell_target(alloc, out, form, target),
@@ -92,7 +95,7 @@ fn show(out: &mut Sheet, target: Target<'_, Stone>) {
     drop(target);
 }
 
-/// The kind of a target, what it shows, and what is taken from it.
+/// Writes the kind of a `Target`, what it shows, and what is taken from it.
 fn describe(alloc: Global, out: &mut Sheet, target: Target<'_, Stone>) {
     out.write(kind(&target));
     out.show(target.as_ref());
@@ -100,7 +103,7 @@ fn describe(alloc: Global, out: &mut Sheet, target: Target<'_, Stone>) {
     out.tell(target.take_or_clone(alloc));
 }
 
-/// The word before what a target shows.
+/// Returns the word that stands before what a `Target` shows.
 fn kind(target: &Target<'_, Stone>) -> &'static str {
     match (target.is_shared(), target.is_temp_value(), target.is_ref()) {
         (true, _, _) => "shared ",
@@ -117,7 +120,7 @@ fn put(alloc: Global, call: &mut Call) -> Result<(), EvalAltResult<Stone>> {
     put_back(alloc, target, &mut call.part)
 }
 
-/// Puts a value into a target and back, at 1:9.
+/// Puts a value into a `Target` and back, at 1:9.
 fn put_back(
     alloc: Global,
     mut target: Target<'_, Stone>,

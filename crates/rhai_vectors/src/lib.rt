@@ -7,14 +7,14 @@ mod indexing;
 mod modules;
 mod operators;
 mod reader;
-mod shown;
+mod sheet;
 pub mod text;
 mod tree;
 mod trees;
 mod values;
 
 use crate::reader::{Fault, Reader};
-use crate::shown::Sheet;
+use crate::sheet::Sheet;
 use std::alloc::Global;
 use std::io;
 
@@ -31,7 +31,7 @@ pub enum Leaf {
 pub type Answer = Result<Vec<u8>, &'static str>;
 
 impl Leaf {
-    /// The name of its file, without the ending.
+    /// Returns the name of its file, without the ending.
     pub fn name(self) -> &'static str {
         match self {
             Leaf::Operators => "operators",
@@ -41,7 +41,7 @@ impl Leaf {
         }
     }
 
-    /// What the call of a line answers.
+    /// Tells what the call of a line answers.
     pub fn answer(self, alloc: Global, call: &str) -> io::Result<Answer> {
         match self.text(alloc, call) {
             Ok(found) => Ok(Ok(found.into_bytes())),
@@ -50,7 +50,7 @@ impl Leaf {
         }
     }
 
-    /// The same as a text.
+    /// Tells what the call of a line answers, as a text.
     fn text(self, alloc: Global, call: &str) -> Result<String, Fault> {
         let mut line = Reader::new(alloc, call);
         let mut out = Sheet::new(alloc);

@@ -6,7 +6,7 @@ use rhai_tree::{Items, Shared, Text};
 use std::alloc::{AllocError, Global};
 use std::num::NonZeroUsize;
 
-/// `try {} catch (x) { m::x }`, where the last name has the offset of the variable.
+/// Builds `try {} catch (x) { m::x }`, where the last name has the offset of the variable.
 pub fn offset_behind_a_path(alloc: Global) -> Result<Items<Stmt>, AllocError> {
     let plain = path_of(alloc, None, None, Position::NONE)?;
     let caught = variable(alloc, None, plain, Position::new(1, 15))?;
@@ -18,13 +18,13 @@ pub fn offset_behind_a_path(alloc: Global) -> Result<Items<Stmt>, AllocError> {
     list(alloc, None, tried)
 }
 
-/// `m::x`, with an index where nothing is imported.
+/// Builds `m::x`, with an index where nothing is imported.
 pub fn index_without_imports(alloc: Global) -> Result<Items<Stmt>, AllocError> {
-    let last = indexed(alloc, Some("m"), Position::new(1, 1), Position::new(1, 4))?;
+    let last = indexed_variable(alloc, Some("m"), Position::new(1, 1), Position::new(1, 4))?;
     list(alloc, None, last)
 }
 
-/// `m::f()`, with an index where nothing is imported.
+/// Builds `m::f()`, with an index where nothing is imported.
 pub fn call_without_imports(alloc: Global) -> Result<Items<Stmt>, AllocError> {
     let call = FnCallExpr {
         namespace: path_of(alloc, Some("m"), NonZeroUsize::new(1), Position::new(1, 1))?,
@@ -36,31 +36,31 @@ pub fn call_without_imports(alloc: Global) -> Result<Items<Stmt>, AllocError> {
     list(alloc, None, Stmt::FnCall(call, Position::new(1, 4)))
 }
 
-/// `import "m" as m; m::x`, with the import's index.
+/// Builds `import "m" as m; m::x`, with the import's index.
 pub fn index_of_an_import(alloc: Global) -> Result<Items<Stmt>, AllocError> {
     let imported = import(alloc, Some("m"))?;
-    let last = indexed(alloc, Some("m"), Position::new(1, 18), Position::new(1, 21))?;
+    let last = indexed_variable(alloc, Some("m"), Position::new(1, 18), Position::new(1, 21))?;
     list(alloc, Some(imported), last)
 }
 
-/// `{ import "m" as m; } m::x`, with the import's index.
+/// Builds `{ import "m" as m; } m::x`, with the import's index.
 pub fn import_of_a_block(alloc: Global) -> Result<Items<Stmt>, AllocError> {
     let imported = import(alloc, Some("m"))?;
     let first = Stmt::Block(block(alloc, Some(imported))?);
-    let last = indexed(alloc, Some("m"), Position::new(1, 22), Position::new(1, 25))?;
+    let last = indexed_variable(alloc, Some("m"), Position::new(1, 22), Position::new(1, 25))?;
     list(alloc, Some(first), last)
 }
 
-/// `import "m"; ::x`, whose root is the empty text, with the import's index.
+/// Builds `import "m"; ::x`, whose root is the empty text, with the import's index.
 pub fn import_without_an_alias(alloc: Global) -> Result<Items<Stmt>, AllocError> {
     let imported = import(alloc, None)?;
-    let last = indexed(alloc, Some(""), Position::new(1, 13), Position::new(1, 15))?;
+    let last = indexed_variable(alloc, Some(""), Position::new(1, 13), Position::new(1, 15))?;
     list(alloc, Some(imported), last)
 }
 
-/// `x`, whose namespace has an index and no path.
+/// Builds `x`, whose namespace has an index and no path.
 pub fn index_without_a_path(alloc: Global) -> Result<Items<Stmt>, AllocError> {
-    let last = indexed(alloc, None, Position::NONE, Position::new(1, 1))?;
+    let last = indexed_variable(alloc, None, Position::NONE, Position::new(1, 1))?;
     list(alloc, None, last)
 }
 
@@ -68,7 +68,7 @@ fn name(alloc: Global, text: &str) -> Result<Shared<Text>, AllocError> {
     Shared::new(alloc, Text::from_str(alloc, text)?)
 }
 
-/// A path of its root alone, or none.
+/// Builds a path of its root alone, or none.
 fn path_of(
     alloc: Global,
     root: Option<&str>,
@@ -86,7 +86,7 @@ fn path_of(
     })
 }
 
-/// `x` behind a path.
+/// Builds `x` behind a path.
 fn variable(
     alloc: Global,
     offset: Option<NonZeroUsize>,
@@ -101,8 +101,8 @@ fn variable(
     })
 }
 
-/// `x` behind a path with the index of the newest import.
-fn indexed(
+/// Builds `x` behind a path with the index of the newest import.
+fn indexed_variable(
     alloc: Global,
     root: Option<&str>,
     position: Position,
@@ -112,7 +112,7 @@ fn indexed(
     Ok(Stmt::Expr(variable(alloc, None, path, pos)?))
 }
 
-/// An import of `m`.
+/// Builds an import of `m`.
 fn import(alloc: Global, alias: Option<&str>) -> Result<Stmt, AllocError> {
     let module = Expr::StringConstant(name(alloc, "m")?, Position::NONE);
     let alias = match alias {
@@ -125,7 +125,7 @@ fn import(alloc: Global, alias: Option<&str>) -> Result<Stmt, AllocError> {
     Ok(Stmt::Import(module, alias, Position::NONE))
 }
 
-/// A block of one statement, or of none.
+/// Builds a block of one statement, or of none.
 fn block(alloc: Global, statement: Option<Stmt>) -> Result<StmtBlock, AllocError> {
     let mut statements = Items::new(alloc);
     if let Some(statement) = statement {
@@ -138,7 +138,7 @@ fn block(alloc: Global, statement: Option<Stmt>) -> Result<StmtBlock, AllocError
     })
 }
 
-/// One statement or two.
+/// Builds a list of one statement or two.
 fn list(alloc: Global, first: Option<Stmt>, last: Stmt) -> Result<Items<Stmt>, AllocError> {
     let mut statements = Items::new(alloc);
     if let Some(first) = first {

@@ -2,7 +2,7 @@
 
 use crate::host::Stone;
 use crate::reader::Reader;
-use crate::shown::Sheet;
+use crate::sheet::Sheet;
 use rhai_operators::{builtin_binary, builtin_op_assign, builtin_unary};
 use rhai_state::error::EvalAltResult;
 use rhai_tree::token::Token;
@@ -35,12 +35,13 @@ const OPERATORS: [Token; 20] = [
     Token::InclusiveRange,
 ];
 
-/// What `binary OP X Y`, `unary OP X` or `assign OP X Y` answers: a value, an error, or `none`.
+/// Writes what an operator answers for its operands: a value, an error, or `none`. The call is `binary OP X
+/// Y`, `unary OP X` or `assign OP X Y`.
 pub fn answer(line: &mut Reader<'_>, out: &mut Sheet) {
     let form = line.word();
     let op = operator(line);
     let x = line.value();
-    let found = applied(line, form, op, &x);
+    let found = apply_operator(line, form, op, &x);
     drop(x);
     match found {
         Some(found) => out.tell(found),
@@ -48,8 +49,8 @@ pub fn answer(line: &mut Reader<'_>, out: &mut Sheet) {
     }
 }
 
-/// What an operator gives for an operand, and for the next one where the form has two.
-fn applied(line: &mut Reader<'_>, form: &str, op: Token, x: &Dynamic<Stone>) -> Answer {
+/// Applies an operator to an operand, and to the next one where the form has two.
+fn apply_operator(line: &mut Reader<'_>, form: &str, op: Token, x: &Dynamic<Stone>) -> Answer {
     let alloc = line.allocator();
     match form {
         "unary" => builtin_unary(alloc, op, x),
@@ -72,7 +73,7 @@ fn applied(line: &mut Reader<'_>, form: &str, op: Token, x: &Dynamic<Stone>) -> 
     }
 }
 
-/// The next operator. `negate` is the minus before one operand.
+/// Reads the next operator. `negate` is the minus before one operand.
 pub fn operator(line: &mut Reader<'_>) -> Token {
     let word = line.word();
     if word == "negate" {

@@ -26,7 +26,7 @@ pub struct Reader<'a> {
 }
 
 impl<'a> Reader<'a> {
-    /// All of a line.
+    /// Begins with all of a line.
     pub fn new(alloc: Global, line: &'a str) -> Reader<'a> {
         Reader {
             alloc,
@@ -35,12 +35,12 @@ impl<'a> Reader<'a> {
         }
     }
 
-    /// Where values are made.
+    /// Returns the allocator with which values are made.
     pub fn allocator(&self) -> Global {
         self.alloc
     }
 
-    /// The first fault. It is one where the line goes on.
+    /// Ends the reading, with the first fault if there was one. It is a fault where the line goes on.
     pub fn finish(mut self) -> Result<(), Fault> {
         if !self.rest.is_empty() {
             self.want("the end of the call");
@@ -64,12 +64,12 @@ impl<'a> Reader<'a> {
         self.fail(Fault::Wanted(wanted));
     }
 
-    /// Remembers want of memory.
-    pub fn starve(&mut self) {
+    /// Remembers that memory ran out.
+    pub fn lack_memory(&mut self) {
         self.fail(Fault::NoMemory);
     }
 
-    /// What was read, or something harmless where this is wanted.
+    /// Returns what was read. Where nothing was, remembers what is wanted and returns something harmless.
     fn or_want<T: Copy>(&mut self, read: Option<T>, wanted: &'static str, harmless: T) -> T {
         match read {
             Some(read) => read,
@@ -80,7 +80,7 @@ impl<'a> Reader<'a> {
         }
     }
 
-    /// The next word, up to a space, which is passed over. At the end it is empty.
+    /// Reads the next word, up to a space, which is passed over. At the end it is empty.
     pub fn word(&mut self) -> &'a str {
         let (word, rest) = self.rest.split_once(' ').unwrap_or((self.rest, ""));
         self.rest = rest;
@@ -94,14 +94,14 @@ impl<'a> Reader<'a> {
         }
     }
 
-    /// The next whole number from zero on.
+    /// Reads the next whole number from zero on.
     pub fn count(&mut self) -> usize {
         let read = self.word().parse().ok();
         self.or_want(read, "a whole number from zero on", 0)
     }
 
-    /// The next place, as `1:2` for the second column of the first line.
-    pub fn place(&mut self) -> Position {
+    /// Reads the next position, as `1:2` for the second column of the first line.
+    pub fn next_position(&mut self) -> Position {
         let (line, column) = self.word().split_once(':').unwrap_or(("", ""));
         let line = line.parse().unwrap_or(0);
         let column = column.parse().unwrap_or(0);
@@ -130,7 +130,7 @@ impl<'a> Reader<'a> {
         }
     }
 
-    /// The text up to a mark, which is passed over.
+    /// Reads the text up to a mark, which is passed over.
     fn up_to(&mut self, mark: &'static str) -> &'a str {
         match self.rest.split_once(mark) {
             Some((text, rest)) => {
@@ -144,20 +144,20 @@ impl<'a> Reader<'a> {
         }
     }
 
-    /// A value behind a pointer of its own, None where there was no memory for it.
+    /// Puts a value behind a pointer of its own, None where there was no memory for it.
     pub fn boxed<T: Drop>(&mut self, value: T) -> Option<Boxed<T>> {
         let made = Boxed::new(self.alloc, value).ok();
         if made.is_none() {
-            self.starve();
+            self.lack_memory();
         }
         made
     }
 
-    /// A shared copy of a text, None where there was no memory for it.
+    /// Copies a text into a shared one, None where there was no memory for it.
     pub fn shared(&mut self, text: &str) -> Option<Shared<Text>> {
         let made = shared(self.alloc, text).ok();
         if made.is_none() {
-            self.starve();
+            self.lack_memory();
         }
         made
     }
@@ -165,7 +165,7 @@ impl<'a> Reader<'a> {
     /// Appends an item to a list.
     fn push<T: Drop>(&mut self, items: &mut Items<T>, item: T) {
         if items.push(item).is_err() {
-            self.starve();
+            self.lack_memory();
         }
     }
 }

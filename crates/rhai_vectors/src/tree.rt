@@ -2,12 +2,13 @@
 
 use crate::operators::operator;
 use crate::reader::Reader;
-use crate::shown::Sheet;
+use crate::sheet::Sheet;
 use crate::trees;
 use rhai_check::check::CheckFault;
 use rhai_tree::position::Position;
 
-/// What `fault NAME PLACE` or `operator OP` is written as, or what `check TREE` is refused for.
+/// Writes a fault of the checker, an operator, or what a tree is refused for. The call is `fault NAME
+/// POSITION`, `operator OP` or `check TREE`.
 pub fn answer(line: &mut Reader<'_>, out: &mut Sheet) {
     match line.word() {
         "fault" => out.fault(fault(line)),
@@ -17,14 +18,14 @@ pub fn answer(line: &mut Reader<'_>, out: &mut Sheet) {
     }
 }
 
-/// The next fault, and where it stands.
+/// Reads the next fault, and where it stands.
 fn fault(line: &mut Reader<'_>) -> CheckFault {
     let name = line.word();
-    let place = line.place();
+    let place = line.next_position();
     fault_at(line, name, place)
 }
 
-/// The fault of a name at a place.
+/// Makes the fault of a name at a position.
 fn fault_at(line: &mut Reader<'_>, name: &str, place: Position) -> CheckFault {
     match name {
         "BadOffset" => CheckFault::BadOffset(place),

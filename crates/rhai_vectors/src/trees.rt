@@ -2,7 +2,7 @@
 
 use crate::modules;
 use crate::reader::Reader;
-use crate::shown::Sheet;
+use crate::sheet::Sheet;
 use rhai_check::check::{CheckFault, check_tree};
 use rhai_samples::built::{dot_that_ends_and_goes_on, method_of_a_module};
 use rhai_samples::parts::statements_of;
@@ -13,17 +13,17 @@ use rhai_tree::Items;
 use rhai_tree::expr::Stmt;
 use std::alloc::{AllocError, Global};
 
-/// Writes the fault for which the checker refuses the tree of a name, and its place, or that it passed.
+/// Writes the fault for which the checker refuses the tree of a name, and its position, or that it passed.
 pub fn answer(line: &mut Reader<'_>, out: &mut Sheet) {
     let name = line.word();
     match tree_of(line.allocator(), name) {
         Ok(Some(statements)) => check(line, statements, out),
         Ok(None) => line.want("the name of a tree"),
-        Err(AllocError) => line.starve(),
+        Err(AllocError) => line.lack_memory(),
     }
 }
 
-/// The tree of a name.
+/// Builds the tree of a name.
 fn tree_of(alloc: Global, name: &str) -> Result<Option<Items<Stmt>>, AllocError> {
     let parts = match name {
         "integer_behind_a_dot" => INTEGER_BEHIND_A_DOT,
@@ -32,13 +32,13 @@ fn tree_of(alloc: Global, name: &str) -> Result<Option<Items<Stmt>>, AllocError>
         "method_assigned" => METHOD_ASSIGNED,
         "property_alone" => PROPERTY_ALONE,
         "method_of_a_module" => return method_of_a_module(alloc).map(Some),
-        _ => return with_modules(alloc, name),
+        _ => return tree_with_modules(alloc, name),
     };
     statements_of(alloc, parts).map(Some)
 }
 
-/// The tree of a name that has imports or a path.
-fn with_modules(alloc: Global, name: &str) -> Result<Option<Items<Stmt>>, AllocError> {
+/// Builds the tree of a name that has imports or a path.
+fn tree_with_modules(alloc: Global, name: &str) -> Result<Option<Items<Stmt>>, AllocError> {
     let statements = match name {
         "offset_behind_a_path" => modules::offset_behind_a_path(alloc),
         "index_without_imports" => modules::index_without_imports(alloc),
@@ -56,7 +56,7 @@ fn check(line: &mut Reader<'_>, statements: Items<Stmt>, out: &mut Sheet) {
     let alloc = line.allocator();
     match check_tree(alloc, statements, Items::new(alloc)).err() {
         None => out.write("passed"),
-        Some(CheckFault::NoMemory) => line.starve(),
+        Some(CheckFault::NoMemory) => line.lack_memory(),
         Some(fault) => out.fault(fault),
     }
 }

@@ -2,7 +2,7 @@
 
 use crate::host::Stone;
 use crate::reader::Reader;
-use crate::shown::Sheet;
+use crate::sheet::Sheet;
 use crate::text::shared;
 use rhai_state::error::{EvalAltResult, FunctionCallError};
 use rhai_tree::Boxed;
@@ -11,12 +11,12 @@ use rhai_values::base::value::Dynamic;
 use std::alloc::{AllocError, Global};
 use std::mem::size_of;
 
-/// What a call with a value, an error or a type answers, by its first word.
+/// Writes what a call with a value, an error or a type answers, by its first word.
 pub fn answer(line: &mut Reader<'_>, out: &mut Sheet) {
     match line.word() {
         "print" => print(line, out),
         "error" => out.print_error(error(line)),
-        "size" => out.write(measured(line)),
+        "size" => out.write(fits_size(line)),
         _ => line.want("a call with a value, an error or a type"),
     }
 }
@@ -27,11 +27,11 @@ fn print(line: &mut Reader<'_>, out: &mut Sheet) {
     drop(value);
 }
 
-/// The next error: `overflow PLACE`, `runtime VALUE PLACE`, or `call NAME PLACE PLACE` for an error
-/// of a `for` at the first place, in a call at the second.
+/// Reads the next error: `overflow POSITION`, `runtime VALUE POSITION`, or `call NAME POSITION POSITION`. The
+/// last is an error of a `for` at the first position, in a call at the second.
 fn error(line: &mut Reader<'_>) -> EvalAltResult<Stone> {
     match line.word() {
-        "overflow" => overflow(line.place()),
+        "overflow" => overflow(line.next_position()),
         "runtime" => runtime(line),
         "call" => in_call(line),
         _ => {
@@ -50,7 +50,7 @@ fn overflow(place: Position) -> EvalAltResult<Stone> {
 fn runtime(line: &mut Reader<'_>) -> EvalAltResult<Stone> {
     let value = line.value();
     let value = line.boxed(value);
-    let place = line.place();
+    let place = line.next_position();
     match value {
         Some(value) => EvalAltResult::ErrorRuntime(value, place),
         None => EvalAltResult::ErrorOutOfMemory(place),
@@ -59,19 +59,19 @@ fn runtime(line: &mut Reader<'_>) -> EvalAltResult<Stone> {
 
 fn in_call(line: &mut Reader<'_>) -> EvalAltResult<Stone> {
     let name = line.word();
-    let called = called(line.allocator(), name, line.place()).ok();
-    let place = line.place();
+    let called = call_error(line.allocator(), name, line.next_position()).ok();
+    let place = line.next_position();
     match called {
         Some(called) => EvalAltResult::ErrorInFunctionCall(called, place),
         None => {
-            line.starve();
+            line.lack_memory();
             EvalAltResult::ErrorOutOfMemory(place)
         }
     }
 }
 
-/// An error of a `for` at a place, in a call of a name.
-fn called(
+/// Makes an error of a `for` at a position, in a call of a name.
+fn call_error(
     alloc: Global,
     name: &str,
     place: Position,
@@ -84,8 +84,8 @@ fn called(
     Boxed::new(alloc, call)
 }
 
-/// Whether a type has at most so many bytes, as `size Dynamic <= 32`.
-fn measured(line: &mut Reader<'_>) -> &'static str {
+/// Tells whether a type has at most so many bytes, as `size Dynamic <= 32`.
+fn fits_size(line: &mut Reader<'_>) -> &'static str {
     let size = size(line);
     line.pass_word("<=");
     if size <= line.count() {
@@ -95,7 +95,7 @@ fn measured(line: &mut Reader<'_>) -> &'static str {
     }
 }
 
-/// How many bytes the next type has.
+/// Reads a type, and tells how many bytes it has.
 fn size(line: &mut Reader<'_>) -> usize {
     match line.word() {
         "Dynamic" => size_of::<Dynamic<Stone>>(),

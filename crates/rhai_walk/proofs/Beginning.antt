@@ -17,12 +17,12 @@ use Rattle.rhai_state.specs.declared.error.EvalAltResult.TheVariants as error
 use Rattle.rhai_state.specs.Errors.{is_out_of_memory}
 use Rattle.rhai_machine.specs.machine.Machine.{Move, Go, Charge}
 use Rattle.rhai_machine.specs.machine.Point.{Point, moved, after}
-use Rattle.rhai_machine.specs.machine.Memory.{here, next, wanting, ◌⨾◌}
+use Rattle.rhai_machine.specs.machine.Memory.{here, next, out_before_step, ◌⨾◌}
 use Rattle.rhai_machine.specs.language.Setting.{Setting, Rules, cut, limit_under}
 use Rattle.rhai_machine.specs.language.State.{Held, Local, State}
 use Rattle.rhai_machine.specs.language.Values.{is_handle, through, unit_value, used}
 use Rattle.rhai_machine.specs.language.Links.{Link, LinkForm, AtIndex, AtProperty, AtMethod, link_of}
-use Rattle.rhai_machine.specs.language.Frames.{Chain, Frame, Core, core, marked, on_value, where_there, Walk, Locate, Back, Fail}
+use Rattle.rhai_machine.specs.language.Frames.{Chain, Frame, Core, core, ended_or_changed, on_value, where_there, Walk, Locate, Back, Fail}
 use Rattle.rhai_machine.specs.language.Located.{index_by, is_indexed, is_map, is_unit}
 use Rattle.rhai_machine.specs.language.Members.{focus_of}
 use Rattle.rhai_machine.specs.language.Chains.{entered, form_move, indexed_core, locate_core, method_entered, property_move}
@@ -31,10 +31,10 @@ use Rattle.rhai_machine.specs.language.Language.{machine, move}
 use Rattle.rhai_machine.specs.language.Runs.{at, with_core, Goes}
 use Rattle.rhai_steps.specs.States.{state_of}
 use Rattle.rhai_steps.proofs.Pieces.{charged, faulted, refused, step_by}
-use Rattle.rhai_steps.specs.Marked.{lending, RunsFrom}
-use Rattle.rhai_chains.specs.Chains.{FollowsFrom, Does, Wants, WalkRuns}
+use Rattle.rhai_steps.specs.OnFocus.{lending, RunsFrom}
+use Rattle.rhai_chains.specs.Chains.{FollowsFrom, Does, FindsNoMemory, WalkRuns}
 use Rattle.rhai_walk.specs.Walking.{entered_core, inside_by, inside_core, Comes, GoesOn, IsCharged, IsFree, IsUncharged, IsWay}
-use Rattle.rhai_walk.specs.Walking.{MayEnd, StopsThere, WayBy}
+use Rattle.rhai_walk.specs.Walking.{MayEndAt, StopsThere, WayBy}
 use Rattle.rhai_walk.specs.declared.ways.Way.{Way}
 use Rattle.rhai_walk.specs.declared.ways.Way.TheVariants as way
 
@@ -68,7 +68,8 @@ module _ {H : Type 0} where
     located k l seen charged =
         ap (λ (r : Result (Dynamic H) (EvalAltResult H)). on_value r
         (λ v. entered v (λ k l. indexed_core s (is_indexed (layer_of v)) link (index_by link.form chain.args) chain v k l) k l) k l) seen
-        ∙ ap (λ (go : List (Frame H) → Local H → Core H). entered inner go k l) (sym (inside_located link.form (is_handle (focus_of l).value) charged))
+        ∙ ap (λ (go : List (Frame H) → Local H → Core H). entered inner go k l) (sym
+        (inside_located link.form (is_handle (focus_of l).value) charged))
         ∙ sym (ap (λ (r : Result (Dynamic H) (EvalAltResult H)). on_value r
         (λ v. entered v (inside_core s link (is_handle (focus_of l).value) v chain) k l) k l) seen)
 
@@ -80,7 +81,7 @@ module _ {H : Type 0} where
     charges (AtMethod name args pos) k l is = absurd is
 
     uncharged : (form : LinkForm) (k : List (Frame H)) (l : Local H) → IsUncharged form (layer_of inner) →
-        MayEnd form (is_some link.behind || is_none chain.new) →
+        MayEndAt form (is_some link.behind || is_none chain.new) →
         form_move s form link inner chain k l ≡ Go (entered inner
         (λ k m. inside_by s form (is_map (layer_of inner)) (is_handle (focus_of l).value) link inner chain k m) k l)
     uncharged (AtIndex index) k l is may = absurd is
@@ -146,7 +147,7 @@ module _ {S H : Type 0} (rules : Rules S H) (link : Link) (chain : Chain H) (is 
             ∙ ap (λ (c : Core H). Go c) (sym (ap (λ (r : Result (Dynamic H) (EvalAltResult H)). on_value r
             (λ v. entered v (inside_core rules.setting link (is_handle (focus_of s.local).value) v chain) k s.local) k s.local) goes.seen)))
             here;
-        starves = λ pos k. wanting {at = pos} here;
+        may_run_out = λ pos k. out_before_step {at = pos} here;
       }
 
   module _ (t : S) (old new : GlobalRuntimeState H) (scope : Scope H) (held : Held H) (focus : Dynamic H)
@@ -170,8 +171,8 @@ module _ {S H : Type 0} (rules : Rules S H) (link : Link) (chain : Chain H) (is 
               ⨾ step_by rules _ _ (Go (entered_core rules.setting link chain k (state_in new).local))
               (ap (λ (c : Core H). Go c) (located rules.setting link goes.inner chain k (state_in new).local
               (rw spent goes.seen) charged_by)) here;
-          starves = λ pos k. charged rules t old new scope (lending held focus) (Walk chain) (Locate link chain) none moves room spent k
-              ⨾ wanting {at = pos} here;
+          may_run_out = λ pos k. charged rules t old new scope (lending held focus) (Walk chain) (Locate link chain) none moves room spent k
+              ⨾ out_before_step {at = pos} here;
         }
 
     -- or it is refused
@@ -184,8 +185,8 @@ module _ {S H : Type 0} (rules : Rules S H) (link : Link) (chain : Chain H) (is 
 module _ {S H : Type 0} (rules : Rules S H) (link : Link) (chain : Chain H) (old mid new : State S H)
     (r : Result (Dynamic H × Bool) (EvalAltResult H)) where
   -- the walk goes on where the focus is entered
-  pub comes_on : Comes rules link chain old mid → MayEnd link.form (is_some link.behind || is_none chain.new) →
+  pub comes_on : Comes rules link chain old mid → MayEndAt link.form (is_some link.behind || is_none chain.new) →
       FollowsFrom rules (entered_core rules.setting link chain) mid r new → WalkRuns rules chain old r new
   unfolding RunsFrom
   comes_on comes may (Does runs) k = comes.comes may k ⨾ runs k
-  comes_on comes may (Wants pos is stays) k = rw (is, stays) (comes.starves pos k)
+  comes_on comes may (FindsNoMemory pos is stays) k = rw (is, stays) (comes.may_run_out pos k)

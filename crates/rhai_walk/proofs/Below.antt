@@ -70,10 +70,10 @@ module _ {H : Type 0} where
 
   -- ---- temporaries
 
-  -- memory is wanting for what is given without fail
-  pub wants_copy : (e : EvalAltResult H) (v : Dynamic H) → Answers (Err e) (Ok v) → is_out_of_memory e ≡ true
-  wants_copy (error.ErrorOutOfMemory pos) v answers = refl
-  wants_copy e v answers = let never : ◌≡◌ {A = Result (Dynamic H) (EvalAltResult H)} (Err e) (Ok v) = answers refl in cc
+  -- memory runs out for what is given without fail
+  pub copy_runs_out : (e : EvalAltResult H) (v : Dynamic H) → Answers (Err e) (Ok v) → is_out_of_memory e ≡ true
+  copy_runs_out (error.ErrorOutOfMemory pos) v answers = refl
+  copy_runs_out e v answers = let never : ◌≡◌ {A = Result (Dynamic H) (EvalAltResult H)} (Err e) (Ok v) = answers refl in cc
 
   -- an item goes back by its index
   pub item_back : (form : LinkForm) (expr : Expr) (link : Link) (index copied : Dynamic H) (chain : Chain H) (in_place : Bool) →

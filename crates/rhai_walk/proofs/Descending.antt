@@ -14,25 +14,25 @@ use Rattle.rhai_places.specs.declared.spot.Access.{Access}
 use Rattle.rhai_places.specs.declared.spot.Refusal.{Refusal}
 use Rattle.rhai_places.specs.declared.spot.Spot.{Spot}
 use Rattle.rhai_places.specs.declared.spot.Spot.TheVariants as spot
-use Rattle.rhai_places.specs.Found.{found, found_by, settled, through}
+use Rattle.rhai_places.specs.Found.{found, found_by, spot_or_error, through}
 use Rattle.rhai_places.specs.Indexing.{located}
 use Rattle.rhai_places.specs.Parts.{IsPart, IsPlace, IsThere, part_of, value_at, with_value}
 use Rattle.rhai_places.specs.Paths.{ToPlace}
 use Rattle.rhai_machine.specs.machine.Point.{after}
-use Rattle.rhai_machine.specs.machine.Memory.{here, next, wanting, ◌⨾◌}
+use Rattle.rhai_machine.specs.machine.Memory.{here, next, out_before_step, ◌⨾◌}
 use Rattle.rhai_machine.specs.language.Setting.{Setting, Rules}
 use Rattle.rhai_machine.specs.language.State.{Local, State}
 use Rattle.rhai_machine.specs.language.Values.{unit_value}
 use Rattle.rhai_machine.specs.language.Links.{Link, LinkForm, AtIndex, AtProperty, AtMethod, link_of}
-use Rattle.rhai_machine.specs.language.Frames.{Chain, NewValue, Frame, Core, core, marked, on_value, Walk, Back, Fail, StepDown, Temporary}
+use Rattle.rhai_machine.specs.language.Frames.{Chain, NewValue, Frame, Core, core, ended_or_changed, on_value, Walk, Back, Fail, StepDown, Temporary}
 use Rattle.rhai_machine.specs.language.Frames.{PartMethod}
 use Rattle.rhai_machine.specs.language.Located.{args_behind, is_indexed, is_map, is_place_spot, spot_of, taken_at}
 use Rattle.rhai_machine.specs.language.Members.{focused_on}
 use Rattle.rhai_machine.specs.language.Chains.{after_method, behind_link, descend, indexed_core, method_of, part_core, part_form, spot_core}
 use Rattle.rhai_machine.specs.language.Chains.{way_back}
 use Rattle.rhai_machine.specs.language.Runs.{at, with_core, Goes}
-use Rattle.rhai_steps.specs.Marked.{RunsFrom}
-use Rattle.rhai_chains.specs.Chains.{FollowsFrom, Does, Wants, WalkRuns}
+use Rattle.rhai_steps.specs.OnFocus.{RunsFrom}
+use Rattle.rhai_chains.specs.Chains.{FollowsFrom, Does, FindsNoMemory, WalkRuns}
 use Rattle.rhai_walk.specs.Walking.{IsLocated, IsNoMethod, IsSpotBelow}
 use Rattle.rhai_chains.specs.Spots.{FindsSpot}
 use Rattle.rhai_chains.proofs.Alike.{begins_alike, follows_alike}
@@ -55,7 +55,7 @@ module _ {H : Type 0} where
       let both : ◌≡◌ {A = Dynamic H × Spot} (source, spot.Missing) (after, there) = cc in sym (ap (λ (p : Dynamic H × Spot). p.0) both)
 
   settled_same : (how : Access) (name : H → List ℕ) (cells : List (Option (Dynamic H))) (source index after : Dynamic H)
-      (r : Result Spot Refusal) (there : Spot) → how.add_if_not_found ≡ false → settled how name cells source index r ≡ Ok (after, there) →
+      (r : Result Spot Refusal) (there : Spot) → how.add_if_not_found ≡ false → spot_or_error how name cells source index r ≡ Ok (after, there) →
       after ≡ source
   settled_same how name cells source index after (Ok spot.Missing) there never is =
       without_same _ how.add_if_not_found how.fail_on_invalid_map_property _ source after there never is
@@ -112,12 +112,14 @@ module _ {H : Type 0} where
         ≡ core (Walk (behind rest true)) (StepDown source (ToPlace there) ∷ k) (focused_on (value_at source there) l)
     down_is there rest index source k l is =
         ap (λ (b : Bool). descend s b there link rest index chain source k l) (place_is (layer_of source) there is)
-        ∙ ap (λ (c : Chain H). core (Walk c) (StepDown source (ToPlace there) ∷ k) (focused_on (value_at source there) l)) (goes_behind rest true)
+        ∙ ap (λ (c : Chain H). core (Walk c) (StepDown source (ToPlace there) ∷ k) (focused_on (value_at source there) l))
+        (goes_behind rest true)
 
-    -- on a temporary in the place of a missing key
+    -- on a temporary for a missing key
     pub missing_is : (rest : ExprLayer) (index source : Dynamic H) (k : List (Frame H)) (l : Local H) →
         descend s false spot.Missing link rest index chain source k l
-        ≡ core (Walk (behind rest false)) (Temporary (Some source) (way_back link.form link index chain) ∷ k) (focused_on (Some unit_value) l)
+        ≡ core (Walk (behind rest false)) (Temporary (Some source) (way_back link.form link index chain) ∷ k) (focused_on
+        (Some unit_value) l)
     missing_is rest index source k l =
         ap (λ (c : Chain H). core (Walk c) (Temporary (Some source) (way_back link.form link index chain) ∷ k)
         (focused_on (Some unit_value) l)) (goes_behind rest false)
@@ -163,8 +165,8 @@ module _ {S H : Type 0} (rules : Rules S H) where
   -- a result comes up from a place, and what has become of it goes back
   up_from_place : (r : Result (Dynamic H × Bool) (EvalAltResult H)) (source w : Dynamic H) (there : Spot) (k : List (Frame H))
       (s : State S H) →
-      Goes rules (at (marked r) (StepDown source (ToPlace there) ∷ k) (working (Some w) s))
-      (at (marked r) k (working (Some (with_value source there w)) s))
+      Goes rules (at (ended_or_changed r) (StepDown source (ToPlace there) ∷ k) (working (Some w) s))
+      (at (ended_or_changed r) k (working (Some (with_value source there w)) s))
   unfolding after
   up_from_place (Ok (v, true)) source w there k s = next here
   up_from_place (Ok (v, false)) source w there k s = next here
@@ -199,7 +201,8 @@ module _ {S H : Type 0} (rules : Rules S H) where
         (λ spot. descend rules.setting (is_place_spot spot.1) spot.1 link rest index chain spot.0 k old.local) k old.local) is ∙ same k)
         follows
 
-    module _ (args : List (Dynamic H)) (left : args_behind link.form chain.args ≡ args) (there : Spot) (is : wanted ≡ Ok (source, there)) where
+    module _ (args : List (Dynamic H)) (left : args_behind link.form chain.args ≡ args) (there : Spot) (is : wanted ≡ Ok
+        (source, there)) where
       pub found_place : IsPlace (layer_of source) there →
           RunsFrom rules (λ k l. core (Walk (record chain { rest = rest; args = args; in_place = true }))
           (StepDown source (ToPlace there) ∷ k) (focused_on (value_at source there) l)) old r new →
@@ -215,7 +218,8 @@ module _ {S H : Type 0} (rules : Rules S H) where
           (λ k. missing_is rules.setting link chain args left rest index source k old.local) (Does runs)
 
       pub found_part : IsPart (layer_of source) there →
-          FollowsFrom rules (part_core rules.setting (link_of rest) there (record chain { rest = rest; args = args; in_place = false }) source)
+          FollowsFrom rules (part_core rules.setting (link_of rest) there (record chain
+          { rest = rest; args = args; in_place = false }) source)
           old r new → FollowsFrom rules going_on old r new
       found_part part follows = found_goes there _ is
           (λ k. part_is rules.setting link chain args left there rest index source k old.local part) follows
@@ -224,7 +228,7 @@ module _ {S H : Type 0} (rules : Rules S H) where
     pub found_none : (e : EvalAltResult H) → (is_out_of_memory e ≡ false → wanted ≡ Err e) →
         FollowsFrom rules going_on old (Err e) old
     unfolding RunsFrom
-    found_none (error.ErrorOutOfMemory pos) is = Wants pos refl refl
+    found_none (error.ErrorOutOfMemory pos) is = FindsNoMemory pos refl refl
     found_none e is = Does (λ k. rw (is refl) here)
 
   -- the chain ends there
@@ -234,7 +238,8 @@ module _ {S H : Type 0} (rules : Rules S H) where
     taking = spot_core rules.setting None None link index chain source
 
     -- and what is there is taken
-    pub taken_there : (there : Spot) (v : Dynamic H) → spot_of rules.setting false link old.local.around.cells source index ≡ Ok (source, there) →
+    pub taken_there : (there : Spot) (v : Dynamic H) → spot_of rules.setting false link old.local.around.cells source index ≡ Ok
+        (source, there) →
         v ≡ taken_at source there → FollowsFrom rules taking old (Ok (v, false)) old
     unfolding RunsFrom
     taken_there there v is taken = Does (λ k. rw (is, taken) here)
@@ -243,7 +248,7 @@ module _ {S H : Type 0} (rules : Rules S H) where
         (is_out_of_memory e ≡ false → spot_of rules.setting false link old.local.around.cells source index ≡ Err e) →
         FollowsFrom rules taking old (Err e) old
     unfolding RunsFrom
-    taken_none (error.ErrorOutOfMemory pos) is = Wants pos refl refl
+    taken_none (error.ErrorOutOfMemory pos) is = FindsNoMemory pos refl refl
     taken_none e is = Does (λ k. rw (is refl) here)
 
   -- ---- a part

@@ -1,4 +1,4 @@
--- What a chain works on behind a handle: its cell is held meanwhile, and gets what has become of its value.
+-- The focus behind a handle: its cell is held meanwhile, and gets what has become of its value.
 use Rattle.std.proofs.Common.{◌≡◌, ℕ, zero, suc, Bool, true, false, List, [], ◌∷◌, Option, Some, None, Result, Ok, Err, refl, sym, ap, ◌∙◌}
 use Rattle.std.specs.Prelude.{⊤, is_some, slice_set, length}
 use Rattle.std.specs.Option.{unwrap_or}
@@ -16,11 +16,11 @@ use Rattle.rhai_machine.specs.language.Setting.{Rules}
 use Rattle.rhai_machine.specs.language.State.{Local, State}
 use Rattle.rhai_machine.specs.language.Values.{Cells, is_handle, through, through_union, used}
 use Rattle.rhai_machine.specs.language.Links.{Link}
-use Rattle.rhai_machine.specs.language.Frames.{Chain, Frame, Core, core, marked, on_value, StepDown}
+use Rattle.rhai_machine.specs.language.Frames.{Chain, Frame, Core, core, ended_or_changed, on_value, StepDown}
 use Rattle.rhai_machine.specs.language.Handles.{entered, entered_by}
 use Rattle.rhai_machine.specs.language.Runs.{at, with_core, Goes}
-use Rattle.rhai_steps.specs.Marked.{RunsFrom}
-use Rattle.rhai_chains.specs.Chains.{FollowsFrom, Does, Wants}
+use Rattle.rhai_steps.specs.OnFocus.{RunsFrom}
+use Rattle.rhai_chains.specs.Chains.{FollowsFrom, Does, FindsNoMemory}
 use Rattle.rhai_walk.specs.Walking.{entered_core, Enters, inside_core, Leaves}
 use Rattle.rhai_chains.proofs.Alike.{follows_alike}
 
@@ -45,7 +45,8 @@ module _ {H : Type 0} where
   entered_handle (Some (id, handle)) focus inner cells taken e = sym (ap (λ (u : Union H). is_handle u) e.0)
 
   -- what is no handle is seen as it is
-  pub seen_itself : (cells : Cells H) (u : Union H) (v : Dynamic H) (at : Position) → is_handle u ≡ false → through_union cells u v at ≡ Ok v
+  pub seen_itself : (cells : Cells H) (u : Union H) (v : Dynamic H) (at : Position) → is_handle u ≡ false →
+      through_union cells u v at ≡ Ok v
   seen_itself cells (value.Cell id) v at plain = cc
   seen_itself cells _ v at plain = refl
 
@@ -59,8 +60,8 @@ module _ {S H : Type 0} (rules : Rules S H) where
   -- a result comes up out of a cell, whose value goes back
   up_from_cell : (r : Result (Dynamic H × Bool) (EvalAltResult H)) (focus worked : Dynamic H) (n : ℕ) (left : Cells H) (new : State S H)
       (k : List (Frame H)) →
-      Goes rules (at (marked r) (StepDown focus (ToCell n) ∷ k) (standing worked left new))
-      (at (marked r) k (standing focus (with_value left n worked) new))
+      Goes rules (at (ended_or_changed r) (StepDown focus (ToCell n) ∷ k) (standing worked left new))
+      (at (ended_or_changed r) k (standing focus (with_value left n worked) new))
   unfolding after
   up_from_cell (Ok (v, true)) focus worked n left new k = next here
   up_from_cell (Ok (v, false)) focus worked n left new k = next here
@@ -98,7 +99,7 @@ module _ {S H : Type 0} (rules : Rules S H) where
     runs_inside focus inner worked id cells left handle there (Does runs) = Does (λ k.
         rw (starts_inside focus inner id cells k handle there)
         (runs (StepDown focus (ToCell id.number) ∷ k) ⨾ up_from_cell r focus worked id.number left new k))
-    runs_inside focus inner worked id cells left handle there (Wants pos is stays) = Wants pos is
+    runs_inside focus inner worked id cells left handle there (FindsNoMemory pos is stays) = FindsNoMemory pos is
         (ap (λ (s : State S H). standing focus (with_value s.local.around.cells id.number (unwrap_or s.local.focus focus)) s) stays
         ∙ ap (λ (all : Cells H). standing focus all old) (as_they_were cells id.number inner there))
 
@@ -108,7 +109,8 @@ module _ {S H : Type 0} (rules : Rules S H) where
         FollowsFrom rules (inside focus inner) (standing inner taken old) r (standing worked left new) → Leaves above worked end left put →
         FollowsFrom rules (entered_core rules.setting link chain) (standing focus cells old) r (standing end put new)
     enters None focus inner worked end cells taken left put e follows l = rw (l.0, l.1)
-        (follows_alike rules (inside focus focus) (entered_core rules.setting link chain) (standing focus cells old) (standing worked left new) r
+        (follows_alike rules (inside focus focus) (entered_core rules.setting link chain) (standing focus cells old) (standing
+        worked left new) r
         (λ k. starts_itself focus cells k e.0) (rw (e.1.0, e.1.1) at follows))
     enters (Some (id, handle)) focus inner worked end cells taken left put e follows l = rw (l.0, l.1, e.1.0)
         (runs_inside focus inner worked id cells left e.0 e.1.1.0 (rw e.1.1.1 at follows))

@@ -17,8 +17,8 @@ use Rattle.rhai_machine.specs.language.Frames.{Chain, NewValue, Property, Item, 
 use Rattle.rhai_machine.specs.language.Located.{args_behind, is_indexed, is_map}
 use Rattle.rhai_machine.specs.language.Members.{get_core}
 use Rattle.rhai_machine.specs.language.Chains.{after_method, indexed_core, method_of, is_property, kept_access, member_core, spot_core}
-use Rattle.rhai_steps.specs.Marked.{RunsFrom}
-use Rattle.rhai_chains.specs.Chains.{FollowsFrom, Does, Wants}
+use Rattle.rhai_steps.specs.OnFocus.{RunsFrom}
+use Rattle.rhai_chains.specs.Chains.{FollowsFrom, Does, FindsNoMemory}
 use Rattle.rhai_walk.specs.Walking.{inside_by, inside_core}
 use Rattle.rhai_chains.proofs.Alike.{begins_alike, follows_alike}
 use Rattle.rhai_walk.proofs.Descending.{map_indexed}
@@ -30,17 +30,17 @@ given_is {H = H} v wanted answers =
     let same : ◌≡◌ {A = Result (Dynamic H) (EvalAltResult H)} (Ok v) (Ok wanted) = answers tt in cc
 
 module _ {S H : Type 0} (rules : Rules S H) where
-  -- memory is wanting for what is given without fail
-  pub wants_first : (start : List (Frame H) → Local H → Core H) (s : State S H) (e : EvalAltResult H) (v : Dynamic H) →
+  -- memory runs out for what is given without fail
+  pub first_runs_out : (start : List (Frame H) → Local H → Core H) (s : State S H) (e : EvalAltResult H) (v : Dynamic H) →
       Answers (Err e) (Ok v) → FollowsFrom rules start s (Err e) s
-  wants_first start s (error.ErrorOutOfMemory pos) v answers = Wants pos refl refl
-  wants_first start s e v answers = let never : ◌≡◌ {A = Result (Dynamic H) (EvalAltResult H)} (Err e) (Ok v) = answers refl in cc
+  first_runs_out start s (error.ErrorOutOfMemory pos) v answers = FindsNoMemory pos refl refl
+  first_runs_out start s e v answers = let never : ◌≡◌ {A = Result (Dynamic H) (EvalAltResult H)} (Err e) (Ok v) = answers refl in cc
 
-  -- or for what may fail for want of it alone
-  pub wants_alone : (start : List (Frame H) → Local H → Core H) (s : State S H) (e : EvalAltResult H) → is_out_of_memory e ≡ true →
+  -- or for what fails only where memory runs out
+  pub fails_for_memory_alone : (start : List (Frame H) → Local H → Core H) (s : State S H) (e : EvalAltResult H) → is_out_of_memory e ≡ true →
       FollowsFrom rules start s (Err e) s
-  wants_alone start s (error.ErrorOutOfMemory pos) is = Wants pos refl refl
-  wants_alone start s e is = cc
+  fails_for_memory_alone start s (error.ErrorOutOfMemory pos) is = FindsNoMemory pos refl refl
+  fails_for_memory_alone start s e is = cc
 
   -- what a link does with a spot, by what stands behind the link
   pub spot_by : (behind rest : Option ExprLayer) (assigned : Option (NewValue H)) (link : Link) (index source : Dynamic H) (chain : Chain H)
@@ -51,7 +51,8 @@ module _ {S H : Type 0} (rules : Rules S H) where
       subst (λ (o : Option ExprLayer). FollowsFrom rules (spot_core rules.setting o assigned link index chain source) old r new) (sym is)
       follows
 
-  module _ (link : Link) (chain : Chain H) (source : Dynamic H) (old new : State S H) (r : Result (Dynamic H × Bool) (EvalAltResult H)) where
+  module _ (link : Link) (chain : Chain H) (source : Dynamic H) (old new : State S H) (r : Result (Dynamic H × Bool)
+      (EvalAltResult H)) where
     -- an item, or an entry, that stands in the value
     abbrev spot_follows : (index : Dynamic H) → Type 0
     spot_follows index =
@@ -106,7 +107,8 @@ module _ {S H : Type 0} (rules : Rules S H) where
       named_inside of follows = follows_alike rules
           (inside_by rules.setting (AtProperty name pos) (is_map (layer_of source)) was_handle link source chain)
           (inside_core rules.setting link was_handle source chain) old new r
-          (λ k. ap (λ (form : LinkForm). inside_by rules.setting form (is_map (layer_of source)) was_handle link source chain k old.local) of)
+          (λ k. ap (λ (form : LinkForm). inside_by rules.setting form (is_map (layer_of source)) was_handle link source chain
+          k old.local) of)
           follows
 
       -- of a map it is an entry, and of any other value a member

@@ -10,21 +10,22 @@ use Rattle.rhai_state.specs.declared.error.EvalAltResult.{EvalAltResult}
 use Rattle.rhai_state.specs.declared.error.EvalAltResult.TheVariants as error
 use Rattle.rhai_state.specs.Errors.{is_out_of_memory}
 use Rattle.rhai_machine.specs.machine.Point.{after}
-use Rattle.rhai_machine.specs.machine.Memory.{here, next, wanting, ◌⨾◌}
+use Rattle.rhai_machine.specs.machine.Memory.{here, next, out_before_step, ◌⨾◌}
 use Rattle.rhai_machine.specs.language.Setting.{Rules}
 use Rattle.rhai_machine.specs.language.State.{Local, State}
 use Rattle.rhai_machine.specs.language.Values.{unit_value}
 use Rattle.rhai_places.specs.declared.spot.Spot.{Spot}
 use Rattle.rhai_machine.specs.language.Links.{Link, LinkForm, first_position}
-use Rattle.rhai_machine.specs.language.Frames.{Chain, MemberAccess, Frame, Core, core, marked, Walk, Back, Temporary, MethodLink, MemberLink}
+use Rattle.rhai_machine.specs.language.Frames.{Chain, MemberAccess, Frame, Core, core, ended_or_changed, Walk, Back, Temporary, MethodLink}
+use Rattle.rhai_machine.specs.language.Frames.{MemberLink}
 use Rattle.rhai_machine.specs.language.Frames.{MemberSet, PartMethod}
 use Rattle.rhai_machine.specs.language.Located.{args_behind}
 use Rattle.rhai_machine.specs.language.Members.{focused_on, get_core, set_core}
 use Rattle.rhai_machine.specs.language.Methods.{Method, method_core}
 use Rattle.rhai_machine.specs.language.Chains.{after_method, method_of}
 use Rattle.rhai_machine.specs.language.Runs.{at, with_core, Goes}
-use Rattle.rhai_steps.specs.Marked.{RunsFrom}
-use Rattle.rhai_chains.specs.Chains.{FollowsFrom, Does, Wants, WalkRuns}
+use Rattle.rhai_steps.specs.OnFocus.{RunsFrom}
+use Rattle.rhai_chains.specs.Chains.{FollowsFrom, Does, FindsNoMemory, WalkRuns}
 use Rattle.rhai_walk.specs.Walking.{behind_value}
 use Rattle.rhai_chains.proofs.Alike.{begins_alike}
 
@@ -36,7 +37,7 @@ module _ {S H : Type 0} where
 module _ {S H : Type 0} (rules : Rules S H) where
   -- a result comes up out of a temporary that has no way back
   up_from : (r : Result (Dynamic H × Bool) (EvalAltResult H)) (above : Option (Dynamic H)) (w : Dynamic H) (k : List (Frame H))
-      (s : State S H) → Goes rules (at (marked r) (Temporary above None ∷ k) (working (Some w) s)) (at (marked r) k (working above s))
+      (s : State S H) → Goes rules (at (ended_or_changed r) (Temporary above None ∷ k) (working (Some w) s)) (at (ended_or_changed r) k (working above s))
   unfolding after
   up_from (Ok (v, true)) above w k s = next here
   up_from (Ok (v, false)) above w k s = next here
@@ -56,7 +57,7 @@ module _ {S H : Type 0} (rules : Rules S H) where
   module _ (chain : Chain H) (s : State S H) where
     -- where nothing is behind it its answer is the answer
     pub nothing_behind : (behind : Option ExprLayer) (r : Result (Dynamic H × Bool) (EvalAltResult H)) → behind ≡ None →
-        RunsFrom rules (λ k l. core (marked r) (behind_value behind chain k) l) s r s
+        RunsFrom rules (λ k l. core (ended_or_changed r) (behind_value behind chain k) l) s r s
     unfolding RunsFrom
     nothing_behind behind r none k = rw none here
 
@@ -64,14 +65,14 @@ module _ {S H : Type 0} (rules : Rules S H) where
     pub goes_behind : (behind : Option ExprLayer) (rest : ExprLayer) (v : Dynamic H) (changed : Bool)
         (r : Result (Dynamic H × Bool) (EvalAltResult H)) (new : State S H) → behind ≡ Some rest →
         RunsFrom rules (λ k l. core (Walk (record chain { rest = rest })) (Temporary l.focus None ∷ k) (focused_on (Some v) l)) s r new →
-        RunsFrom rules (λ k l. core (marked (Ok (v, changed))) (behind_value behind chain k) l) s r new
+        RunsFrom rules (λ k l. core (ended_or_changed (Ok (v, changed))) (behind_value behind chain k) l) s r new
     unfolding RunsFrom after
     goes_behind behind rest v true r new some runs k = rw some (next (next (runs k)))
     goes_behind behind rest v false r new some runs k = rw some (next (runs k))
 
     -- its error is the error
     pub fails_behind : (behind : Option ExprLayer) (e : EvalAltResult H) →
-        RunsFrom rules (λ k l. core (marked (Err e)) (behind_value behind chain k) l) s (Err e) s
+        RunsFrom rules (λ k l. core (ended_or_changed (Err e)) (behind_value behind chain k) l) s (Err e) s
     unfolding RunsFrom after
     fails_behind None e k = here
     fails_behind (Some rest) e k = next here
@@ -89,7 +90,7 @@ module _ {S H : Type 0} (rules : Rules S H) where
       (old mid new : State S H) (answer r : Result (Dynamic H × Bool) (EvalAltResult H)) →
       args_behind link.form chain.args ≡ args → RunsFrom rules start old answer mid →
       RunsFrom rules
-      (λ k l. core (marked answer) (behind_value link.behind (record chain { args = args; in_place = false }) k) l) mid r new →
+      (λ k l. core (ended_or_changed answer) (behind_value link.behind (record chain { args = args; in_place = false }) k) l) mid r new →
       RunsFrom rules (λ k. start (after_method link.behind link chain k)) old r new
   unfolding RunsFrom
   method_goes start link chain args old mid new answer r left calls goes k = rw (after_is link.behind link chain args k left)
@@ -113,8 +114,10 @@ module _ {S H : Type 0} (rules : Rules S H) where
 
     -- and on a part
     pub called_on_part : (source : Dynamic H) (there : Spot) →
-        RunsFrom rules (λ k l. method_core rules.setting method given v (PartMethod source there pos ∷ k) (focused_on (Some v) l)) old r new →
-        RunsFrom rules (λ k l. method_of rules.setting name asked pos was_handle chain (PartMethod source there pos ∷ k) (focused_on (Some v) l)) old r new
+        RunsFrom rules (λ k l. method_core rules.setting method given v (PartMethod source there pos ∷ k)
+        (focused_on (Some v) l)) old r new →
+        RunsFrom rules (λ k l. method_of rules.setting name asked pos was_handle chain (PartMethod source there pos ∷ k) (focused_on
+        (Some v) l)) old r new
     called_on_part source there runs = begins_alike rules
         (λ k l. method_core rules.setting method given v (PartMethod source there pos ∷ k) (focused_on (Some v) l))
         (λ k l. method_of rules.setting name asked pos was_handle chain (PartMethod source there pos ∷ k) (focused_on (Some v) l)) old new r
@@ -127,23 +130,23 @@ module _ {S H : Type 0} (rules : Rules S H) where
   pub goes_back : (chain : Chain H) (above : Option (Dynamic H)) (back : Option (MemberAccess H)) (v w : Dynamic H)
       (old mid new : State S H) (answer r : Result (Dynamic H × Bool) (EvalAltResult H)) →
       WalkRuns rules chain (working (Some v) old) answer (working (Some w) mid) →
-      RunsFrom rules (λ k l. core (marked answer) (Temporary above back ∷ k) (focused_on (Some w) l)) mid r new →
+      RunsFrom rules (λ k l. core (ended_or_changed answer) (Temporary above back ∷ k) (focused_on (Some w) l)) mid r new →
       RunsFrom rules (λ k l. core (Walk chain) (Temporary above back ∷ k) (focused_on (Some v) l)) old r new
   unfolding RunsFrom
   goes_back chain above back v w old mid new answer r walks comes k = walks (Temporary above back ∷ k) ⨾ comes k
 
   -- memory runs out before the walk goes on
-  pub wants_back : (chain : Chain H) (back : Option (MemberAccess H)) (v above : Dynamic H) (s : State S H) (e : EvalAltResult H) →
+  pub back_runs_out : (chain : Chain H) (back : Option (MemberAccess H)) (v above : Dynamic H) (s : State S H) (e : EvalAltResult H) →
       is_out_of_memory e ≡ true → s ≡ working (Some above) s →
       RunsFrom rules (λ k l. core (Walk chain) (Temporary (Some above) back ∷ k) (focused_on (Some v) l)) s (Err e) s
   unfolding RunsFrom after
-  wants_back chain back v above s (error.ErrorOutOfMemory pos) wants stands k =
-      wanting {at = pos} (next (rw stands here))
-  wants_back chain back v above s e wants stands k = cc
+  back_runs_out chain back v above s (error.ErrorOutOfMemory pos) is_out stands k =
+      out_before_step {at = pos} (next (rw stands here))
+  back_runs_out chain back v above s e is_out stands k = cc
 
   module _ (above w : Dynamic H) (s : State S H) where
     abbrev from_temporary : Option (MemberAccess H) → Result (Dynamic H × Bool) (EvalAltResult H) → List (Frame H) → Local H → Core H
-    from_temporary back r k l = core (marked r) (Temporary (Some above) back ∷ k) (focused_on (Some w) l)
+    from_temporary back r k l = core (ended_or_changed r) (Temporary (Some above) back ∷ k) (focused_on (Some w) l)
 
     -- it has none
     pub no_way_back : (back : Option (MemberAccess H)) (r : Result (Dynamic H × Bool) (EvalAltResult H)) → back ≡ None →
@@ -152,10 +155,10 @@ module _ {S H : Type 0} (rules : Rules S H) where
     no_way_back back r none k = rw none (up_from r (Some above) w k s)
 
     -- it was not changed
-    pub comes_unmarked : (back : Option (MemberAccess H)) (v : Dynamic H) →
+    pub comes_unchanged : (back : Option (MemberAccess H)) (v : Dynamic H) →
         RunsFrom rules (from_temporary back (Ok (v, false))) s (Ok (v, false)) (working (Some above) s)
     unfolding RunsFrom after
-    comes_unmarked back v k = next here
+    comes_unchanged back v k = next here
 
     -- or the walk failed
     pub comes_failed : (back : Option (MemberAccess H)) (e : EvalAltResult H) →
@@ -201,4 +204,4 @@ module _ {S H : Type 0} (rules : Rules S H) where
       FollowsFrom rules (λ k. get_core access (MemberLink kept chain ∷ k)) old (Err e) new
   unfolding RunsFrom after
   got_fails access kept chain old new e (Does gets) = Does (λ k. gets (MemberLink kept chain ∷ k) ⨾ next here)
-  got_fails access kept chain old new e (Wants pos is stays) = Wants pos is stays
+  got_fails access kept chain old new e (FindsNoMemory pos is stays) = FindsNoMemory pos is stays

@@ -9,7 +9,7 @@ use Rattle.rhai_machine.specs.language.State.{State}
 use Rattle.rhai_machine.specs.language.Frames.{PartMethod}
 use Rattle.rhai_machine.specs.language.Members.{focused_on}
 use Rattle.rhai_machine.specs.language.Methods.{Method, method_core}
-use Rattle.rhai_steps.specs.Marked.{RunsFrom}
+use Rattle.rhai_steps.specs.OnFocus.{RunsFrom}
 use Rattle.rhai_methods.specs.Methods.{CallsFrom}
 use Rattle.rhai_methods.specs.Targets.{ComesBack}
 use Rattle.rhai_methods.proofs.TargetLemmas.{part_goes}

@@ -11,7 +11,7 @@ use Rattle.rhai_machine.specs.language.Links.{Link, LinkForm, AtIndex, AtPropert
 use Rattle.rhai_machine.specs.language.Located.{args_behind, index_by}
 use Rattle.rhai_chains.specs.declared.chain.NewValue.{NewValue as CodeValue}
 use Rattle.rhai_chains.specs.Chains.{new_of, BehindWalks, Walks}
-use Rattle.rhai_walk.specs.Walking.{LinkWalks, MayEnd}
+use Rattle.rhai_walk.specs.Walking.{LinkWalks, MayEndAt}
 use Rattle.rhai_chains.proofs.LinkLemmas.{walks_behind}
 
 -- all arguments but the first
@@ -55,7 +55,7 @@ module _ {H : Type 0} where
   ends_by None (Some new) ends = ends refl
 
   pub may_end : (form : LinkForm) (behind : Option ExprLayer) (new : Option (CodeValue H)) (count : ℕ) →
-      BehindWalks (is_some new) form behind count → MayEnd form (is_some behind || is_none (new_of new))
+      BehindWalks (is_some new) form behind count → MayEndAt form (is_some behind || is_none (new_of new))
   may_end (AtMethod name args pos) behind new count walks =
       ends_by behind new (ends_well (is_some new) (AtMethod name args pos) behind count name args pos refl walks)
   may_end (AtIndex index) behind new count walks = tt

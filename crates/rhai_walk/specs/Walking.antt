@@ -26,7 +26,7 @@ use Rattle.rhai_machine.specs.language.Located.{index_by, is_indexed, is_map, is
 use Rattle.rhai_machine.specs.language.Members.{focus_of, get_core}
 use Rattle.rhai_machine.specs.language.Chains.{after_method, entered, indexed_core, kept_access, member_core, method_of}
 use Rattle.rhai_machine.specs.language.Runs.{at, with_core, Goes}
-use Rattle.rhai_steps.specs.Marked.{RunsFrom}
+use Rattle.rhai_steps.specs.OnFocus.{RunsFrom}
 use Rattle.rhai_chains.specs.Chains.{form_seen, link_seen, BehindWalks, FollowsFrom, WalkRuns}
 use Rattle.rhai_chains.specs.Members.{access_of}
 use Rattle.rhai_chains.specs.Spots.{way_through}
@@ -65,9 +65,9 @@ IsDescent (descent.Part at) spot.Missing = ⊥
 IsDescent (descent.Part at) there = at ≡ there
 
 -- a chain that is assigned to does not end in a method
-abbrev pub MayEnd : LinkForm → (holds : Bool) → Type 0
-MayEnd (AtMethod name args at) holds = holds ≡ true
-MayEnd _ holds = ⊤
+abbrev pub MayEndAt : LinkForm → (holds : Bool) → Type 0
+MayEndAt (AtMethod name args at) holds = holds ≡ true
+MayEndAt _ holds = ⊤
 
 -- an index or a property
 abbrev pub IsLocated : LinkForm → Type 0
@@ -172,9 +172,9 @@ module _ {H : Type 0} where
   module _ {S : Type 0} (rules : Rules S H) (link : Link) (chain : Chain H) (old new : State S H) where
     -- the machine comes to where the focus is entered, unless it is assigned to in a method, and memory may run out there
     pub record Comes : Type 0 where
-      pub comes : MayEnd link.form (is_some link.behind || is_none chain.new) → (k : List (Frame H)) →
+      pub comes : MayEndAt link.form (is_some link.behind || is_none chain.new) → (k : List (Frame H)) →
           Goes rules (at (Walk chain) k old) (with_core (entered_core rules.setting link chain k new.local) new)
-      pub starves : (pos : Position) (k : List (Frame H)) →
+      pub may_run_out : (pos : Position) (k : List (Frame H)) →
           Goes rules (at (Walk chain) k old) (at (Fail (error.ErrorOutOfMemory pos)) k new)
 
   -- the walk has ended, or the machine comes to the link
@@ -201,6 +201,7 @@ module _ {H : Type 0} where
   IsSpotBelow (Ok there) wanted source = (wanted ≡ Ok (source, there)) × IsThere (layer_of source) there
   IsSpotBelow (Err e) wanted source = is_out_of_memory e ≡ false → wanted ≡ Err e
 
+  -- the walk goes on at a spot that is found in the value as it was, or the error is the one that is wanted
   abbrev pub FindsDown : Result Descent (EvalAltResult H) → (wanted : Result (Dynamic H × Spot) (EvalAltResult H)) →
       (source : Dynamic H) → Type 0
   FindsDown (Ok to) wanted source = (there : Spot) × ((wanted ≡ Ok (source, there)) × IsDescentOf to there (layer_of source))
@@ -212,7 +213,7 @@ module _ {H : Type 0} where
   TakesBelow (Ok v) wanted source = (there : Spot) × ((wanted ≡ Ok (source, there)) × (v ≡ taken_at source there))
   TakesBelow (Err e) wanted source = is_out_of_memory e ≡ false → wanted ≡ Err e
 
-  -- a member was got, and how it is set again is kept; or the machine comes to the error, or memory was wanting before
+  -- a member was got, and how it is set again is kept; or the machine comes to the error, or memory ran out before
   abbrev pub GetsKept : {S : Type 0} → Rules S H → MemberAccess H → State S H →
       Result (Dynamic H × CodeAccess H) (EvalAltResult H) → State S H → Type 0
   GetsKept rules access old (Ok (v, kept)) new =

@@ -1,5 +1,5 @@
-//! What stands around the call of a method in a walk: where its first argument stands, and how the part that it
-//! was called on goes back.
+//! What stands around the call of a method in a walk: where its first argument stands, and how the part that
+//! it was called on goes back.
 
 ghost use Rattle.std.specs.Prelude.{◌≡◌, None, IfSome, true};
 ghost use Rattle.rhai_values.specs.Layers.{layer_of};
@@ -7,7 +7,7 @@ ghost use Rattle.rhai_places.specs.Parts.{IsPart, part_of};
 ghost use Rattle.rhai_state.specs.Errors.{is_out_of_memory};
 ghost use Rattle.rhai_machine.specs.language.Links.{first_position as first_position_in};
 ghost use Rattle.rhai_methods.specs.Targets.{ComesBack};
-ghost use Rattle.rhai_context.specs.Ends.{came_marked, error_in};
+ghost use Rattle.rhai_context.specs.Ends.{came_changed, error_in};
 ghost use Rattle.rhai_places.specs.declared.target.Part.TheVariants as part;
 
 use rhai_context::ends::fail;
@@ -20,7 +20,7 @@ use rhai_tree::position::Position;
 use rhai_values::base::value::{Dynamic, Host};
 use std::alloc::Global;
 
-/// Where the first of some arguments stands.
+/// Tells at which position the first of some arguments stands.
 pub fn first_position(args: &[Expr]) -> Option<Position>
     ensures { result ≡ first_position_in args.now }
 {
@@ -30,8 +30,8 @@ pub fn first_position(args: &[Expr]) -> Option<Position>
     }
 }
 
-/// The answer of a method on a part, which goes back into its place where the answer is marked. Its value stays where
-/// it is.
+/// Puts a part back into its place where the answer of a method on it tells of a change. The value of the
+/// answer stays where it is.
 pub fn put_back<H: Host>(
     alloc: Global,
     out: &Dynamic<H>,
@@ -43,8 +43,8 @@ pub fn put_back<H: Host>(
     pos: Position,
 ) -> Option<bool>
     requires { IsPart (layer_of source.old) at }
-    ensures { ComesBack H.name_of (part.Of at left.now) source.old pos (came_marked mark out.now place.old)
-        (came_marked result out.now place.new) source.new }
+    ensures { ComesBack H.name_of (part.Of at left.now) source.old pos (came_changed mark out.now place.old)
+        (came_changed result out.now place.new) source.new }
 {
     match mark {
         Some(true) => match put_part(alloc, source, at, left, pos) {
@@ -56,8 +56,8 @@ pub fn put_back<H: Host>(
     }
 }
 
-/// A part of a value, for a link behind it.
-pub fn part_for<H: Host>(
+/// Reads a part of a value, for a link behind it.
+pub fn read_part_for<H: Host>(
     alloc: Global,
     place: &mut Option<EvalAltResult<H>>,
     source: &Dynamic<H>,

@@ -5,11 +5,11 @@ ghost use Rattle.rhai_machine.specs.language.Chains.{member_core, spot_core};
 ghost use Rattle.rhai_machine.specs.language.Setting.{rules_of};
 ghost use Rattle.rhai_steps.specs.Agreement.{KeepsSight};
 ghost use Rattle.rhai_steps.specs.States.{state_of};
-ghost use Rattle.rhai_steps.specs.Marked.{lending, RunsFrom};
+ghost use Rattle.rhai_steps.specs.OnFocus.{lending, RunsFrom};
 ghost use Rattle.rhai_chains.specs.Chains.{chain_at, FollowsFrom, HasSwitches, link_seen};
 ghost use Rattle.rhai_chains.specs.Chains.{new_of};
 ghost use Rattle.rhai_chains.specs.Members.{access_of};
-ghost use Rattle.rhai_context.specs.Ends.{came_marked};
+ghost use Rattle.rhai_context.specs.Ends.{came_changed};
 
 use crate::Walker;
 use crate::ways::take_below;
@@ -17,14 +17,14 @@ use rhai_chains::assign::{assign_at, assign_member};
 use rhai_chains::chain::NewValue;
 use rhai_chains::links::Link;
 use rhai_chains::members::{MemberAccess, get_member};
-use rhai_context::ends::{fail, put, settle_marked};
+use rhai_context::ends::{fail, put, settle_changed};
 use rhai_state::error::EvalAltResult;
 use rhai_state::state::GlobalRuntimeState;
 use rhai_state::table::NativeTable;
 use rhai_values::base::value::{Dynamic, Host};
 
-/// The chain ends in what an index or a key leads to, which is taken or assigned to. How it ended goes where it
-/// belongs.
+/// Ends the chain in what an index or a key leads to, which is taken or assigned to. How it ended goes where
+/// it belongs.
 pub fn end_at<H: Host, T: NativeTable<H>>(
     walker: &Walker<'_>,
     global: &mut GlobalRuntimeState<H>,
@@ -44,7 +44,7 @@ pub fn end_at<H: Host, T: NativeTable<H>>(
         FollowsFrom rules (spot_core rules.setting None (new_of new) (link_seen link.entry) index.now
         (chain_at walker.now.root.now rest all new in_place) source.old)
         (state_of (T.state table.old) global.old scope (lending held source.old))
-        (came_marked result out.new place.new)
+        (came_changed result out.new place.new)
         (state_of (T.state table.new) global.new scope (lending held source.new)) }
 {
     match new {
@@ -61,7 +61,7 @@ pub fn end_at<H: Host, T: NativeTable<H>>(
                 walker.root,
                 new,
             );
-            settle_marked(place, out, assigned)
+            settle_changed(place, out, assigned)
         }
         None => match take_below(
             walker.switches,
@@ -80,7 +80,7 @@ pub fn end_at<H: Host, T: NativeTable<H>>(
     }
 }
 
-/// The chain ends in a member, which is got or assigned to. How it ended goes where it belongs.
+/// Ends the chain in a member, which is got or assigned to. How it ended goes where it belongs.
 pub fn end_member<H: Host, T: NativeTable<H>>(
     walker: &Walker<'_>,
     global: &mut GlobalRuntimeState<H>,
@@ -99,7 +99,7 @@ pub fn end_member<H: Host, T: NativeTable<H>>(
         RunsFrom rules (member_core rules.setting None (new_of new) link (access_of access.entry)
         (chain_at walker.now.root.now rest all new in_place))
         (state_of (T.state table.old) global.old scope (lending held focus.old))
-        (came_marked result out.new place.new)
+        (came_changed result out.new place.new)
         (state_of (T.state table.new) global.new scope (lending held focus.new)) }
 {
     let mut access = access;
@@ -117,7 +117,7 @@ pub fn end_member<H: Host, T: NativeTable<H>>(
                 new,
             );
             drop(access);
-            settle_marked(place, out, assigned)
+            settle_changed(place, out, assigned)
         }
         None => {
             let got = get_member(
@@ -129,7 +129,7 @@ pub fn end_member<H: Host, T: NativeTable<H>>(
                 &mut access,
             );
             drop(access);
-            settle_marked(place, out, got)
+            settle_changed(place, out, got)
         }
     }
 }

@@ -1,4 +1,4 @@
-//! A function of a script that runs on what a chain works on: how the focus is entered, lent as its `this`, and left.
+//! A function of a script that runs on the focus: how that is entered, lent as its `this`, and left.
 
 ghost use Rattle.std.specs.Prelude.{◌≡◌, [], None, Some, false, is_some, true};
 ghost use Rattle.rhai_values.specs.Cells.{cells_of};
@@ -23,12 +23,13 @@ use rhai_values::cells::CellStore;
 use std::alloc::Global;
 use std::mem::replace;
 
-/// The focus is entered for a function that is to run on it with these arguments: of a handle the cell's value, and the
-/// cell is held meanwhile. None where it is refused: the error stands in its place, and the focus was left again.
+/// Enters the focus for a function that is to run on it with these arguments. Of a handle it is the cell's
+/// value, and the cell is held meanwhile. None where it is refused: the error is left in `place`, and the
+/// focus was left again.
 ///
 /// # Errors
-/// All at the call: `ErrorDataRace` without a name where the focus is the handle of a cell that is held, and under the
-/// function's name where an argument is, once the focus is entered.
+/// All at the call: `ErrorDataRace` without a name where the focus is the handle of a cell that is held, and
+/// under the function's name where an argument is, once the focus is entered.
 pub fn enter_focus<H: Host>(
     alloc: Global,
     cells: &mut CellStore<H>,
@@ -66,7 +67,8 @@ pub fn enter_focus<H: Host>(
     Some(above)
 }
 
-/// The focus is lent to a function as its `this`, which has no variables yet, and `()` stands there meanwhile.
+/// Lends the focus to a function as its `this`, and leaves `()` there meanwhile. The function has no
+/// variables yet.
 pub fn lend_focus<H: Host>(alloc: Global, run: &mut Context<H>, focus: &mut Dynamic<H>) -> Aside<H>
     ensures aside { result ≡ record { scope = run.old.scope; this = run.old.this } }
     ensures this { run.new.this ≡ Some focus.old }
@@ -77,7 +79,7 @@ pub fn lend_focus<H: Host>(alloc: Global, run: &mut Context<H>, focus: &mut Dyna
     put_aside(alloc, run, Some(this))
 }
 
-/// The `this` that a function leaves goes back into the place that lent it.
+/// Puts the `this` that a function leaves back into the place that lent it.
 pub fn put_this<H: Host>(place: &mut Dynamic<H>, left: Option<Dynamic<H>>)
     ensures { is_some left ≡ true → left ≡ Some place.new }
 {
@@ -87,8 +89,8 @@ pub fn put_this<H: Host>(place: &mut Dynamic<H>, left: Option<Dynamic<H>>)
     }
 }
 
-/// The focus is left: the `this` that its function leaves goes back there, out of a cell where it was entered by one,
-/// and the run has its caller's variables and `this` again.
+/// Leaves the focus. The `this` that its function leaves goes back there, out of a cell where it was entered
+/// by one, and the run has its caller's variables and `this` again.
 pub fn leave_focus<H: Host>(
     run: &mut Context<H>,
     focus: &mut Dynamic<H>,

@@ -1,8 +1,8 @@
-//! What the walk of a chain decides and does at a link, without going on: which way it goes, where an index or a
-//! key leads, how a temporary and a part go back, and how the chain ends. The walk itself stands in the
+//! What the walk of a chain decides and does at a link, without going on: which way it goes, where an index
+//! or a key leads, how a temporary and a part go back, and how the chain ends. The walk itself stands in the
 //! evaluator's cycle, since a method may enter a function of a script. Ports parts of upstream's
-//! `eval_dot_index_chain_raw`. The contracts cite the machine's specs/language/Chains.antt and the crate's own
-//! specs/.
+//! `eval_dot_index_chain_raw`. The contracts cite the machine's specs/language/Chains.antt and the crate's
+//! own specs/.
 #![tactic(auto)]
 
 pub mod calls;

@@ -1,18 +1,18 @@
-//! Temporaries that a walk works on: how they go back to where they came from.
+//! Temporaries that are the focus of a walk: how they go back to where they came from.
 
 ghost use Rattle.std.specs.Prelude.{◌≡◌, ◌≤◌, ◌∷◌, None, Some, true, IfErr, IfOk, IfSome};
 ghost use Rattle.std.specs.Option.{option_map};
 ghost use Rattle.rhai_state.specs.Errors.{is_out_of_memory};
 ghost use Rattle.rhai_machine.specs.language.Chains.{is_property as is_property_in, kept_access, way_back};
-ghost use Rattle.rhai_machine.specs.language.Frames.{core, marked, MemberSet, Temporary};
+ghost use Rattle.rhai_machine.specs.language.Frames.{core, ended_or_changed, MemberSet, Temporary};
 ghost use Rattle.rhai_machine.specs.language.Members.{focused_on, set_core};
 ghost use Rattle.rhai_machine.specs.language.Setting.{rules_of};
 ghost use Rattle.rhai_steps.specs.Agreement.{KeepsSight};
 ghost use Rattle.rhai_steps.specs.States.{state_of};
-ghost use Rattle.rhai_steps.specs.Marked.{lending, RunsFrom};
+ghost use Rattle.rhai_steps.specs.OnFocus.{lending, RunsFrom};
 ghost use Rattle.rhai_chains.specs.Chains.{form_seen, link_seen};
 ghost use Rattle.rhai_chains.specs.Members.{access_of};
-ghost use Rattle.rhai_context.specs.Ends.{came_marked, came_some, error_in};
+ghost use Rattle.rhai_context.specs.Ends.{came_changed, came_some, error_in};
 ghost use Rattle.rhai_walk.specs.Walking.{GetsKept};
 
 use crate::Walker;
@@ -26,9 +26,9 @@ use rhai_steps::values::copy;
 use rhai_values::base::value::{Dynamic, Host};
 use std::alloc::Global;
 
-/// How a temporary goes back that stands for a missing item: of an index by the indexer, of a property not at
-/// all. An error goes into its place.
-pub fn back_of<'e, H: Host>(
+/// Tells how a temporary goes back that stands for a missing item. Of an index it goes back by the indexer,
+/// of a property not at all. An error is left in `place`.
+pub fn access_back<'e, H: Host>(
     alloc: Global,
     place: &mut Option<EvalAltResult<H>>,
     link: Link<'e>,
@@ -56,7 +56,7 @@ pub fn back_of<'e, H: Host>(
     }
 }
 
-/// The same access with a copy of the index.
+/// Copies an access with its index.
 fn keep_access<'e, H: Host>(
     alloc: Global,
     access: &MemberAccess<'e, H>,
@@ -78,7 +78,7 @@ fn keep_access<'e, H: Host>(
     }
 }
 
-/// A member of the focus, and how it is set again. An error goes into its place.
+/// Gets a member of the focus, and keeps how it is set again. An error is left in `place`.
 pub fn get_kept<'e, H: Host, T: NativeTable<H>>(
     walker: &Walker<'_>,
     global: &mut GlobalRuntimeState<H>,
@@ -123,7 +123,7 @@ pub fn get_kept<'e, H: Host, T: NativeTable<H>>(
     }
 }
 
-/// A temporary that may have been changed is set in the value that it came from, where it has a way back. What the
+/// Sets a temporary that may have been changed in the value it came from, where it has a way back. What the
 /// walk came to stays where it is, unless that is refused.
 pub fn come_back<H: Host, T: NativeTable<H>>(
     walker: &Walker<'_>,
@@ -140,10 +140,10 @@ pub fn come_back<H: Host, T: NativeTable<H>>(
     ensures sight { KeepsSight global.old global.new }
     ensures runs { (offer : _) (scope : _) (held : _) →
         RunsFrom (rules_of walker.now.limits.now H.name_of offer T.natives)
-        (λ k l. core (marked (came_marked mark out.now place.old))
+        (λ k l. core (ended_or_changed (came_changed mark out.now place.old))
         (Temporary (Some source.old) (option_map access_of back.entry) ∷ k) (focused_on (Some temporary) l))
         (state_of (T.state table.old) global.old scope (lending held source.old))
-        (came_marked result out.now place.new)
+        (came_changed result out.now place.new)
         (state_of (T.state table.new) global.new scope (lending held source.new)) }
 {
     let Some(access) = back else {
@@ -165,7 +165,7 @@ pub fn come_back<H: Host, T: NativeTable<H>>(
     }
 }
 
-/// A temporary that was changed is set in the value that it came from. The answer is the walk's value.
+/// Sets a temporary that was changed in the value that it came from. The answer is the walk's value.
 fn set_back<H: Host, T: NativeTable<H>>(
     walker: &Walker<'_>,
     global: &mut GlobalRuntimeState<H>,
@@ -182,7 +182,7 @@ fn set_back<H: Host, T: NativeTable<H>>(
         RunsFrom (rules_of walker.now.limits.now H.name_of offer T.natives)
         (λ k. set_core true (access_of access.entry) temporary (MemberSet out.now ∷ k))
         (state_of (T.state table.old) global.old scope (lending held source.old))
-        (came_marked result out.now place.new)
+        (came_changed result out.now place.new)
         (state_of (T.state table.new) global.new scope (lending held source.new)) }
 {
     let mut access = access;
@@ -206,7 +206,7 @@ fn set_back<H: Host, T: NativeTable<H>>(
     }
 }
 
-/// Whether a member is a property.
+/// Tells whether a member is a property.
 pub fn is_property<H: Host>(access: &MemberAccess<'_, H>) -> bool
     ensures { result ≡ is_property_in (access_of access.now).member }
 {

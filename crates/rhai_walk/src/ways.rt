@@ -16,7 +16,7 @@ ghost use Rattle.rhai_machine.specs.language.State.{Answers};
 ghost use Rattle.rhai_machine.specs.language.Values.{through, used};
 ghost use Rattle.rhai_steps.specs.Agreement.{KeepsSight};
 ghost use Rattle.rhai_steps.specs.States.{state_of};
-ghost use Rattle.rhai_steps.specs.Marked.{lending};
+ghost use Rattle.rhai_steps.specs.OnFocus.{lending};
 ghost use Rattle.rhai_chains.specs.Chains.{form_seen, link_seen};
 ghost use Rattle.rhai_context.specs.Ends.{came_some};
 ghost use Rattle.rhai_walk.specs.Walking.{Begins, Enters, FindsDown, FitsLink, IsDescent};
@@ -25,7 +25,7 @@ ghost use Rattle.rhai_walk.specs.Walking.{TakesBelow, WayBy, way_below};
 
 use rhai_chains::chain::Switches;
 use rhai_chains::links::{Link, LinkForm, link_of};
-use rhai_chains::spots::{find_spot, take_spot, way_by};
+use rhai_chains::spots::{access_for, find_spot, take_spot};
 use rhai_context::ends::stop;
 use rhai_places::spot::Spot;
 use rhai_state::error::EvalAltResult;
@@ -56,7 +56,7 @@ pub enum Way {
     Enters,
 }
 
-/// A value, seen through a handle. None where the handle's cell is held.
+/// Looks at a value through a handle. None where the handle's cell is held.
 fn seen<'a, H: Host>(cells: &'a CellStore<H>, value: &'a Dynamic<H>) -> Option<&'a Dynamic<H>>
     ensures { (pos : _) → used [] pos (option_copied result) ≡ through (cells_of cells.now) value.now pos }
 {
@@ -66,14 +66,14 @@ fn seen<'a, H: Host>(cells: &'a CellStore<H>, value: &'a Dynamic<H>) -> Option<&
     }
 }
 
-/// Whether a value is a map.
+/// Tells whether a value is a map.
 pub fn is_map<H: Host>(value: &Dynamic<H>) -> bool
     ensures { result ≡ is_map_in (layer_of value.now) }
 {
     matches!(&value.value, Union::Map(_))
 }
 
-/// Whether a value has places or parts of its own.
+/// Tells whether a value has places or parts of its own.
 pub fn is_indexed<H: Host>(value: &Dynamic<H>) -> bool
     ensures { result ≡ is_indexed_in (layer_of value.now) }
 {
@@ -83,14 +83,14 @@ pub fn is_indexed<H: Host>(value: &Dynamic<H>) -> bool
     }
 }
 
-/// Whether a value is `()`.
+/// Tells whether a value is `()`.
 fn is_unit<H: Host>(value: &Dynamic<H>) -> bool
     ensures { result ≡ is_unit_in value.now.value }
 {
     matches!(&value.value, Union::Unit)
 }
 
-/// Which way the walk goes by the form of a link, on a value that is seen through a handle.
+/// Tells which way the walk goes by the form of a link. The focus is seen through a handle.
 fn way_at<H: Host>(form: LinkForm<'_>, inner: &Dynamic<H>) -> Way
     ensures { WayBy result (form_seen form.entry) (layer_of inner.now) }
 {
@@ -107,14 +107,14 @@ fn way_at<H: Host>(form: LinkForm<'_>, inner: &Dynamic<H>) -> Way
     }
 }
 
-/// Whether the chain stops there at `()`.
+/// Tells whether the chain stops there at `()`.
 fn stops_there<H: Host>(link: Link<'_>, inner: &Dynamic<H>) -> bool
     ensures { result ≡ (link.entry.stops_at_unit && is_unit_in inner.now.value) }
 {
     link.stops_at_unit && is_unit(inner)
 }
 
-/// Which way the walk goes at a link.
+/// Tells which way the walk goes at a link.
 fn way_of<H: Host>(cells: &CellStore<H>, focus: &Dynamic<H>, link: Link<'_>) -> Way
     ensures { IsWay result (link_seen link.entry) (cells_of cells.now) focus.now }
 {
@@ -144,7 +144,7 @@ pub enum Begun<H> {
     Enters,
 }
 
-/// The beginning of the walk at a link: the focus is looked at, and the charge is made.
+/// Begins the walk at a link: the focus is looked at, and the charge is made.
 ///
 /// # Errors
 /// At the operator `ErrorDataRace` for the handle of a cell that is held; and a charge's.
@@ -176,8 +176,8 @@ pub fn begin_link<H: Host, T: NativeTable<H>>(
     }
 }
 
-/// Where the focus is a handle, its cell's value is taken from there to be worked on, and the cell is held
-/// meanwhile. The answer keeps the handle.
+/// Enters the focus where it is a handle: its cell's value is taken from there to be worked on. The cell is
+/// held meanwhile. The answer keeps the handle.
 pub fn step_in<H: Host>(
     cells: &mut CellStore<H>,
     focus: &mut Dynamic<H>,
@@ -193,7 +193,7 @@ pub fn step_in<H: Host>(
     Some((id, replace(focus, inner)))
 }
 
-/// Whether what is worked on was a handle.
+/// Tells whether the focus was a handle.
 pub fn was_handle<H: Host>(above: &Option<(CellId, Dynamic<H>)>) -> bool
     ensures { result ≡ is_some above.now }
 {
@@ -212,7 +212,7 @@ fn put_in_cell<H: Host>(cells: &mut CellStore<H>, id: CellId, value: Dynamic<H>)
     }
 }
 
-/// What has become of the cell's value goes back there, and the handle to its place.
+/// Puts what has become of the cell's value back there, and makes the focus the handle again.
 pub fn step_out<H: Host>(
     cells: &mut CellStore<H>,
     focus: &mut Dynamic<H>,
@@ -231,13 +231,13 @@ pub fn step_out<H: Host>(
 pub enum Descent {
     /// On a place in it.
     Place(Spot),
-    /// On a temporary, in the place of a key that is missing.
+    /// On a temporary, for a key that is missing.
     Missing,
     /// On a part of it.
     Part(Spot),
 }
 
-/// The first link of a chain where that is a method.
+/// Finds the first link of a chain where that is a method.
 pub fn method_in(rest: &Expr) -> Option<MethodIn<'_>>
     ensures { IsMethodIn result (link_in (out-Expr rest.now)) }
 {
@@ -248,7 +248,7 @@ pub fn method_in(rest: &Expr) -> Option<MethodIn<'_>>
     }
 }
 
-/// Where the walk goes on at a spot.
+/// Tells where the walk goes on at a spot.
 fn descent_to(spot: Spot) -> Descent
     ensures { IsDescent result spot }
 {
@@ -259,7 +259,7 @@ fn descent_to(spot: Spot) -> Descent
     }
 }
 
-/// The spot that an index or a key leads to, where no key is inserted.
+/// Finds the spot that an index or a key leads to, where no key is inserted.
 pub fn spot_below<H: Host>(
     switches: Switches,
     alloc: Global,
@@ -272,11 +272,11 @@ pub fn spot_below<H: Host>(
     ensures finds { IsSpotBelow result (found (way_below link.entry switches) H.name_of (cells_of cells.now)
         source.old index.now) source.old }
 {
-    let how = way_by(link, false, switches);
+    let how = access_for(link, false, switches);
     find_spot(alloc, cells, source, index, how)
 }
 
-/// Where the walk goes on below a value, by an index or a key. An error goes into its place.
+/// Finds where the walk goes on below a value, by an index or a key. An error is left in `place`.
 pub fn find_down<H: Host>(
     switches: Switches,
     alloc: Global,
@@ -299,7 +299,7 @@ pub fn find_down<H: Host>(
     }
 }
 
-/// The key that a property's name is in a map. An error goes into its place.
+/// Makes the key that a property's name is in a map. An error is left in `place`.
 pub fn key_for<H: Host>(
     place: &mut Option<EvalAltResult<H>>,
     name: &Shared<Text>,
@@ -316,7 +316,7 @@ pub fn key_for<H: Host>(
     }
 }
 
-/// What an index or a key leads to, as it is taken from there.
+/// Takes what an index or a key leads to. It is a copy, `()` for a key that is missing, or a part.
 pub fn take_below<H: Host>(
     switches: Switches,
     alloc: Global,

@@ -43,7 +43,7 @@ module _ {H : Type 0} (entries : List (ScopeEntry H)) (cells later : List (Optio
       let same : other ≡ id = cc in rw same (wrote_through done id.number (value_of_cell cells id.number) told)
   wrote_by done _ id is told = cc
 
-  -- the variable of an entry that is a handle is written through its cell, or it is held
+  -- the variable of an entry that is a handle is written through its cell, or the cell is held
   pub wrote_in_cell : (done : Bool) (old : Dynamic H) (id : CellId) → option_map value_of (slice_get entries index) ≡ Some old →
       cell_in old.value ≡ Some id → Told entries cells later v l name at index done e id.number (value_of_cell cells id.number) →
       seen_as entries cells l ≡ l → Wrote (came done tt e) (place_of_entry name at index l) v l entries later

@@ -1,5 +1,6 @@
 -- What a variable that was written, or was not, leads a turn to.
-use Rattle.std.proofs.Common.{◌≡◌, ◌≢◌, ◌+◌, ◌^◌, ◌∷◌, ◌∙◌, ℕ, [], Bool, false, true, List, map, Option, Some, Result, Ok, Err, refl, sym, ap}
+use Rattle.std.proofs.Common.{◌≡◌, ◌≢◌, ◌+◌, ◌^◌, ◌∷◌, ◌∙◌, ℕ, [], Bool, false, true, List, map, Option, Some, Result, Ok, Err, refl, sym}
+use Rattle.std.proofs.Common.{ap}
 use Rattle.std.specs.Prelude.{nat_le}
 use Rattle.rhai_tree.specs.declared.expr.Stmt.{Stmt}
 use Rattle.rhai_values.specs.declared.base.value.Dynamic.{Dynamic}
@@ -19,7 +20,7 @@ use Rattle.rhai_tree.specs.Positions.{position_of}
 use Rattle.rhai_machine.specs.language.Frames.{Core, Enter, Fail, ForBody, ForItem, ForTurn, Frame, core, on_value}
 use Rattle.rhai_machine.specs.language.Runs.{at, Goes}
 use Rattle.rhai_machine.proofs.Places.{put_names}
-use Rattle.rhai_steps.proofs.Pieces.{or_wants, step_by}
+use Rattle.rhai_steps.proofs.Pieces.{or_runs_out, step_by}
 use Rattle.rhai_context.specs.Ends.{came, error_in}
 use Rattle.rhai_walks.specs.Loops.{entered_at}
 use Rattle.rhai_walks.specs.Variables.{Wrote, seen_as}
@@ -90,7 +91,7 @@ module _ {S H : Type 0} (rules : Rules S H) (loop : ForLoop) (item : Dynamic H) 
     pub counts_not : (e : EvalAltResult H) →
         (is_out_of_memory e ≡ false → turn_core (nat_le (2 ^ 63) turn) loop item rest turn base k l ≡ core (Fail e) k l) →
         Goes rules (at (ForTurn loop left turn base) k (state l)) (at (Fail e) k (state l))
-    counts_not e refused = or_wants rules (ForTurn loop left turn base) k (state l) e (λ m.
+    counts_not e refused = or_runs_out rules (ForTurn loop left turn base) k (state l) e (λ m.
         step_by rules _ _ (Go (core (Fail e) k l)) (rw is (turned loop.body.statements l some ∙ ap Go (refused m))) here)
 
   -- its item stands in the variable, or does not
@@ -102,5 +103,5 @@ module _ {S H : Type 0} (rules : Rules S H) (loop : ForLoop) (item : Dynamic H) 
       Goes rules (at (ForItem loop item rest turn base) k (state l)) (entered_at (came done tt e) loop rest turn base k (state m))
   enters true e l m entered refused same =
       step_by rules _ _ (Go (core (Enter loop.body.statements true) (ForBody loop rest turn base ∷ k) m)) (ap Go (entered refl)) here
-  enters false e l m entered refused same = rw (same refl) (or_wants rules (ForItem loop item rest turn base) k (state l) (error_in e)
+  enters false e l m entered refused same = rw (same refl) (or_runs_out rules (ForItem loop item rest turn base) k (state l) (error_in e)
       (λ memory. step_by rules _ _ (Go (core (Fail (error_in e)) k l)) (ap Go (refused refl memory)) here))

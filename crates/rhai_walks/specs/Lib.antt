@@ -1,5 +1,5 @@
 pub mod Cursors
 pub mod Items
-pub mod Left
+pub mod TurnsLeft
 pub mod Variables
 pub mod Loops

@@ -8,6 +8,7 @@ use Rattle.rhai_machine.specs.language.State.{State}
 use Rattle.rhai_machine.specs.language.Turns.{ForLoop, Turns}
 use Rattle.rhai_walks.specs.declared.parts.ForParts.{ForParts}
 
+-- the parts of a `for` in code, as the machine has them
 abbrev pub loop_in : ForParts → ForLoop
 loop_in parts = record {
   variable = parts.variable.now;

@@ -20,7 +20,7 @@ module _ {H : Type 0} where
   abbrev pub seen_as : List (ScopeEntry H) → List (Option (Dynamic H)) → Local H → Local H
   seen_as entries cells l = record l { scope = entries; around = record l.around { cells = cells } }
 
-  -- the value stands at its place, or there is none, and why; or there was no memory to say why
+  -- the value is written to its place; or there is no place, and the error says why, unless memory ran out
   abbrev pub Wrote : Result (Unit {0}) (EvalAltResult H) → Result Place (EvalAltResult H) → Dynamic H → Local H →
       List (ScopeEntry H) → List (Option (Dynamic H)) → Type 0
   Wrote (Ok done) (Ok place) v l entries cells = put place v l ≡ seen_as entries cells l

@@ -1,4 +1,4 @@
-//! Places in what a `for` walks.
+//! Cursors over what a `for` walks.
 
 ghost use Rattle.std.specs.Prelude.{◌≡◌, ◌∷◌, [], ℕ, ℤ, IfSome, None, drop, pos, ◌+ℤ◌, suc};
 ghost use Rattle.std.specs.Int.{int_gap};
@@ -11,14 +11,14 @@ use rhai_values::base::value::{Dynamic, Union};
 use std::marker::Model;
 use std::mem::replace;
 
-/// The items of an array from one on. An item that was walked is gone from its place.
+/// The items of an array from one on. An item that was walked is gone from there.
 #[derive(Drop)]
 pub struct ItemsLeft<H> {
     items: Items<Dynamic<H>>,
     at: usize,
 }
 
-/// An integer as it stands, None for any other value.
+/// Copies an integer as it stands, None for any other value.
 fn number_at<H>(value: &Dynamic<H>) -> Option<Dynamic<H>>
     ensures { IfSome result (λ number. number ≡ value.now) }
 {
@@ -32,14 +32,14 @@ fn number_at<H>(value: &Dynamic<H>) -> Option<Dynamic<H>>
 }
 
 impl<H> ItemsLeft<H> {
-    /// All items of an array.
+    /// Makes the cursor that has all items of an array left.
     pub fn new(items: Items<Dynamic<H>>) -> ItemsLeft<H>
         ensures { items_in result ≡ items }
     {
         ItemsLeft { items, at: 0 }
     }
 
-    /// The next item, if one is left.
+    /// Takes the next item, if one is left.
     pub fn next(&mut self) -> Option<Dynamic<H>>
         ensures none { result ≡ None → items_in self.old ≡ [] }
         ensures some { IfSome result (λ item. items_in self.old ≡ item ∷ items_in self.new) }
@@ -72,14 +72,14 @@ impl Model for BytesLeft {
 }
 
 impl BytesLeft {
-    /// All bytes of a blob.
+    /// Makes the cursor that has all bytes of a blob left.
     pub fn new(bytes: Items<u8>) -> BytesLeft
         ensures { result ≡ bytes }
     {
         BytesLeft { bytes, at: 0 }
     }
 
-    /// The next byte, if one is left.
+    /// Takes the next byte, if one is left.
     pub fn next(&mut self) -> Option<u8>
         ensures none { result ≡ None → self.old ≡ [] }
         ensures some { IfSome result (λ byte. self.old ≡ byte ∷ self.new) }
@@ -111,7 +111,7 @@ impl Model for LettersLeft {
     ghost invariant = { λ left. IsCharBoundary left.text left.at };
 }
 
-/// Where a text starts, which is no place within a character.
+/// Returns where a text starts, which is not within a character.
 fn start(text: &str) -> usize
     ensures first { result ≡ 0 }
     ensures boundary { IsCharBoundary text.now result }
@@ -120,7 +120,7 @@ fn start(text: &str) -> usize
 }
 
 impl LettersLeft {
-    /// All characters of a text.
+    /// Makes the cursor that has all characters of a text left.
     pub fn new(text: Shared<Text>) -> LettersLeft
         ensures { result ≡ chars text }
     {
@@ -128,7 +128,7 @@ impl LettersLeft {
         LettersLeft { text, at }
     }
 
-    /// The next character, if one is left.
+    /// Takes the next character, if one is left.
     pub fn next(&mut self) -> Option<char>
         ensures none { result ≡ None → self.old ≡ [] }
         ensures some { IfSome result (λ letter. self.old ≡ letter ∷ self.new) }
@@ -160,7 +160,7 @@ impl Model for IntegersLeft {
 }
 
 impl IntegersLeft {
-    /// The integers of a range without its end.
+    /// Makes the cursor over the integers of a range without its end.
     pub fn exclusive(start: i64, end: i64) -> IntegersLeft
         ensures { result ≡ (start, int_gap start end) }
     {
@@ -170,7 +170,7 @@ impl IntegersLeft {
         }
     }
 
-    /// The integers of a range with its end.
+    /// Makes the cursor over the integers of a range with its end.
     pub fn inclusive(start: i64, last: i64) -> IntegersLeft
         ensures { result ≡ (start, int_gap start (last +ℤ pos 1)) }
     {
@@ -180,7 +180,7 @@ impl IntegersLeft {
         }
     }
 
-    /// The next integer, if one is left.
+    /// Takes the next integer, if one is left.
     pub fn next(&mut self) -> Option<i64>
         ensures none { result ≡ None → self.old.1 ≡ 0 }
         ensures integer { IfSome result (λ n. self.old.0 ≡ n) }

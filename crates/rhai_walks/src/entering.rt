@@ -32,7 +32,7 @@ use rhai_tree::position::Position;
 use rhai_values::base::value::{Dynamic, Host, Union};
 use std::alloc::Global;
 
-/// A counter that no integer counts on.
+/// Makes the error of a counter that no integer counts on.
 fn counter_overflow<H>(alloc: Global, pos: Position) -> EvalAltResult<H>
     ensures { is_out_of_memory result ≡ false → result ≡ error.ErrorArithmetic text_of_overflow pos }
 {
@@ -42,7 +42,7 @@ fn counter_overflow<H>(alloc: Global, pos: Position) -> EvalAltResult<H>
     }
 }
 
-/// The run stops by a counter that no integer counts on.
+/// Stops the run by a counter that no integer counts on.
 #[cold]
 #[inline(never)]
 fn stop_counting<H: Host>(
@@ -57,7 +57,7 @@ fn stop_counting<H: Host>(
     stop(place, counter_overflow(alloc, pos))
 }
 
-/// The integer that a turn's number is, if there is one.
+/// Returns the integer that a turn's number is, if there is one.
 fn integer_of(turn: u64) -> Option<i64>
     ensures none { result ≡ None → nat_le (2 ^ 63) turn ≡ true }
     ensures some { IfSome result (λ n. n ≡ pos turn) }

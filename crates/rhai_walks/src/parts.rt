@@ -10,7 +10,7 @@ ghost use Rattle.rhai_state.specs.Scope.{entries_of};
 ghost use Rattle.rhai_machine.specs.language.Turns.{turns_of as turns_in_value};
 ghost use Rattle.rhai_machine.specs.language.Walks.{counter_entry, counters, loop_entries};
 ghost use Rattle.rhai_context.specs.Ends.{error_in};
-ghost use Rattle.rhai_walks.specs.Left.{turns_in};
+ghost use Rattle.rhai_walks.specs.TurnsLeft.{turns_in};
 ghost use Rattle.rhai_walks.specs.Loops.{loop_in};
 
 use crate::turns::{Turns, turns_of};
@@ -32,7 +32,7 @@ pub struct ForParts<'t> {
     pub body: &'t StmtBlock,
 }
 
-/// How many variables its counter is.
+/// Counts the variables that the counter of a `for` is.
 fn counters_of(counter: &Option<Ident>) -> usize
     ensures { result ≡ counters counter.now }
 {
@@ -42,7 +42,7 @@ fn counters_of(counter: &Option<Ident>) -> usize
     }
 }
 
-/// Whether the scope has no room for the variables of a `for`.
+/// Tells whether the scope has no room for the variables of a `for`.
 fn has_no_room<H: Host>(limits: &Limits, scope: &Scope<H>, counter: &Option<Ident>) -> bool
     ensures { result ≡ nat_le limits.now.max_variables
         (length (entries_of scope.now) + counters counter.now) }
@@ -50,7 +50,7 @@ fn has_no_room<H: Host>(limits: &Limits, scope: &Scope<H>, counter: &Option<Iden
     scope.len() >= limits.max_variables.saturating_sub(counters_of(counter))
 }
 
-/// Whether the scope has room for the variables of a `for`. Where it has none, the run stops.
+/// Checks whether the scope has room for the variables of a `for`. Where it has none, the run stops.
 ///
 /// # Errors
 /// `ErrorTooManyVariables` at the variable.
@@ -98,8 +98,8 @@ fn push_counter<H: Host>(
     }
 }
 
-/// Adds the variables of a `for`: its counter, if there is one, and its variable, which is `()`. Where there is
-/// no memory the scope stays.
+/// Adds the variables of a `for`: its counter, if there is one, and its variable, which is `()`. Where memory
+/// runs out the scope stays.
 fn push_variables<H: Host>(
     scope: &mut Scope<H>,
     parts: ForParts<'_>,
@@ -130,12 +130,12 @@ fn push_variables<H: Host>(
     }
 }
 
-/// Starts a `for` over the value of a run: its variables are added, and it has these turns. None where the run
-/// stops.
+/// Starts a `for` over the value of a run: its variables are added, and it has these turns. None where the
+/// run stops.
 ///
 /// # Errors
-/// `ErrorFor` at the start of the expression where the value cannot be walked. Then, and where there is no
-/// memory, the scope stays.
+/// `ErrorFor` at the start of the expression where the value cannot be walked. Then, and where memory runs
+/// out, the scope stays.
 pub fn start_turns<H: Host>(
     scope: &mut Scope<H>,
     parts: ForParts<'_>,

@@ -2,7 +2,7 @@
 
 ghost use Rattle.std.specs.Prelude.{◌≡◌, IfSome, None, Some, option_map};
 ghost use Rattle.rhai_values.specs.Layers.{layer_of};
-ghost use Rattle.rhai_walks.specs.Left.{turns_in};
+ghost use Rattle.rhai_walks.specs.TurnsLeft.{turns_in};
 ghost use Rattle.rhai_machine.specs.language.Turns as machine;
 
 use crate::cursors::{BytesLeft, IntegersLeft, ItemsLeft, LettersLeft};
@@ -19,7 +19,7 @@ pub enum Turns<H> {
     Integers(IntegersLeft),
 }
 
-/// What a value gives to walk, None where it cannot be walked.
+/// Makes the turns that a value gives, None where it cannot be walked.
 pub fn turns_of<H: Host>(mut value: Dynamic<H>) -> Option<Turns<H>>
     ensures { option_map turns_in result ≡ machine.turns_of (layer_of value) }
 {
@@ -38,7 +38,7 @@ pub fn turns_of<H: Host>(mut value: Dynamic<H>) -> Option<Turns<H>>
 }
 
 impl<H: Host> Turns<H> {
-    /// The item of the next turn, if there is one.
+    /// Takes the item of the next turn, if there is one.
     pub fn next(&mut self) -> Option<Dynamic<H>>
         ensures none { result ≡ None → machine.next_turn (turns_in self.old) ≡ None }
         ensures some { IfSome result (λ item. machine.next_turn (turns_in self.old)

@@ -19,7 +19,7 @@ use rhai_tree::{Shared, Text};
 use rhai_values::base::value::{CellId, Dynamic, Host, Union};
 use rhai_values::cells::{CellStore, put_back};
 
-/// The cell that a variable is the handle of, if the body of its `for` shared it.
+/// Returns the cell that a variable is the handle of, if the body of its `for` shared it.
 fn cell_of<H: Host>(value: &Dynamic<H>) -> Option<CellId>
     ensures { result ≡ cell_in value.now.value }
 {
@@ -32,7 +32,7 @@ fn cell_of<H: Host>(value: &Dynamic<H>) -> Option<CellId>
 /// Writes a value into a cell.
 ///
 /// # Errors
-/// `ErrorDataRace` at the place where the cell is held. Then nothing was written.
+/// `ErrorDataRace` at the position where the cell is held. Then nothing was written.
 #[inline(never)]
 fn write_cell<H: Host>(
     cells: &mut CellStore<H>,
@@ -57,10 +57,10 @@ fn write_cell<H: Host>(
     true
 }
 
-/// Writes a variable of a `for`, as it is: the entry, or the cell that the entry is the handle of.
+/// Writes a variable of a `for`, as it is. That is the entry, or the cell that the entry is the handle of.
 ///
 /// # Errors
-/// `ErrorDataRace` at the place where its cell is held. Then nothing was written.
+/// `ErrorDataRace` at the position where its cell is held. Then nothing was written.
 #[inline(always)]
 pub fn write_variable<H: Host>(
     scope: &mut Scope<H>,

@@ -9,10 +9,10 @@ pub type Answer = Result<Vec<u8>, &'static str>;
 
 /// What a file of lines is about.
 pub trait Subject: Copy {
-    /// The name of the file, without the ending.
+    /// Returns the name of the file, without the ending.
     fn name(self) -> &'static str;
 
-    /// What the call of a line answers.
+    /// Tells what the call of a line answers.
     fn answer(self, alloc: Global, call: &str) -> io::Result<Answer>;
 }
 
@@ -73,7 +73,7 @@ fn judge<S: Subject>(alloc: Global, subject: S, line: &str) -> io::Result<Verdic
     }
 }
 
-/// Whether a line agrees. Where it does not, prints its number and why.
+/// Tells whether a line agrees. Where it does not, prints its number and why.
 fn agrees<W: Write>(name: &str, number: usize, verdict: Verdict, out: &mut W) -> io::Result<bool> {
     match verdict {
         Verdict::Agrees => Ok(true),

@@ -8,22 +8,22 @@ use std::io::Write;
 
 /// The lists of a program. What they refer to is in the program then, and nothing else is.
 pub trait Lists {
-    /// The scripts of a list, None where there is none of its name.
+    /// Finds the scripts of a list, None where there is none of its name.
     fn scripts_of(list: &str) -> Option<&'static [Sample]>;
 
-    /// The lists whose scripts run with their requests for memory refused.
+    /// Returns the lists whose scripts run with their requests for memory refused.
     fn refused() -> &'static [&'static str];
 }
 
 /// Writes the answer of a call:
 ///
 /// - `scripts LIST`: how many scripts a list has
-/// - `ends LIST N`, `charges LIST N`, `leaves LIST N`, `says LIST N`: the line of a script of a
-///   list, counted from 1, its operations, its variables, and what its error says beside its place
-/// - `fixes LIST N`, `shares LIST N`, `exports LIST N`, `reads LIST N`: the names of its constants, the values of its
-///   cells, its variables with their aliases, and its error as a user reads it
+/// - `ends LIST N`, `charges LIST N`, `leaves LIST N`, `says LIST N`: the line of a script of a list, counted
+///   from 1, its operations, its variables, and what its error says beside its position
+/// - `fixes LIST N`, `shares LIST N`, `exports LIST N`, `reads LIST N`: the names of its constants, the
+///   values of its cells, its variables with their aliases, and its error as a user reads it
 /// - `loads LIST N`, `imports LIST N`: how many modules it loads, and the names of the imports that it leaves
-/// - `above ends LIST N` and so on: the same above a scope of 300 other variables
+/// - `above ends LIST N` and so on: what is answered above a scope of 300 other variables
 pub fn write_answer<L: Lists>(alloc: Global, call: &str, out: &mut Vec<u8>) -> io::Result<()> {
     let (form, rest) = call.split_once(' ').unwrap_or((call, ""));
     match form {
@@ -51,7 +51,7 @@ fn write_one<L: Lists>(
     }
 }
 
-/// The script with a number among those of a list, counted from 1.
+/// Finds the script with a number among those of a list, counted from 1.
 fn sample_at(scripts: Option<&'static [Sample]>, number: &str) -> Option<Sample> {
     let number: usize = number.parse().unwrap_or(0);
     scripts?.get(number.checked_sub(1)?).copied()

@@ -7,10 +7,11 @@ use std::process::ExitCode;
 use std::rt::{Env, Files};
 use std::{env, fs, io};
 
-/// Compares the lines of the files of the subjects, which stand in the folder of the first argument, or where the
-/// program runs. Then it runs the scripts of the lists with all memory granted, and, where something outside of the
-/// program refuses memory, with each request of theirs refused in turn, and sees to what holds after each. After
-/// `refused` nothing is compared. Answers 0 where no line differs and all holds, and otherwise 1.
+/// Compares the lines of the files of the subjects, and runs the scripts of the lists. The files stand in the
+/// folder of the first argument, or where the program runs. The scripts run with all memory granted, and,
+/// where something outside of the program refuses memory, with each request of theirs refused in turn, and
+/// what holds after each is seen to. After `refused` nothing is compared. Answers 0 where no line differs and
+/// all holds, and otherwise 1.
 pub fn run<S: Subject, L: Lists, R: Env + Files + Print + AllocGlobal>(
     rt: &R,
     subjects: &[S],
@@ -26,7 +27,7 @@ pub fn run<S: Subject, L: Lists, R: Env + Files + Print + AllocGlobal>(
     Ok(ExitCode::from(u8::from(!is_well)))
 }
 
-/// The first argument, or where the program runs.
+/// Finds the folder of the files: the first argument, or where the program runs.
 fn folder<R: Env + AllocGlobal>(rt: &R) -> io::Result<String> {
     match env::args(rt)?.nth(1) {
         Some(folder) => Ok(folder),
@@ -34,7 +35,7 @@ fn folder<R: Env + AllocGlobal>(rt: &R) -> io::Result<String> {
     }
 }
 
-/// Compares the lines of every file. Whether none differs.
+/// Compares the lines of every file, and tells whether none differs.
 fn do_all_agree<S: Subject, R: Files + Print + AllocGlobal>(
     rt: &R,
     folder: &str,
@@ -47,7 +48,7 @@ fn do_all_agree<S: Subject, R: Files + Print + AllocGlobal>(
     Ok(differ == 0)
 }
 
-/// Compares the lines of a file. How many differ.
+/// Compares the lines of a file, and counts those that differ.
 fn compare_file<S: Subject, R: Files + Print + AllocGlobal>(
     rt: &R,
     folder: &str,

@@ -1,6 +1,6 @@
 //! Runs each script of a program's lists in each way, first with all memory granted, and then with the first,
 //! the second, the third .. request for memory refused, alone and with all after it, until none is left to
-//! refuse, and sees to what holds after each run. Refusing wants something outside of the program; without it
+//! refuse, and sees to what holds after each run. Refusing needs something outside of the program; without it
 //! all memory is granted in every run.
 
 mod chain;
@@ -24,14 +24,14 @@ struct Tally {
     refused: u64,
     /// Runs that were not reached, since what they need could not be made.
     not_made: u64,
-    /// Runs that came to want of memory.
-    wanting: u64,
+    /// Runs that ran out of memory.
+    ran_out: u64,
     /// Runs that came to what they come to with all memory granted.
     unharmed: u64,
     wrong: u64,
 }
 
-/// Prints what does not hold after a run, and how many runs there were. Whether all holds.
+/// Prints what does not hold after a run, and how many runs there were. Tells whether all holds.
 pub fn are_all_well<L: Lists, W: Write>(alloc: Global, out: &mut W) -> io::Result<bool> {
     let mut tally = Tally::default();
     for list in L::refused() {
@@ -56,7 +56,7 @@ impl Tally {
         writeln!(
             out,
             "{} not reached, {} out of memory, {} unharmed, {} wrong",
-            self.not_made, self.wanting, self.unharmed, self.wrong
+            self.not_made, self.ran_out, self.unharmed, self.wrong
         )
     }
 
@@ -87,7 +87,7 @@ impl Tally {
     }
 }
 
-/// The scripts of a list, each in each way, their requests refused in turn.
+/// Runs the scripts of a list, each in each way, with their requests refused in turn.
 fn run_list<W: Write>(
     alloc: Global,
     list: &'static str,
@@ -112,7 +112,7 @@ fn run_list<W: Write>(
     Ok(())
 }
 
-/// A script with all memory granted, and with its requests refused in turn.
+/// Runs a script with all memory granted, and with its requests refused in turn.
 fn run_part<W: Write>(
     alloc: Global,
     part: Part,
@@ -134,7 +134,7 @@ fn run_part<W: Write>(
         tally.runs = tally.runs.saturating_add(1);
         let wrong = judge(&own, report.as_ref(), was_refused, tally);
         drop(report);
-        let wrong = wrong.or_else(|| leaked(alloc));
+        let wrong = wrong.or_else(|| what_leaked(alloc));
         tally.tell(part, refusal, number, wrong, out)?;
         if !was_refused {
             break;
@@ -144,7 +144,7 @@ fn run_part<W: Write>(
     Ok(())
 }
 
-fn leaked(alloc: Global) -> Option<&'static str> {
+fn what_leaked(alloc: Global) -> Option<&'static str> {
     if refuser::is_all_given_back(alloc) {
         None
     } else {
@@ -152,7 +152,7 @@ fn leaked(alloc: Global) -> Option<&'static str> {
     }
 }
 
-/// What is wrong with a run, beside the one with all memory granted.
+/// Tells what is wrong with a run, beside the one with all memory granted.
 fn judge(
     own: &Report,
     report: Option<&Report>,
@@ -161,7 +161,7 @@ fn judge(
 ) -> Option<&'static str> {
     let Some(report) = report else {
         tally.not_made = tally.not_made.saturating_add(1);
-        return unless(was_refused, "not reached, though nothing was refused");
+        return wrong_unless(was_refused, "not reached, though nothing was refused");
     };
     if report.wrong.is_some() {
         report.wrong
@@ -173,16 +173,16 @@ fn judge(
         .starts_with(report.imports.as_slice())
     {
         Some("other imports are left")
-    } else if report.wants_memory {
-        tally.wanting = tally.wanting.saturating_add(1);
-        unless(was_refused, "out of memory, though nothing was refused")
+    } else if report.has_run_out {
+        tally.ran_out = tally.ran_out.saturating_add(1);
+        wrong_unless(was_refused, "out of memory, though nothing was refused")
     } else {
         tally.unharmed = tally.unharmed.saturating_add(1);
-        unless(is_same(own, report), "another outcome")
+        wrong_unless(is_same(own, report), "another outcome")
     }
 }
 
-fn unless(holds: bool, what: &'static str) -> Option<&'static str> {
+fn wrong_unless(holds: bool, what: &'static str) -> Option<&'static str> {
     if holds { None } else { Some(what) }
 }
 
@@ -194,7 +194,7 @@ fn is_same(own: &Report, report: &Report) -> bool {
         && report.imports.as_slice() == own.imports.as_slice()
 }
 
-/// Whether the assignment is done, or was not reached since a request was refused.
+/// Tells whether the assignment is done, or was not reached since a request was refused.
 fn is_right(assigned: Option<bool>, was_refused: bool, tally: &mut Tally) -> bool {
     match assigned {
         Some(is_done) => {
@@ -208,7 +208,7 @@ fn is_right(assigned: Option<bool>, was_refused: bool, tally: &mut Tally) -> boo
     }
 }
 
-/// The assignment through a chain, its requests refused in turn: wherever it is reached it is done.
+/// Runs the assignment through a chain, its requests refused in turn: wherever it is reached it is done.
 fn run_chain<W: Write>(
     alloc: Global,
     refusal: Refusal,

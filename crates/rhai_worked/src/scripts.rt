@@ -61,7 +61,7 @@ fn write_way(
     wrote
 }
 
-/// The variables of a list, and so many others, `x0` and so on, each with its number.
+/// Makes the variables of a list, and so many others, `x0` and so on, each with its number.
 fn scope_of(alloc: Global, others: usize, list: &str) -> Result<Scope<Pair>, AllocError> {
     let mut scope = scope_for(alloc, list)?;
     for number in 0..others {
@@ -200,7 +200,7 @@ fn write_read(alloc: Global, ending: &Ending, out: &mut Vec<u8>) -> io::Result<(
     }
 }
 
-/// Writes what an error of these scripts says beside its place, or `nothing`.
+/// Writes what an error of these scripts says beside its position, or `nothing`.
 fn write_said(ending: &Ending, out: &mut Vec<u8>) -> io::Result<()> {
     match ending {
         Ending::Error(
@@ -214,7 +214,7 @@ fn write_said(ending: &Ending, out: &mut Vec<u8>) -> io::Result<()> {
     }
 }
 
-/// The text of an error, or `nothing`.
+/// Returns the text of an error, or `nothing`.
 fn text_of(ending: &Ending) -> &str {
     match ending {
         Ending::Error(EvalAltResult::ErrorFunctionNotFound(text, _)) => text.get().as_str(),

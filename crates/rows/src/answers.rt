@@ -13,16 +13,16 @@ use std::alloc::Global;
 use std::io;
 use std::io::Write;
 
-/// The answer of a call:
+/// Answers a call:
 ///
 /// - `run [WORD] ..`: the lines of the program for the words, and its status
 /// - `refuses [WORD] ..`: the status of the program where one of its writes is refused
-/// - `prints NAME`: a value or a place of that name
+/// - `prints NAME`: a value or a position of that name
 /// - `finds NAME OFFSET`, `searches NAME OFFSET`: where a variable stands in a scope, if its offset
 ///   tells, and its value; the second has variables searched for
 /// - `calls NAME`: what a host's own call of a function answers, and what it leaves
 /// - `handles CHAIN`: what a chain on handles of a cell comes to
-/// - `shows VARIANT [PART] ..`: an error as a user reads it; behind `nowhere`, without its place
+/// - `shows VARIANT [PART] ..`: an error as a user reads it; behind `nowhere`, without its position
 /// - `tells metadata`, `tells signature`, `tells surroundings`: what is told of a function without its
 ///   body, and what it finds around it
 /// - `ends 26 1` and so on: what is told of a script of a row, counted from 1 (`rhai_worked::lists`)

@@ -9,8 +9,8 @@ use std::alloc::{AllocError, Global};
 use std::io;
 use std::io::Write;
 
-/// Writes the error whose variant and parts the words tell, at line 1 and position 3, or, behind `nowhere`,
-/// without a place. Between two lines of it stands `\n`.
+/// Writes the error whose variant and parts the words tell, at line 1 and position 3. Behind `nowhere` it has
+/// no position. Between two lines of it stands `\n`.
 pub fn write_shown(alloc: Global, words: &str, out: &mut Vec<u8>) -> io::Result<()> {
     let (place, words) = match words.strip_prefix("nowhere ") {
         Some(words) => (Position::NONE, words),
@@ -27,7 +27,7 @@ type Made = Result<Option<EvalAltResult<Pair>>, AllocError>;
 
 fn error_of(alloc: Global, variant: &str, parts: &str, at: Position) -> Made {
     match variant {
-        "ErrorInFunctionCall" => out_of_a_call(alloc, parts, at).map(Some),
+        "ErrorInFunctionCall" => error_out_of_calls(alloc, parts, at).map(Some),
         "ErrorMismatchDataType" => {
             let (wanted, found) = parts.split_once(", ").unwrap_or((parts, ""));
             mismatch(alloc, wanted, found, at).map(Some)
@@ -48,15 +48,15 @@ fn error_of(alloc: Global, variant: &str, parts: &str, at: Position) -> Made {
             let value = value(alloc, "")?;
             Ok(Some(EvalAltResult::LoopBreak(value, parts == "break", at)))
         }
-        _ => match alone(variant, at) {
+        _ => match plain_error(variant, at) {
             Some(error) => Ok(Some(error)),
-            None => Ok(about(variant, shared(alloc, parts)?, at)),
+            None => Ok(error_about(variant, shared(alloc, parts)?, at)),
         },
     }
 }
 
-/// The errors that hold their place alone.
-fn alone(variant: &str, at: Position) -> Option<EvalAltResult<Pair>> {
+/// Makes an error that has its position alone.
+fn plain_error(variant: &str, at: Position) -> Option<EvalAltResult<Pair>> {
     match variant {
         "ErrorUnboundThis" => Some(EvalAltResult::ErrorUnboundThis(at)),
         "ErrorFor" => Some(EvalAltResult::ErrorFor(at)),
@@ -69,8 +69,8 @@ fn alone(variant: &str, at: Position) -> Option<EvalAltResult<Pair>> {
     }
 }
 
-/// The errors about a text.
-fn about(variant: &str, text: Shared<Text>, at: Position) -> Option<EvalAltResult<Pair>> {
+/// Makes an error about a text.
+fn error_about(variant: &str, text: Shared<Text>, at: Position) -> Option<EvalAltResult<Pair>> {
     match variant {
         "ErrorVariableExists" => Some(EvalAltResult::ErrorVariableExists(text, at)),
         "ErrorVariableNotFound" => Some(EvalAltResult::ErrorVariableNotFound(text, at)),
@@ -90,7 +90,7 @@ fn about(variant: &str, text: Shared<Text>, at: Position) -> Option<EvalAltResul
     }
 }
 
-/// A length and an index.
+/// Reads a length and an index.
 fn bounds(alloc: Global, parts: &str) -> Result<Boxed<Bounds>, AllocError> {
     let (length, index) = parts.split_once(' ').unwrap_or((parts, ""));
     let length = length.parse().unwrap_or(0);
@@ -98,7 +98,7 @@ fn bounds(alloc: Global, parts: &str) -> Result<Boxed<Bounds>, AllocError> {
     Boxed::new(alloc, Bounds { length, index })
 }
 
-/// `()`, 42, or the text behind `text`.
+/// Makes `()`, 42, or the text behind `text`.
 fn value(alloc: Global, parts: &str) -> Result<Boxed<Dynamic<Pair>>, AllocError> {
     let value = match parts.strip_prefix("text") {
         Some(text) => Union::Str(shared(alloc, text.trim_start())?),
@@ -121,9 +121,9 @@ fn mismatch(
     Ok(EvalAltResult::ErrorMismatchDataType(Boxed::new(alloc, types)?, at))
 }
 
-/// Of the names of functions from the innermost on, each with its source behind `@` if it has one: the
-/// error that came out of all of them, which is of a variable `x` at line 2 and position 1.
-fn out_of_a_call(
+/// Makes the error that came out of all functions of these names, from the innermost on. Each name has its
+/// source behind `@` if it has one. It is an error of a variable `x` at line 2 and position 1.
+fn error_out_of_calls(
     alloc: Global,
     names: &str,
     at: Position,

@@ -39,7 +39,7 @@ enum Form {
     MethodOnHandles(&'static str),
     /// The name of a native, where object and arguments are handles. What the error says is written.
     NativeOnHandles(&'static str),
-    /// A method on a target.
+    /// A method on a `Target`.
     OnTarget(&'static str),
     /// Whether a function of a name without arguments is there.
     Seeks(&'static str),
@@ -197,7 +197,7 @@ fn answer_of(
             Ok(caller.call_native(alloc, name))
         }
         Form::OnTarget(name) => Ok(caller.call_method(alloc, name)),
-        Form::Seeks(name) => Ok(caller.seeks(alloc, name)),
+        Form::Seeks(name) => Ok(caller.has_function(alloc, name)),
     }
 }
 

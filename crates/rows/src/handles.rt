@@ -198,8 +198,8 @@ const POINTER_CALLED_ON_A_VARIABLE: &[Part<'_>] = &[
     Value,
 ];
 
-/// Writes what a chain on handles comes to in every way of running, its charges, and what stands in the cell
-/// then. Where two ways differ both are written.
+/// Writes what a chain on handles comes to in every way of running. Behind it stand its charges, and what
+/// stands in the cell then. Where two ways differ both are written.
 pub fn write_handled(alloc: Global, name: &str, out: &mut Vec<u8>) -> io::Result<()> {
     for chain in CHAINS {
         if chain.name == name {
@@ -276,7 +276,7 @@ fn pointer_of(alloc: Global, pointer: Pointer) -> Result<Dynamic<Pair>, AllocErr
     Ok(Dynamic::new(Union::FnPtr(Boxed::new(alloc, FnPtr { name, curry, kind })?)))
 }
 
-/// A map with a value under a name.
+/// Makes a map with a value under a name.
 fn map(alloc: Global, name: &str, value: Dynamic<Pair>) -> Result<Dynamic<Pair>, AllocError>
     ensures { IfOk result (λ map. IsNoHandle map.value) }
 {
@@ -285,7 +285,7 @@ fn map(alloc: Global, name: &str, value: Dynamic<Pair>) -> Result<Dynamic<Pair>,
     Ok(Dynamic::new(Union::Map(Boxed::new(alloc, map)?)))
 }
 
-/// What the cell has.
+/// Makes the value that the cell has.
 fn content(alloc: Global, cell: Cell) -> Result<Dynamic<Pair>, AllocError>
     ensures { IfOk result (λ value. IsNoHandle value.value) }
 {
@@ -308,7 +308,7 @@ fn add_cell(alloc: Global, cells: &mut CellStore<Pair>, cell: Cell) -> Result<()
     }
 }
 
-/// The variables: the root, which is the handle, an array of it as `a`, and a pointer as `p`.
+/// Makes the variables: the root, which is the handle, an array of it as `a`, and a pointer as `p`.
 fn scope_of(alloc: Global, chain: Chain) -> Result<Scope<Pair>, AllocError> {
     let mut items = Items::new(alloc);
     items.push(handle())?;

@@ -12,7 +12,7 @@ impl Lists for Numbered {
         scripts_of(list)
     }
 
-    /// All but row 3, which calls too often, and row 25, which has no scripts.
+    /// Returns all rows but 3, which calls too often, and 25, which has no scripts.
     fn refused() -> &'static [&'static str] {
         &[
             "1", "2", "4", "5", "6", "7", "8", "9", "10", "11", "12", "13", "14", "15", "16", "17",

@@ -27,7 +27,7 @@ impl Write for Full {
     }
 }
 
-/// The arguments of a call, each between brackets.
+/// Reads the arguments of a call, each between brackets.
 fn arguments(alloc: Global, words: &str) -> Result<Vec<String>, AllocError> {
     let mut arguments = Vec::new(alloc);
     for word in words.split('[').skip(1) {
@@ -52,8 +52,8 @@ pub fn write_run(alloc: Global, words: &str, out: &mut Vec<u8>) -> io::Result<()
     write!(out, "status {status}")
 }
 
-/// Writes the status where a write is refused, whichever it is: more and more writes are taken until
-/// the program needs no other.
+/// Writes the status where a write is refused, whichever it is. More and more writes are taken until the
+/// program needs no other.
 pub fn write_refusals(alloc: Global, words: &str, out: &mut Vec<u8>) -> io::Result<()> {
     let args = arguments(alloc, words)?;
     let needed = (0..100).find(|&taken| run(alloc, args.as_slice(), &mut Full { taken })

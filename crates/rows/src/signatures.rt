@@ -27,7 +27,7 @@ fn write_metadata(alloc: Global, out: &mut Vec<u8>) -> io::Result<()> {
     write!(out, "{told}")
 }
 
-/// What is around a function of a state that has imported an empty module as `m`.
+/// Writes what is around a function of a state that has imported an empty module as `m`.
 fn write_surroundings(alloc: Global, out: &mut Vec<u8>) -> io::Result<()> {
     let mut global = GlobalRuntimeState::<Pair>::new(alloc)?;
     let module = Shared::new(alloc, Module::new(alloc))?;

@@ -1,6 +1,6 @@
-//! Each kind of value as it is printed, and places.
+//! Each kind of value as it is printed, and positions.
 
-use rhai_bench::print::{write_place, write_value};
+use rhai_bench::print::{write_position, write_value};
 use rhai_eval::base::{Boxed, CellId, Dynamic, FnPtr, FnPtrKind, Items, Position, Union};
 use rhai_tables::host::Pair;
 use rhai_vectors::text::shared;
@@ -8,12 +8,12 @@ use std::alloc::{AllocError, Global};
 use std::io;
 use std::io::Write;
 
-/// Writes the value or the place of a name.
+/// Writes the value or the position of a name.
 pub fn write_sample(alloc: Global, name: &str, out: &mut Vec<u8>) -> io::Result<()> {
     match name {
-        "place" => write_place(out, Position::new(1, 6)),
-        "no place" => write_place(out, Position::NONE),
-        _ => match plain(name) {
+        "place" => write_position(out, Position::new(1, 6)),
+        "no place" => write_position(out, Position::NONE),
+        _ => match plain_value(name) {
             Some(value) => write_union(value, out),
             None => write_with_parts(alloc, name, out),
         },
@@ -21,7 +21,7 @@ pub fn write_sample(alloc: Global, name: &str, out: &mut Vec<u8>) -> io::Result<
 }
 
 fn write_with_parts(alloc: Global, name: &str, out: &mut Vec<u8>) -> io::Result<()> {
-    match with_parts(alloc, name)? {
+    match value_with_parts(alloc, name)? {
         Some(value) => write_union(value, out),
         None => write!(out, "no value"),
     }
@@ -34,8 +34,8 @@ fn write_union(value: Union<Pair>, out: &mut Vec<u8>) -> io::Result<()> {
     wrote
 }
 
-/// The values without parts.
-fn plain(name: &str) -> Option<Union<Pair>> {
+/// Makes a value without parts.
+fn plain_value(name: &str) -> Option<Union<Pair>> {
     match name {
         "unit" => Some(Union::Unit),
         "true" => Some(Union::Bool(true)),
@@ -49,8 +49,8 @@ fn plain(name: &str) -> Option<Union<Pair>> {
     }
 }
 
-/// The values with parts.
-fn with_parts(alloc: Global, name: &str) -> Result<Option<Union<Pair>>, AllocError> {
+/// Makes a value with parts.
+fn value_with_parts(alloc: Global, name: &str) -> Result<Option<Union<Pair>>, AllocError> {
     let value = match name {
         "a text" => shared(alloc, "a\"b").map(Union::Str),
         "an array" => array(alloc),

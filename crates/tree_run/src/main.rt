@@ -22,7 +22,7 @@ fn main(rt: HostRuntime) -> ExitCode {
     ExitCode::from(status)
 }
 
-/// The program's arguments without its name.
+/// Collects the program's arguments without its name.
 fn arguments<R: Env + AllocGlobal>(rt: &R) -> io::Result<Vec<String>> {
     let args = env::args(rt)?.skip(1).collect(rt.alloc())?;
     Ok(args)

@@ -27,5 +27,6 @@ returns-clause-runs g c offer held offers =
     c.in-Some-entry_of_variable.index c.value_at-value.result.now
     (sym c.entry_of_variable.ensures.exact ∙ c.in-Some-entry_of_variable.is) c.value_at-value.ensures
     (sym c.is_lendable.ensures ∙ c.if-not-is_lendable.false)
-    (sym (rw (c.as_str-function.ensures, c.get.ensures) at (c.is_found.ensures offer offers)) ∙ c.if-is_found.false) _ _
-    (rw (c.as_str-function.ensures, c.get.ensures) at (c.call_entry.ensures.runs offer held c.value_at-value.result.now c.value_at-value.ensures))
+    (sym (rw (c.as_str-function.ensures, c.get.ensures) at (c.is_scripted.ensures offer offers)) ∙ c.if-is_scripted.false) _ _
+    (rw (c.as_str-function.ensures, c.get.ensures) at (c.call_entry.ensures.runs offer held c.value_at-value.result.now
+    c.value_at-value.ensures))

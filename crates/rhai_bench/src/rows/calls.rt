@@ -40,7 +40,7 @@ const POINTERS_AND_NAMES: &[Sample] = &[
     Sample(Parts(SUM), WithoutFastOperators),
 ];
 
-/// The scripts of a row of this file.
+/// Finds the scripts of a row of this file, None where it has no such row.
 pub(super) fn scripts_of(row: &str) -> Option<&'static [Sample]> {
     scripts_in(ROWS, row)
 }

@@ -31,7 +31,7 @@ const ENDLESS: &[Sample] = &[
 /// A key that was inserted before an operator failed.
 const KEY_INSERTED: &[Sample] = &[Sample(Parts(ENTRY_INCREASED_IN_A_TRY), FailingOnMissingKeys)];
 
-/// An object that a method has changed before it throws.
+/// An item that a method has changed before it throws.
 const OBJECT_CHANGED: &[Sample] = &[Sample(WithFunctions(MethodThatThrows), Usual)];
 
 /// A value that is caught, and one that is thrown again.
@@ -50,7 +50,7 @@ const BREAKS_AND_CAUGHT_ERRORS: &[Sample] = &[
     Sample(Parts(MESSAGE_OF_WHAT_WAS_CAUGHT), Usual),
 ];
 
-/// The scripts of a row of this file.
+/// Finds the scripts of a row of this file, None where it has no such row.
 pub(super) fn scripts_of(row: &str) -> Option<&'static [Sample]> {
     scripts_in(ROWS, row)
 }

@@ -15,7 +15,7 @@ const CLOSURES: &[Sample] = &[
     Sample(Parts(CLOSURE_ON_ITS_VARIABLE), Usual),
 ];
 
-/// The scripts of a row of this file.
+/// Finds the scripts of a row of this file, None where it has no such row.
 pub(super) fn scripts_of(row: &str) -> Option<&'static [Sample]> {
     scripts_in(ROWS, row)
 }

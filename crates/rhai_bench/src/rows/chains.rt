@@ -42,7 +42,7 @@ const ABSENT: &[Sample] = &[
     Sample(Parts(MISSING_ENTRY), Usual),
 ];
 
-/// The scripts of a row of this file.
+/// Finds the scripts of a row of this file, None where it has no such row.
 pub(super) fn scripts_of(row: &str) -> Option<&'static [Sample]> {
     scripts_in(ROWS, row)
 }

@@ -12,7 +12,8 @@ use rhai_samples::walks::WALK_WITH_A_COUNTER;
 /// The scripts of this file, by the number of their row.
 const ROWS: &[Row] = &[Row("16", OFFSETS_AND_LIMITS)];
 
-/// Offsets that are not the variable's, calls that are too deep, too many variables, and a module that is not there.
+/// Offsets that are not the variable's, calls that are too deep, too many variables, and a module that is not
+/// there.
 const OFFSETS_AND_LIMITS: &[Sample] = &[
     Sample(Parts(OFFSET_OF_NO_VARIABLE), Usual),
     Sample(Parts(OFFSET_OF_A_HIDDEN_VARIABLE), Usual),
@@ -21,7 +22,7 @@ const OFFSETS_AND_LIMITS: &[Sample] = &[
     Sample(Parts(UNKNOWN_IMPORTED), Usual),
 ];
 
-/// The scripts of a row of this file.
+/// Finds the scripts of a row of this file, None where it has no such row.
 pub(super) fn scripts_of(row: &str) -> Option<&'static [Sample]> {
     scripts_in(ROWS, row)
 }

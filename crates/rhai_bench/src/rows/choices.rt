@@ -25,7 +25,7 @@ const CASES: &[Sample] = &[
     Sample(Statements(TruthChosen), Usual),
 ];
 
-/// The scripts of a row of this file.
+/// Finds the scripts of a row of this file, None where it has no such row.
 pub(super) fn scripts_of(row: &str) -> Option<&'static [Sample]> {
     scripts_in(ROWS, row)
 }

@@ -22,7 +22,7 @@ const JOINED_AND_GATHERED: &[Sample] = &[
     Sample(Statements(ItemsOfThreeTypes), Usual),
 ];
 
-/// The scripts of a row of this file.
+/// Finds the scripts of a row of this file, None where it has no such row.
 pub(super) fn scripts_of(row: &str) -> Option<&'static [Sample]> {
     scripts_in(ROWS, row)
 }

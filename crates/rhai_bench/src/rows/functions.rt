@@ -19,7 +19,7 @@ const ROWS: &[Row] = &[
 /// A function that calls itself twice, with 28.
 const CALLED_BY_ITSELF: &[Sample] = &[Sample(WithFunctions(Fibonacci(28)), Usual)];
 
-/// What a method changes of its object, a function of its argument, and one on its caller's variables of them;
+/// What a method changes of an item, a function of its argument, and one on its caller's variables of them;
 /// and a body without statements.
 const CHANGES: &[Sample] = &[
     Sample(Parts(METHOD_THAT_CHANGES_AN_ITEM), Usual),
@@ -28,14 +28,14 @@ const CHANGES: &[Sample] = &[
     Sample(Parts(EMPTY_FUNCTION), Usual),
 ];
 
-/// Calls three deep, and four where three are allowed; and functions that are for the type of their object.
+/// Calls three deep, and four where three are allowed; and functions that are for the type of their `this`.
 const FOUND_AND_TOO_DEEP: &[Sample] = &[
     Sample(WithFunctions(CallsWithinCalls(2)), MaxCallLevels(3)),
     Sample(WithFunctions(CallsWithinCalls(3)), MaxCallLevels(3)),
     Sample(WithFunctions(FunctionsForTypes), Usual),
 ];
 
-/// The scripts of a row of this file.
+/// Finds the scripts of a row of this file, None where it has no such row.
 pub(super) fn scripts_of(row: &str) -> Option<&'static [Sample]> {
     scripts_in(ROWS, row)
 }

@@ -33,7 +33,7 @@ const LEFT_EARLY: &[Sample] = &[
     Sample(Statements(IntegerAndTrue), Usual),
 ];
 
-/// The scripts of a row of this file.
+/// Finds the scripts of a row of this file, None where it has no such row.
 pub(super) fn scripts_of(row: &str) -> Option<&'static [Sample]> {
     scripts_in(ROWS, row)
 }

@@ -26,7 +26,7 @@ const MODULES: &[Sample] = &[
     Sample(Parts(CONSTANT_OF_THE_SCRIPT), Usual),
 ];
 
-/// The scripts of a row of this file.
+/// Finds the scripts of a row of this file, None where it has no such row.
 pub(super) fn scripts_of(row: &str) -> Option<&'static [Sample]> {
     scripts_in(ROWS, row)
 }

@@ -33,7 +33,7 @@ const REFUSED_BY_NATIVES: &[Sample] = &[
     Sample(Parts(UNKNOWN_METHOD_ON_A_CONSTANT), Usual),
 ];
 
-/// The scripts of a row of this file.
+/// Finds the scripts of a row of this file, None where it has no such row.
 pub(super) fn scripts_of(row: &str) -> Option<&'static [Sample]> {
     scripts_in(ROWS, row)
 }

@@ -38,7 +38,7 @@ const SLICES_PAST_THE_ENDS: &[Sample] = &[
     Sample(Parts(SLICE_PAST_THE_END), Usual),
 ];
 
-/// The scripts of a row of this file.
+/// Finds the scripts of a row of this file, None where it has no such row.
 pub(super) fn scripts_of(row: &str) -> Option<&'static [Sample]> {
     scripts_in(ROWS, row)
 }

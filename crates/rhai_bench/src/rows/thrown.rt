@@ -17,7 +17,7 @@ const THROWN_OUT: &[Sample] = &[
     Sample(Parts(THROWN_IN_A_WALK), Usual),
 ];
 
-/// The scripts of a row of this file.
+/// Finds the scripts of a row of this file, None where it has no such row.
 pub(super) fn scripts_of(row: &str) -> Option<&'static [Sample]> {
     scripts_in(ROWS, row)
 }

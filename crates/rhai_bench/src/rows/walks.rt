@@ -24,7 +24,7 @@ const ENDS_OF_WALKS: &[Sample] = &[
     Sample(Statements(RangeAfterACase), Usual),
 ];
 
-/// The scripts of a row of this file.
+/// Finds the scripts of a row of this file, None where it has no such row.
 pub(super) fn scripts_of(row: &str) -> Option<&'static [Sample]> {
     scripts_in(ROWS, row)
 }

@@ -7,8 +7,8 @@ ghost use Rattle.rhai_tree.specs.Cases.{is_default, has_case, all_differ, is_swi
 use rhai_tree::expr::{RangeCase, SwitchCase};
 use rhai_tree::literal::{Literal, same_literal};
 
-/// Whether each number of a `switch` is that of one of so many results, each case has one, and no
-/// two cases are equal.
+/// Tells whether the numbers and the cases of a `switch` are good. Each number is that of one of so
+/// many results, each case has one, and no two cases are equal.
 pub(crate) fn is_switch(
     count: usize,
     cases: &[SwitchCase],
@@ -23,7 +23,7 @@ pub(crate) fn is_switch(
         && all_differ(cases)
 }
 
-/// Whether each case has numbers, which are those of results.
+/// Tells whether each case has numbers, which are those of results.
 fn are_cases(count: usize, cases: &[SwitchCase]) -> bool
     ensures { result ≡ are_cases count cases.now }
 {
@@ -35,7 +35,7 @@ fn are_cases(count: usize, cases: &[SwitchCase]) -> bool
     true
 }
 
-/// Whether there are numbers, and each is that of a result.
+/// Tells whether there are numbers, and each is that of a result.
 fn are_blocks(count: usize, blocks: &[usize]) -> bool
     ensures { result ≡ are_blocks count blocks.now }
 {
@@ -45,7 +45,7 @@ fn are_blocks(count: usize, blocks: &[usize]) -> bool
     }
 }
 
-/// Whether each number is that of a result.
+/// Tells whether each number is that of a result.
 fn all_below(count: usize, numbers: &[usize]) -> bool
     ensures { result ≡ all_below count numbers.now }
 {
@@ -57,7 +57,7 @@ fn all_below(count: usize, numbers: &[usize]) -> bool
     true
 }
 
-/// Whether the number of each range is that of a result.
+/// Tells whether the number of each range is that of a result.
 fn are_ranges(count: usize, ranges: &[RangeCase]) -> bool
     ensures { result ≡ are_ranges count ranges.now }
 {
@@ -69,7 +69,7 @@ fn are_ranges(count: usize, ranges: &[RangeCase]) -> bool
     true
 }
 
-/// The number of a range.
+/// Reads the number of a range's result.
 fn block_of(range: RangeCase) -> usize
     ensures { result ≡ block_of range }
 {
@@ -78,7 +78,7 @@ fn block_of(range: RangeCase) -> usize
     }
 }
 
-/// Whether the number of the default, where there is one, is that of a result.
+/// Tells whether the number of the default, where there is one, is that of a result.
 fn is_default(count: usize, def_case: Option<usize>) -> bool
     ensures { result ≡ is_default count def_case }
 {
@@ -88,7 +88,7 @@ fn is_default(count: usize, def_case: Option<usize>) -> bool
     }
 }
 
-/// Whether no two cases are equal.
+/// Tells whether no two cases are equal.
 fn all_differ(cases: &[SwitchCase]) -> bool
     ensures { result ≡ all_differ cases.now }
 {
@@ -102,7 +102,7 @@ fn all_differ(cases: &[SwitchCase]) -> bool
     true
 }
 
-/// Whether a value is that of one of some cases.
+/// Tells whether a value is that of one of some cases.
 fn has_case(value: &Literal, cases: &[SwitchCase]) -> bool
     ensures { result ≡ has_case value.now cases.now }
 {

@@ -2,7 +2,7 @@
 
 ghost use Rattle.std.specs.Prelude.{◌≡◌, ◌≤◌, ◌+◌, [], IsTrue, IfErr, OnOk, length};
 ghost use Rattle.rhai_check.specs.Around.{above, around};
-ghost use Rattle.rhai_check.specs.Declares.{declares_expr, declares_call};
+ghost use Rattle.rhai_check.specs.MemoryNeeds.{expr_needs_memory, call_needs_memory};
 ghost use Rattle.rhai_tree.specs.Forms.{ends_chain};
 ghost use Rattle.rhai_tree.specs.Frame.{tests_of, resolves_method, dot_resolves, name_resolves};
 ghost use Rattle.rhai_tree.specs.Frame.{bracket_resolves, tested_root, tested_end};
@@ -23,14 +23,15 @@ use rhai_tree::flags::ASTFlags;
 use rhai_tree::position::Position;
 use std::alloc::Global;
 
-/// Whether an operator of a chain ends it: the chain stands in brackets of its own.
+/// Tells whether an operator of a chain ends it: the chain stands in brackets of its own.
 pub(crate) fn ends_chain(options: ASTFlags) -> bool
     ensures { result ≡ ends_chain options }
 {
     options.contains(ASTFlags::BREAK)
 }
 
-/// Whether a chain that starts from an expression may be assigned to: it is a variable or `this`.
+/// Tells whether a chain that starts from an expression may be assigned to. One that starts from a
+/// variable or `this` may.
 pub(crate) fn is_root(expr: &Expr) -> bool
     ensures seen { result ≡ seen_root (seen_expr expr.now) }
     ensures tested { result ≡ tested_root (tests_of expr.now) }
@@ -38,7 +39,7 @@ pub(crate) fn is_root(expr: &Expr) -> bool
     matches!(expr, Expr::Variable { .. } | Expr::ThisPtr(_))
 }
 
-/// Whether a chain that goes on with an expression ends in a method.
+/// Tells whether a chain that goes on with an expression ends in a method.
 pub(crate) fn ends_in_method(expr: &Expr) -> bool
     ensures seen { result ≡ seen_end (seen_expr expr.now).link }
     ensures tested { result ≡ tested_end (tests_of expr.now).link }
@@ -80,8 +81,8 @@ pub(crate) fn count_links(alloc: Global, chain: &Expr) -> Result<(), CheckFault>
     Ok(())
 }
 
-/// Passes what stands behind a bracket, or answers one of its faults, which are those that it has by
-/// itself: an index, or a chain that has the index first and goes on, unless it ends there.
+/// Passes what stands behind a bracket, or answers one of the faults that it has by itself. This is
+/// an index, or a chain that has the index first and goes on, unless it ends there.
 #[cycle(check)]
 pub(crate) fn check_behind_bracket(
     declared: &mut Declared,
@@ -94,7 +95,7 @@ pub(crate) fn check_behind_bracket(
     ensures resolved { OnOk result ((base : Frame) → IsTrue
         (bracket_resolves ends (tests_of rhs.now) (above base declared.old))) }
     ensures refused { IfErr result (λ fault. Refuses ((seen_expr rhs.now).value (around declared.old place))
-        (declares_expr rhs.now) fault) }
+        (expr_needs_memory rhs.now) fault) }
 {
     if ends {
         return check_expr(declared, place, rhs);
@@ -112,8 +113,8 @@ pub(crate) fn check_behind_bracket(
     }
 }
 
-/// Passes what stands behind a dot at a position, or answers one of its faults: a property or a
-/// method, or one from which the chain goes on, unless it ends there.
+/// Passes what stands behind a dot at a position, or answers one of its faults. This is a property
+/// or a method, or one from which the chain goes on, unless it ends there.
 #[cycle(check)]
 pub(crate) fn check_behind_dot(
     declared: &mut Declared,
@@ -128,7 +129,7 @@ pub(crate) fn check_behind_dot(
     ensures resolved { OnOk result ((base : Frame) → IsTrue
         (dot_resolves ends (tests_of rhs.now).link pos (above base declared.old))) }
     ensures refused { IfErr result (λ fault. Refuses (dot_faults ends (seen_expr rhs.now).link pos
-        (around declared.old place)) (declares_expr rhs.now) fault) }
+        (around declared.old place)) (expr_needs_memory rhs.now) fault) }
 {
     if ends {
         return check_named(declared, place, rhs, pos);
@@ -161,7 +162,7 @@ fn check_named(
     ensures resolved { OnOk result ((base : Frame) → IsTrue
         (name_resolves (tests_of first.now).link pos (above base declared.old))) }
     ensures refused { IfErr result (λ fault. Refuses (name_faults (seen_expr first.now).link pos
-        (around declared.old place)) (declares_expr first.now) fault) }
+        (around declared.old place)) (expr_needs_memory first.now) fault) }
 {
     match first {
         Expr::Property(_, _) => Ok(()),
@@ -183,7 +184,7 @@ fn check_method(
     ensures resolved { OnOk result ((base : Frame) → IsTrue
         (resolves_method call.now pos (above base declared.old))) }
     ensures refused { IfErr result (λ fault. Refuses ((seen_call call.now).method pos
-        (around declared.old place)) (declares_call call.now) fault) }
+        (around declared.old place)) (call_needs_memory call.now) fault) }
 {
     if is_unqualified(call) {
         check_exprs(declared, place, call.args.as_slice())

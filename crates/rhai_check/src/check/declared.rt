@@ -1,8 +1,8 @@
 //! What is declared so far in a frame.
 
 ghost use Rattle.std.specs.Prelude.{◌≡◌, ◌++◌, ◌∷◌, [], IfErr, OnOk, IsSomeAnd};
-ghost use Rattle.rhai_check.specs.Around.{cut, marked};
-ghost use Rattle.rhai_check.specs.Declares.{names_a_catch};
+ghost use Rattle.rhai_check.specs.Around.{cut, extent_of};
+ghost use Rattle.rhai_check.specs.MemoryNeeds.{names_a_catch};
 ghost use Rattle.rhai_check.specs.Refusals.{Refuses};
 ghost use Rattle.rhai_tree.specs.Forms.{catch_of, name_asked};
 ghost use Rattle.rhai_tree.specs.Frame.{with_name, turn_names, var_names};
@@ -29,7 +29,7 @@ pub(crate) struct Mark {
 }
 
 impl Declared {
-    /// Nothing. It takes no memory.
+    /// Begins with nothing declared. It takes no memory.
     pub fn new(alloc: Global) -> Declared
         ensures { result ≡ record { names = []; imports = [] } }
     {
@@ -39,14 +39,14 @@ impl Declared {
         }
     }
 
-    /// The allocator that the lists were made with.
+    /// Returns the allocator that the lists were made with.
     pub fn allocator(&self) -> Global {
         self.names.allocator()
     }
 
-    /// How much is declared.
+    /// Counts what is declared.
     pub fn mark(&self) -> Mark
-        ensures { result ≡ marked self.now }
+        ensures { result ≡ extent_of self.now }
     {
         Mark {
             names: self.names.len(),

@@ -2,7 +2,7 @@
 
 ghost use Rattle.std.specs.Prelude.{◌≡◌, [], IsTrue, IfErr, OnOk, map, length, option_map, true};
 ghost use Rattle.rhai_check.specs.Around.{above, around};
-ghost use Rattle.rhai_check.specs.Declares.{in_option, any_need, needs_of, declares_expr, declares_call};
+ghost use Rattle.rhai_check.specs.MemoryNeeds.{in_option, any_need, needs_of, expr_needs_memory, call_needs_memory};
 ghost use Rattle.rhai_tree.specs.Forms.{is_eval_call, is_unqualified};
 ghost use Rattle.rhai_tree.specs.Frame.{tests_of, resolves_expr, resolves_call, target_resolves};
 ghost use Rattle.rhai_tree.specs.Frame.{option_resolves, all_resolve_exprs, entries_resolve, map_resolves};
@@ -38,7 +38,7 @@ pub(crate) fn check_expr(
     ensures resolved { OnOk result ((base : Frame) → IsTrue
         (resolves_expr expr.now (above base declared.old))) }
     ensures refused { IfErr result (λ fault. Refuses ((seen_expr expr.now).value (around declared.old place))
-        (declares_expr expr.now) fault) }
+        (expr_needs_memory expr.now) fault) }
 {
     match expr {
         Expr::DynamicConstant(_, _) => Ok(()),
@@ -164,8 +164,8 @@ pub(crate) fn check_option(
     }
 }
 
-/// Whether an expression may be assigned to: a variable, `this`, or a chain from one of them that
-/// does not end in a method.
+/// Tells whether an expression may be assigned to. A variable, `this`, or a chain from one of them
+/// that does not end in a method may.
 fn is_place(expr: &Expr) -> bool
     ensures seen { result ≡ (seen_expr expr.now).is_place }
     ensures tested { result ≡ (tests_of expr.now).is_place }
@@ -191,23 +191,23 @@ pub(crate) fn check_target(
     ensures resolved { OnOk result ((base : Frame) → IsTrue
         (target_resolves (tests_of lhs.now) (above base declared.old))) }
     ensures refused { IfErr result (λ fault. Refuses (target_faults (seen_expr lhs.now)
-        (around declared.old place)) (declares_expr lhs.now) fault) }
+        (around declared.old place)) (expr_needs_memory lhs.now) fault) }
 {
     if is_place(lhs) {
         check_expr(declared, place, lhs)
     } else {
-        Err(CheckFault::BadAssignment(first_token(lhs)))
+        Err(CheckFault::BadAssignment(seen_start(lhs)))
     }
 }
 
-/// Whether a call is one of `eval` by its name, with one argument, operator or not.
+/// Tells whether a call is one of `eval` by its name, with one argument, operator or not.
 fn is_eval_call(call: &FnCallExpr) -> bool
     ensures { result ≡ is_eval_call call.now.namespace call.now.name (length call.now.args) }
 {
     call.namespace.path.len() == 0 && call.name.get().as_str() == "eval" && call.args.len() == 1
 }
 
-/// Whether a call's name stands without a path.
+/// Tells whether a call's name stands without a path.
 pub(crate) fn is_unqualified(call: &FnCallExpr) -> bool
     ensures { result ≡ is_unqualified call.now.namespace.path }
 {
@@ -227,7 +227,7 @@ pub(crate) fn check_call(
     ensures resolved { OnOk result ((base : Frame) → IsTrue
         (resolves_call call.now pos (above base declared.old))) }
     ensures refused { IfErr result (λ fault. Refuses ((seen_call call.now).value pos
-        (around declared.old place)) (declares_call call.now) fault) }
+        (around declared.old place)) (call_needs_memory call.now) fault) }
 {
     if is_eval_call(call) {
         Err(CheckFault::EvalCall(pos))
@@ -238,8 +238,8 @@ pub(crate) fn check_call(
     }
 }
 
-/// Where an expression is seen to start, which is where its text does.
-fn first_token(expr: &Expr) -> Position
+/// Finds where an expression is seen to start, which is where its text does.
+fn seen_start(expr: &Expr) -> Position
     ensures { result ≡ (seen_expr expr.now).start }
 {
     match expr {
@@ -251,14 +251,14 @@ fn first_token(expr: &Expr) -> Position
             }
         }
         Expr::FnCall(call, pos) => match (call.op_token, call.args.as_slice()) {
-            (Some(_), [left, _]) => first_token(left),
+            (Some(_), [left, _]) => seen_start(left),
             _ => *pos,
         },
-        Expr::Dot(lhs, _, _, _) | Expr::Index(lhs, _, _, _) => first_token(lhs.get()),
+        Expr::Dot(lhs, _, _, _) | Expr::Index(lhs, _, _, _) => seen_start(lhs.get()),
         Expr::And(parts, pos) | Expr::Or(parts, pos) | Expr::Coalesce(parts, pos) => {
             match parts.as_slice() {
                 [] => *pos,
-                [first, ..] => first_token(first),
+                [first, ..] => seen_start(first),
             }
         }
         _ => expr.position(),

@@ -1,7 +1,7 @@
 //! The checker's walk over functions.
 
 ghost use Rattle.std.specs.Prelude.{◌≡◌, ◌++◌, [], ◌∷◌, true, IfErr, OnOk, IfOk};
-ghost use Rattle.rhai_check.specs.Declares.{has_functions};
+ghost use Rattle.rhai_check.specs.MemoryNeeds.{has_functions};
 ghost use Rattle.rhai_tree.specs.Frame.{ResolvesFunction};
 ghost use Rattle.rhai_check.specs.Refusals.{Refuses};
 ghost use Rattle.rhai_tree.specs.WellFormed.{faults_in_function, faults_in_functions, IsFormedFunction};

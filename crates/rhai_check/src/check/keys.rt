@@ -8,7 +8,7 @@ use rhai_tree::expr::MapEntry;
 use rhai_tree::literal::Literal;
 use std::alloc::{AllocError, Global};
 
-/// Whether the keys of a map's entries are those of its template, each once.
+/// Tells whether the keys of a map's entries are those of its template, each once.
 pub(crate) fn has_keys(
     alloc: Global,
     entries: &[MapEntry],

@@ -16,7 +16,7 @@ use rhai_tree::position::Position;
 use rhai_tree::{Shared, Text};
 use std::num::NonZeroUsize;
 
-/// Where the newest of a name stands, counted from the end; zero where there is none.
+/// Finds where the newest of a name stands, counted from the end. This is zero where there is none.
 fn offset_of(names: &[Shared<Text>], name: &Text) -> usize
     ensures { result ≡ offset_of name.now names.now }
 {
@@ -31,7 +31,7 @@ fn offset_of(names: &[Shared<Text>], name: &Text) -> usize
     offset
 }
 
-/// Whether an offset is not given, or is that of the newest of a name.
+/// Tells whether an offset is not given, or is that of the newest of a name.
 pub(crate) fn is_good(names: &[Shared<Text>], offset: Option<NonZeroUsize>, name: &Text) -> bool
     ensures { result ≡ is_good offset name.now names.now }
 {
@@ -41,7 +41,8 @@ pub(crate) fn is_good(names: &[Shared<Text>], offset: Option<NonZeroUsize>, name
     }
 }
 
-/// Whether a namespace has no index, or that of the newest import that has the name of its root.
+/// Tells whether a namespace has no index, or that of the newest import that has the name of its
+/// root.
 pub(crate) fn has_good_index(imports: &[Shared<Text>], namespace: &Namespace) -> bool
     ensures { result ≡ is_good_root namespace.now.index namespace.now.path imports.now }
 {
@@ -51,7 +52,8 @@ pub(crate) fn has_good_index(imports: &[Shared<Text>], namespace: &Namespace) ->
     }
 }
 
-/// Whether a variable has no offset, or that of the newest of its name; behind a path it has none.
+/// Tells whether a variable has no offset, or that of the newest of its name. Behind a path it has
+/// none.
 fn has_good_offset(
     names: &[Shared<Text>],
     offset: Option<NonZeroUsize>,

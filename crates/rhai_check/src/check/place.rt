@@ -24,7 +24,7 @@ impl Place {
         in_top: false,
     };
 
-    /// In a loop that stands here.
+    /// Enters a loop that stands here.
     pub fn looping(self) -> Place
         ensures { result ≡ record self { in_loop = true } }
     {
@@ -34,7 +34,7 @@ impl Place {
         }
     }
 
-    /// In a block that stands here.
+    /// Enters a block that stands here.
     pub fn inside(self) -> Place
         ensures { result ≡ record self { in_top = false } }
     {

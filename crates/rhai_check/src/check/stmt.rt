@@ -4,8 +4,8 @@ ghost use Rattle.std.specs.Prelude.{◌≡◌, ◌++◌, [], true, false, IsTrue
 ghost use Rattle.std.specs.Prelude.{option_map};
 ghost use Rattle.rhai_check.specs.Around.{above, around, Continues};
 ghost use Rattle.rhai_tree.specs.Forms.{any_of};
-ghost use Rattle.rhai_check.specs.Declares.{in_option, needs_of, declares_stmt, declares_block};
-ghost use Rattle.rhai_check.specs.Declares.{declares_catch, declares_conditional};
+ghost use Rattle.rhai_check.specs.MemoryNeeds.{in_option, needs_of, stmt_needs_memory, block_needs_memory};
+ghost use Rattle.rhai_check.specs.MemoryNeeds.{catch_needs_memory, conditional_needs_memory};
 ghost use Rattle.rhai_tree.specs.Frame.{tests_of, resolves_stmt, resolves_block, all_resolve};
 ghost use Rattle.rhai_tree.specs.Frame.{option_resolves, var_resolves, var_names, turns_resolve};
 ghost use Rattle.rhai_tree.specs.Frame.{catch_resolves, resolves_conditional, conditionals_resolve};
@@ -40,7 +40,7 @@ pub(crate) fn check_block(
     ensures resolved { OnOk result ((base : Frame) → IsTrue
         (resolves_block block.now (above base declared.old))) }
     ensures refused { IfErr result (λ fault.
-        Refuses ((seen_block block.now).value (around declared.old place)) (declares_block block.now) fault) }
+        Refuses ((seen_block block.now).value (around declared.old place)) (block_needs_memory block.now) fault) }
 {
     let start = declared.mark();
     check_statements(declared, place.inside(), block.statements.as_slice())?;
@@ -61,7 +61,7 @@ pub(crate) fn check_statements(
     ensures resolved { OnOk result ((base : Frame) → all_resolve (map resolves_stmt statements.now)
         (above base declared.old) ≡ (true, above base declared.new)) }
     ensures refused { IfErr result (λ fault. Refuses (faults_in_list (map seen_stmt statements.now)
-        (around declared.old place)).0 (any_of (map declares_stmt statements.now)) fault) }
+        (around declared.old place)).0 (any_of (map stmt_needs_memory statements.now)) fault) }
 {
     'each: for statement in statements {
         check_stmt(declared, place, statement)?;
@@ -69,8 +69,8 @@ pub(crate) fn check_statements(
     Ok(())
 }
 
-/// Passes a `let` or a `const` but for its value, or answers its fault: one that is exported stands in
-/// the tree's top list, and an index is the offset of the newest variable of its name.
+/// Passes a `let` or a `const` but for its value, or answers its fault. One that is exported stands
+/// in the tree's top list, and an index is the offset of the newest variable of its name.
 fn check_declaration(
     declared: &Declared,
     place: Place,
@@ -159,7 +159,7 @@ fn check_conditional(
     ensures resolved { OnOk result ((base : Frame) → IsTrue
         (resolves_conditional conditional.now (above base declared.old))) }
     ensures refused { IfErr result (λ fault. Refuses (seen_conditional conditional.now
-        (around declared.old place)) (declares_conditional conditional.now) fault) }
+        (around declared.old place)) (conditional_needs_memory conditional.now) fault) }
 {
     check_expr(declared, place, &conditional.condition)?;
     check_expr(declared, place, &conditional.expr)
@@ -179,7 +179,7 @@ fn check_conditionals(
         (conditionals_resolve (map resolves_conditional conditionals.now) (above base declared.old))) }
     ensures refused { IfErr result (λ fault. Refuses (faults_in_conditionals
         (map seen_conditional conditionals.now) (around declared.old place))
-        (any_of (map declares_conditional conditionals.now)) fault) }
+        (any_of (map conditional_needs_memory conditionals.now)) fault) }
 {
     'each: for conditional in conditionals {
         check_conditional(declared, place, conditional)?;
@@ -226,7 +226,7 @@ fn check_branch(
     ensures resolved { OnOk result ((base : Frame) → IsTrue
         (catch_resolves variable.now branch.now (above base declared.old))) }
     ensures refused { IfErr result (λ fault. Refuses (catch_faults variable.now branch.now
-        (around declared.old place)) (declares_catch variable.now branch.now) fault) }
+        (around declared.old place)) (catch_needs_memory variable.now branch.now) fault) }
 {
     let start = declared.mark();
     declared.declare_catch(variable)?;
@@ -244,7 +244,7 @@ fn check_stmt(declared: &mut Declared, place: Place, stmt: &Stmt) -> Result<(), 
     ensures resolved { OnOk result ((base : Frame) → resolves_stmt stmt.now (above base declared.old)
         ≡ (true, above base declared.new)) }
     ensures refused { IfErr result (λ fault. Refuses (seen_stmt stmt.now (around declared.old place)).0
-        (declares_stmt stmt.now) fault) }
+        (stmt_needs_memory stmt.now) fault) }
 {
     match stmt {
         Stmt::Noop(_) => Ok(()),

@@ -3,7 +3,7 @@
 
 ghost use Rattle.std.specs.Prelude.{◌≡◌, IfSome, OnOk, is_some, true};
 ghost use Rattle.rhai_tree.specs.declared.expr.Expr.{out-Expr};
-ghost use Rattle.rhai_state.specs.Native.{left_by, was};
+ghost use Rattle.rhai_state.specs.Native.{left_by, lent_value};
 ghost use Rattle.rhai_state.specs.Scope.{names_in};
 ghost use Rattle.rhai_machine.specs.language.Links.{first_in};
 ghost use Rattle.rhai_steps.specs.Agreement.{AgreesAt};
@@ -16,7 +16,7 @@ ghost use Rattle.rhai_eval.specs.Ends.{EndsAs};
 ghost use Rattle.rhai_eval.specs.States.{under};
 
 use crate::engine::Engine;
-use crate::this::{give_back_with, take_with};
+use crate::this::{give_back_with_this, take_with_this};
 use rhai_chains::chain::NewValue;
 use rhai_chains::links::first_of;
 use rhai_context::ends::finish;
@@ -51,7 +51,7 @@ impl<'e> From<&'e Expr> for ChainType {
     }
 }
 
-/// What a chain is assigned, as its walk takes it.
+/// Puts what a chain is assigned into the form in which its walk takes it.
 fn new_value<H: Host>(new_val: Option<(Dynamic<H>, &OpAssignment)>) -> Option<NewValue<H>>
     ensures same { new_of result ≡ assigned_in new_val.entry }
     ensures given { is_some result ≡ is_some new_val.entry }
@@ -63,12 +63,12 @@ fn new_value<H: Host>(new_val: Option<(Dynamic<H>, &OpAssignment)>) -> Option<Ne
 }
 
 impl<H: Host> Engine<H> {
-    /// The value of a whole chain, or an assignment to what it leads to where there is a value to assign;
-    /// its own charge is made already. First comes what all its links ask for, from left to right, each
-    /// charged behind its operator; then its root, charged where it is a variable; and then the walk from
-    /// link to link. What a variable holds is changed in its place, on errors too, and of a property or an
-    /// item that a native got the changed value is set again. An assignment answers `()`, or what a
-    /// property's setter gave. Ports upstream's `eval_dot_index_chain`.
+    /// Evaluates a whole chain, or assigns to what it leads to where there is a value to assign. Its own
+    /// charge is made already. First comes what all its links ask for, from left to right, each charged
+    /// behind its operator; then its root, charged where it is a variable; and then the walk from link to
+    /// link. The value of a variable is changed where it stands, on errors too, and of a property or an item
+    /// that a native got the changed value is set again. An assignment answers `()`, or what a property's
+    /// setter gave. Ports upstream's `eval_dot_index_chain`.
     ///
     /// An assignment without an operator that comes to a value, through indexes and properties of arrays
     /// and maps that are not shared, leaves the value assigned, read-write, at the path that it went down
@@ -102,14 +102,14 @@ impl<H: Host> Engine<H> {
         requires value { AssignsNoHandle new_val }
         ensures ends { EndsAs (under H.name_of self.now T.natives)
             (whole_chain expr.now (assigned_in new_val.entry))
-            (state_of (T.state table.old) global.old scope.old (holding (was this.entry))) result
+            (state_of (T.state table.old) global.old scope.old (holding (lent_value this.entry))) result
             (state_of (T.state table.new) global.new scope.new (holding (left_by this.exit))) }
         ensures kept { Kept (under H.name_of self.now T.natives)
-            (state_of (T.state table.old) global.old scope.old (holding (was this.entry)))
+            (state_of (T.state table.old) global.old scope.old (holding (lent_value this.entry)))
             (state_of (T.state table.new) global.new scope.new (holding (left_by this.exit))) }
         ensures assigns { OnOk result (IfSome (assigned_in new_val.entry) (λ given.
             AssignsAlong (under H.name_of self.now T.natives) expr.now given
-            (state_of (T.state table.old) global.old scope.old (holding (was this.entry)))
+            (state_of (T.state table.old) global.old scope.old (holding (lent_value this.entry)))
             (state_of (T.state table.new) global.new scope.new (holding (left_by this.exit))))) }
         ensures names { names_in scope.new ≡ names_in scope.old }
         ensures caches { _caches.new ≡ _caches.old }
@@ -123,10 +123,10 @@ impl<H: Host> Engine<H> {
         let evaluator = self.evaluator(alloc, &limits);
         match this {
             Some(place) => {
-                let mut run = take_with(alloc, global, scope, place);
+                let mut run = take_with_this(alloc, global, scope, place);
                 let done = evaluator.run_chain(&mut run, table, root, expr, new);
                 let result = finish(done, &mut run.value, &mut run.error);
-                give_back_with(run, global, scope, place);
+                give_back_with_this(run, global, scope, place);
                 result
             }
             None => {

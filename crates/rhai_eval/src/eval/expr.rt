@@ -4,13 +4,13 @@ ghost use Rattle.std.specs.Prelude.{◌≡◌, length, IfOk, IfErr, IsTrue, true
 ghost use Rattle.rhai_tree.specs.Frame.{resolves_expr};
 ghost use Rattle.rhai_tree.specs.declared.expr.Expr.{out-Expr};
 ghost use Rattle.rhai_state.specs.Errors.{is_out_of_memory};
-ghost use Rattle.rhai_state.specs.Native.{left_by, was};
+ghost use Rattle.rhai_state.specs.Native.{left_by, lent_value};
 ghost use Rattle.std.specs.Option.{option_copied};
 ghost use Rattle.rhai_state.specs.Scope.{entries_of, in_use, names_in, Fits};
 ghost use Rattle.rhai_machine.specs.language.Frames.{Eval};
 ghost use Rattle.rhai_machine.specs.language.Setting.{globals_of};
 ghost use Rattle.rhai_steps.specs.Agreement.{AgreesAt};
-ghost use Rattle.rhai_steps.specs.Offsets.{offset_in, place_at};
+ghost use Rattle.rhai_steps.specs.Offsets.{offset_in, index_at_offset};
 ghost use Rattle.rhai_steps.specs.States.{holding, state_of, surroundings_of};
 ghost use Rattle.rhai_laws.specs.Kept.{Kept};
 ghost use Rattle.rhai_eval.specs.Ends.{EndsAs};
@@ -19,7 +19,7 @@ ghost use Rattle.rhai_eval.specs.States.{offer_of, under};
 
 use crate::engine::Engine;
 use crate::eval::search::{is_behind_path, seen_variable, value_named, variable_mut};
-use crate::this::{give_back_with, take_with};
+use crate::this::{give_back_with_this, take_with_this};
 use rhai_context::ends::finish;
 use rhai_context::{give_back, take};
 use rhai_functions::paths::find_root;
@@ -35,9 +35,9 @@ use rhai_values::base::value::{Dynamic, Host, Module};
 use std::alloc::Global;
 
 impl<H: Host> Engine<H> {
-    /// Where the variable of an expression stands in a scope of a length, counted from the start: where
-    /// it has an offset and variables are not searched for, and else None. It takes no memory. Asked: the
-    /// offset is at most the length.
+    /// Finds where the variable of an expression stands in a scope of a length, counted from the start. It is
+    /// found where it has an offset and variables are not searched for, and else None is the answer. It takes
+    /// no memory. Asked: the offset is at most the length.
     pub fn scope_index(
         &self,
         state: &GlobalRuntimeState<H>,
@@ -45,17 +45,17 @@ impl<H: Host> Engine<H> {
         scope_len: usize,
     ) -> Option<usize>
         requires { Fits (offset_in state.now.always_search_scope (out-Expr expr.now)) scope_len }
-        ensures { result ≡ place_at (offset_in state.now.always_search_scope (out-Expr expr.now)) scope_len }
+        ensures { result ≡ index_at_offset (offset_in state.now.always_search_scope (out-Expr expr.now)) scope_len }
     {
         scope_index(state, expr, scope_len)
     }
 
-    /// The place of the variable that an expression names: where it has an offset and variables are not
-    /// searched for, the entry there, whatever its name, and else the newest entry of the name. A name that
-    /// no entry has means a constant of the engine's global modules, of which a copy is found, or else the first
-    /// function of the libraries that has it: a temporary, beside a place of the scope that holds nothing
-    /// (`Scope::spare_mut`). Ports upstream's `search_scope_only`; asked for a variable without a path alone,
-    /// whose offset is at most the length.
+    /// Finds the place of the variable that an expression names. Where it has an offset and variables are not
+    /// searched for, that is the entry there, whatever its name, and else the newest entry of the name. A
+    /// name that no entry has means a constant of the engine's global modules, of which a copy is found, or
+    /// else the first function of the libraries that has it: a temporary, beside a place of the scope that no
+    /// variable has (`Scope::spare_mut`). Ports upstream's `search_scope_only`; asked for a variable without
+    /// a path alone, whose offset is at most the length.
     ///
     /// The place of a variable is the value that `crate::eval::search::variable_mut` lends, whose clause
     /// `writes_back` tells what becomes of the scope: behind the engine no clause here repeats it.
@@ -101,10 +101,10 @@ impl<H: Host> Engine<H> {
         })
     }
 
-    /// The place of a variable, behind a path or not. Without a path it is found as `search_scope_only` says; behind one it
-    /// means a constant of the module that the path leads to, of which a copy is found that may not be written: a
-    /// temporary, beside a place of the scope that holds nothing. Ports upstream's `search_namespace`; asked for a variable
-    /// alone, whose offset is at most the length.
+    /// Finds the place of a variable, behind a path or not. Without a path it is found as `search_scope_only`
+    /// says; behind one it means a constant of the module that the path leads to, of which a copy is found
+    /// that may not be written: a temporary, beside a place of the scope that no variable has. Ports
+    /// upstream's `search_namespace`; asked for a variable alone, whose offset is at most the length.
     ///
     /// # Errors
     /// Those of `search_scope_only`. At the path: `ErrorModuleNotFound` where nothing has its first name, and
@@ -142,10 +142,10 @@ impl<H: Host> Engine<H> {
         self.search_scope_only(alloc, global, caches, table, scope, this, expr)
     }
 
-    /// The module at the root of a path: where the path has an offset and variables are not searched for, that of the
-    /// import there, whatever its name; and else that of the newest import of the name, or the engine's module of that name.
-    /// It takes no memory. Ports upstream's `search_imports`; asked for a path that is not empty, whose offset is at most
-    /// the number of imports.
+    /// Finds the module at the root of a path. Where the path has an offset and variables are not searched
+    /// for, it is that of the import there, whatever its name; and else that of the newest import of the
+    /// name, or the engine's module of that name. It takes no memory. Ports upstream's `search_imports`;
+    /// asked for a path that is not empty, whose offset is at most the number of imports.
     pub fn search_imports<'m>(
         &'m self,
         global: &'m GlobalRuntimeState<H>,
@@ -165,7 +165,7 @@ impl<H: Host> Engine<H> {
         find_root(imports, &self.global_sub_modules, root.get().as_str())
     }
 
-    /// The value of an expression, charged first at its position. Ports upstream's `eval_expr`.
+    /// Evaluates an expression, charged first at its position. Ports upstream's `eval_expr`.
     ///
     /// The expression is a part of a checked tree, above the variables that the scope has there.
     /// `this` is taken out of its place meanwhile, and put back on every way out.
@@ -181,10 +181,10 @@ impl<H: Host> Engine<H> {
     ) -> Result<Dynamic<H>, EvalAltResult<H>>
         requires resolves { AgreesAt global.old scope.old (resolves_expr expr.now) }
         ensures ends { EndsAs (under H.name_of self.now T.natives) (Eval expr.now)
-            (state_of (T.state table.old) global.old scope.old (holding (was this.entry))) result
+            (state_of (T.state table.old) global.old scope.old (holding (lent_value this.entry))) result
             (state_of (T.state table.new) global.new scope.new (holding (left_by this.exit))) }
         ensures kept { Kept (under H.name_of self.now T.natives)
-            (state_of (T.state table.old) global.old scope.old (holding (was this.entry)))
+            (state_of (T.state table.old) global.old scope.old (holding (lent_value this.entry)))
             (state_of (T.state table.new) global.new scope.new (holding (left_by this.exit))) }
         ensures names { names_in scope.new ≡ names_in scope.old }
         ensures caches { _caches.new ≡ _caches.old }
@@ -194,10 +194,10 @@ impl<H: Host> Engine<H> {
         let evaluator = self.evaluator(alloc, &limits);
         match this {
             Some(place) => {
-                let mut run = take_with(alloc, global, scope, place);
+                let mut run = take_with_this(alloc, global, scope, place);
                 let done = evaluator.run_expr(&mut run, table, expr);
                 let result = finish(done, &mut run.value, &mut run.error);
-                give_back_with(run, global, scope, place);
+                give_back_with_this(run, global, scope, place);
                 result
             }
             None => {

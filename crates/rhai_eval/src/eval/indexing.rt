@@ -9,11 +9,11 @@ ghost use Rattle.rhai_machine.specs.language.Members.{get_core, get_item, set_co
 ghost use Rattle.rhai_machine.specs.language.Runs.{Runs};
 ghost use Rattle.rhai_machine.specs.language.Setting.{rules_of};
 ghost use Rattle.rhai_steps.specs.States.{state_of};
-ghost use Rattle.rhai_calls.specs.Marks.{MarkedRuns};
-ghost use Rattle.rhai_steps.specs.Marked.{lending};
+ghost use Rattle.rhai_calls.specs.ToldChanges.{MarkedRuns};
+ghost use Rattle.rhai_steps.specs.OnFocus.{lending};
 ghost use Rattle.rhai_index.specs.Indexes.{Indexes};
 ghost use Rattle.rhai_laws.specs.Kept.{Kept};
-ghost use Rattle.rhai_eval.specs.Ends.{EndsFrom, EndsMarked};
+ghost use Rattle.rhai_eval.specs.Ends.{EndsFrom, EndsChanged};
 ghost use Rattle.rhai_eval.specs.Indexing.{access, item_by};
 ghost use Rattle.rhai_eval.specs.Places.{with_place};
 ghost use Rattle.rhai_eval.specs.States.{limits_of, under};
@@ -35,7 +35,7 @@ use rhai_values::base::value::{Dynamic, Host};
 use std::alloc::Global;
 use std::mem::replace;
 
-/// The first value of a list.
+/// Takes the first value out of a list.
 fn first_of<H: Host>(items: &mut Few<Dynamic<H>>) -> Dynamic<H>
     requires { 0 < length items.old }
     ensures { slice_get items.old 0 ≡ Some result }
@@ -43,7 +43,7 @@ fn first_of<H: Host>(items: &mut Few<Dynamic<H>>) -> Dynamic<H>
     items.remove(0)
 }
 
-/// The first two values of a list.
+/// Takes the first two values out of a list.
 fn both_of<H: Host>(items: &mut Few<Dynamic<H>>) -> (Dynamic<H>, Dynamic<H>)
     requires { 1 < length items.old }
     ensures first { slice_get items.old 0 ≡ Some result.0 }
@@ -53,7 +53,7 @@ fn both_of<H: Host>(items: &mut Few<Dynamic<H>>) -> (Dynamic<H>, Dynamic<H>)
     (first_of(items), second)
 }
 
-/// A list of two values. Where there is no memory they come back.
+/// Makes a list of two values. Where there is no memory they come back.
 fn list_of_both<H: Host>(
     alloc: Global,
     first: Dynamic<H>,
@@ -88,7 +88,7 @@ fn put_both<H: Host>(both: (Dynamic<H>, Dynamic<H>), index: &mut Dynamic<H>, new
     let_go(replace(new, second));
 }
 
-/// Asks the indexer that gets, which the object is lent to. A constant is kept from one that is not pure.
+/// Asks the indexer that reads, which `object` is lent to. A constant is kept from one that is not pure.
 fn ask_get<H: Host, T: NativeTable<H>>(
     limits: &Limits,
     alloc: Global,
@@ -132,7 +132,7 @@ fn ask_get<H: Host, T: NativeTable<H>>(
     }
 }
 
-/// Asks the indexer that sets, which the object is lent to.
+/// Asks the indexer that writes, which `object` is lent to.
 fn ask_set<H: Host, T: NativeTable<H>>(
     limits: &Limits,
     alloc: Global,
@@ -188,12 +188,12 @@ fn ask_set<H: Host, T: NativeTable<H>>(
 }
 
 impl<H: Host> Engine<H> {
-    /// The target that an index leads to, charged first without a position. Where the object is of
-    /// a kind that is not indexed here and indexers are allowed, the host's indexer is charged at
-    /// the operator and called with the object and the index, and its value is a temporary; what
-    /// the target borrows then is the object as the indexer left it. Ports upstream's
-    /// `get_indexed_mut`. Asked: the object is no handle of a cell. What becomes of the object is
-    /// told by `rhai_index::indexing::get_indexed_mut`, of which this is a call.
+    /// Finds the target that an index leads to, charged first without a position. Where the value that is
+    /// indexed is of a kind that is not indexed here and indexers are allowed, the host's indexer is charged
+    /// at the operator and called with the value and the index, and what it gives is a temporary; what the
+    /// target borrows then is the value as the indexer left it. Ports upstream's `get_indexed_mut`. Asked:
+    /// the value that is indexed is no handle of a cell. What becomes of it is told by
+    /// `rhai_index::indexing::get_indexed_mut`, of which this is a call.
     ///
     /// # Errors
     /// `ErrorTooManyOperations` where the count has reached the limit: without a position, and
@@ -238,10 +238,9 @@ impl<H: Host> Engine<H> {
         )
     }
 
-    /// Charges a call of the indexer that reads at the operator, and calls it. An object that is a
-    /// handle of a cell stands for the cell's value, and the cell is held so long. What the indexer
-    /// leaves of the object stands there on every way out, and the index stays. Ports upstream's
-    /// `call_indexer_get`.
+    /// Charges a call of the indexer that reads at the operator, and calls it. An `object` that is a handle
+    /// of a cell stands for the cell's value, and the cell is held so long. What the indexer leaves of
+    /// `object` stands there on every way out, and the index stays. Ports upstream's `call_indexer_get`.
     ///
     /// # Errors
     /// At the operator: `ErrorTooManyOperations` where the count has reached the limit, and then
@@ -277,12 +276,11 @@ impl<H: Host> Engine<H> {
         result
     }
 
-    /// Charges a call of the indexer that writes at the operator, and calls it. Answers its value
-    /// too, and whether it may have changed the object. An object that is a handle of a cell stands
-    /// for the cell's value, and the cell is held so long. What the indexer leaves of the object stands
-    /// there on every way out, and the index and the new value stay. Ports upstream's
-    /// `call_indexer_set`; `is_ref_mut` says that the object is a place of the caller, and a constant
-    /// there is kept from an indexer that is not pure.
+    /// Charges a call of the indexer that writes at the operator, and calls it. Answers its value too, and
+    /// whether it may have changed `object`. An `object` that is a handle of a cell stands for the cell's
+    /// value, and the cell is held so long. What the indexer leaves of `object` stands there on every way
+    /// out, and the index and the new value stay. Ports upstream's `call_indexer_set`; `is_ref_mut` says that
+    /// `object` is a place of the caller, and a constant there is kept from an indexer that is not pure.
     ///
     /// # Errors
     /// Those of `call_indexer_get`; a constant is refused where it is a place of the caller.
@@ -298,7 +296,7 @@ impl<H: Host> Engine<H> {
         is_ref_mut: bool,
         pos: Position,
     ) -> Result<(Dynamic<H>, bool), EvalAltResult<H>>
-        ensures ends { (scope : _) (this : _) → EndsMarked (under H.name_of self.now T.natives)
+        ensures ends { (scope : _) (this : _) → EndsChanged (under H.name_of self.now T.natives)
             (set_core false (item_by index.old pos is_ref_mut) new_val.old)
             (state_of (T.state table.old) global.old scope (with_place this (Some object.old))) result
             (state_of (T.state table.new) global.new scope (with_place this (Some object.new))) }

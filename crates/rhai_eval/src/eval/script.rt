@@ -9,7 +9,7 @@ ghost use Rattle.rhai_machine.specs.language.Script.{EndsAsMachine, AgreesWithHi
 ghost use Rattle.rhai_machine.specs.language.Script.{end_of_script};
 ghost use Rattle.rhai_steps.specs.States.{holding, state_of};
 ghost use Rattle.rhai_laws.specs.Kept.{Grown};
-ghost use Rattle.rhai_cycle.specs.Memory.{may_ask};
+ghost use Rattle.rhai_eval_core.specs.Memory.{may_ask};
 ghost use Rattle.rhai_eval.specs.States.{under};
 
 use crate::engine::Engine;
@@ -20,7 +20,7 @@ use rhai_state::error::EvalAltResult;
 use rhai_state::scope::Scope;
 use rhai_state::state::GlobalRuntimeState;
 use rhai_state::table::NativeTable;
-use rhai_steps::outcome::top;
+use rhai_steps::outcome::end_script;
 use rhai_tree::checked::CheckedTree;
 use rhai_values::base::value::{Dynamic, Host};
 use std::alloc::Global;
@@ -71,6 +71,6 @@ impl<H: Host> Engine<H> {
         let done = evaluator.run_stmt_block(&mut run, table, tree.statements(), false);
         let outcome = finish(done, &mut run.value, &mut run.error);
         give_back(run, global, scope);
-        top(outcome, map_exit_to_return_value)
+        end_script(outcome, map_exit_to_return_value)
     }
 }

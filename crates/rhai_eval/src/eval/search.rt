@@ -23,15 +23,14 @@ use rhai_tree::expr::Expr;
 use rhai_values::base::value::{Dynamic, Host};
 use std::alloc::Global;
 
-/// The value of the variable that an expression names, to be changed in place: where it has an offset
-/// and variables are not searched for, that of the entry there, whatever its name, and else of the
-/// newest of the name. Of a variable `Engine::search_scope_only` is this with the value as a target. Asked
-/// for a variable alone, whose offset is at most the scope's length.
+/// Lends the value of the variable that an expression names, to be changed where it stands. Where it has an
+/// offset and variables are not searched for, it is that of the entry there, whatever its name, and else of
+/// the newest of the name. Of a variable `Engine::search_scope_only` is this with the value as a target.
+/// Asked for a variable alone, whose offset is at most the scope's length.
 ///
-/// The scope comes first, so that a clause can tell what becomes of it: when the borrow ends, what
-/// was written stands at the entry that was found, and every other entry is as it was. Of a variable
-/// that is the handle of a cell the handle is lent, and not what the cell holds. At an error the
-/// scope is as it was.
+/// The scope comes first, so that a clause can tell what becomes of it: when the borrow ends, what was
+/// written stands at the entry that was found, and every other entry is as it was. Of a variable that is the
+/// handle of a cell the handle is lent, and not the value of the cell. At an error the scope is as it was.
 ///
 /// # Errors
 /// `ErrorVariableNotFound` where there is none, and `ErrorDataRace` where it is the handle of a cell
@@ -67,7 +66,7 @@ pub fn variable_mut<'s, H: Host>(
     }
 }
 
-/// The value of the variable that an expression names, if the scope has it.
+/// Reads the value of the variable that an expression names, if the scope has it.
 pub(crate) fn seen_variable<'s, H: Host>(
     scope: &'s Scope<H>,
     global: &GlobalRuntimeState<H>,
@@ -89,7 +88,7 @@ pub(crate) fn seen_variable<'s, H: Host>(
     }
 }
 
-/// Whether an expression is a variable behind a path.
+/// Tells whether an expression is a variable behind a path.
 pub(crate) fn is_behind_path(expr: &Expr) -> bool
     ensures behind { IsTrue result → is_variable (out-Expr expr.now) ≡ false }
     ensures alone { result ≡ false → names_variable (out-Expr expr.now) ≡ true →
@@ -101,7 +100,8 @@ pub(crate) fn is_behind_path(expr: &Expr) -> bool
     }
 }
 
-/// What a name means that no variable of the scope has, as `rhai_steps::variables::read_beside` reads it.
+/// Reads what a name means that no variable of the scope has, as `rhai_steps::variables::read_beside` reads
+/// it.
 ///
 /// # Errors
 /// `ErrorVariableNotFound` at the variable where there is no such thing.

@@ -5,7 +5,7 @@ ghost use Rattle.std.specs.Prelude.{◌≡◌, ◌≤◌, OnOk, IsTrue, Some, le
 ghost use Rattle.rhai_tree.specs.Frame.{resolves_stmt, all_resolve};
 ghost use Rattle.rhai_tree.specs.Names.{Begins};
 ghost use Rattle.rhai_values.specs.Cells.{IsNoHandle};
-ghost use Rattle.rhai_state.specs.Native.{left_by, was};
+ghost use Rattle.rhai_state.specs.Native.{left_by, lent_value};
 ghost use Rattle.rhai_state.specs.Scope.{names_in};
 ghost use Rattle.rhai_machine.specs.language.Frames.{Exec, Enter};
 ghost use Rattle.rhai_machine.specs.language.Setting.{rules_of};
@@ -15,8 +15,8 @@ ghost use Rattle.rhai_steps.specs.Agreement.{AgreesAt, frame_of, passes};
 ghost use Rattle.rhai_steps.specs.States.{holding, state_of};
 ghost use Rattle.rhai_tree.specs.declared.expr.Stmt.{out-Stmt};
 ghost use Rattle.rhai_laws.specs.Kept.{Grown, Kept, declares, is_import};
-ghost use Rattle.rhai_steps.specs.Marked.{lending};
-ghost use Rattle.rhai_methods.specs.Targets.{ComesBack, StaysAlike, stands};
+ghost use Rattle.rhai_steps.specs.OnFocus.{lending};
+ghost use Rattle.rhai_methods.specs.Targets.{ComesBack, StaysAlike, value_walked_on};
 ghost use Rattle.rhai_chains.specs.Chains.{FollowsFrom};
 ghost use Rattle.rhai_eval.specs.Assigned.{assigned, target_assigned, value_assigned, without_value};
 ghost use Rattle.rhai_eval.specs.Ends.{EndsAlone, EndsAs, EndsAssigned};
@@ -24,7 +24,7 @@ ghost use Rattle.rhai_eval.specs.Places.{with_place};
 ghost use Rattle.rhai_eval.specs.States.{under};
 
 use crate::engine::Engine;
-use crate::this::{give_back_with, take_with};
+use crate::this::{give_back_with_this, take_with_this};
 use rhai_assign::focus::assign_focus;
 use rhai_context::ends::finish;
 use rhai_context::{give_back, take};
@@ -41,7 +41,7 @@ use rhai_tree::position::Position;
 use rhai_values::base::value::{Dynamic, Host};
 use std::alloc::Global;
 
-/// What an assignment comes to, without the value that it answers.
+/// Leaves out the value that an assignment answers, and keeps its error.
 fn without_answer<H: Host>(
     outcome: Result<Dynamic<H>, EvalAltResult<H>>,
 ) -> Result<(), EvalAltResult<H>>
@@ -56,7 +56,7 @@ fn without_answer<H: Host>(
     }
 }
 
-/// Assigns to a value in its place.
+/// Assigns to a value where it stands.
 fn assign_value<H: Host, T: NativeTable<H>>(
     limits: &Limits,
     fast: bool,
@@ -115,9 +115,9 @@ fn assign_target<H: Host, T: NativeTable<H>>(
         FollowsFrom rules (target_assigned rules.setting root.now (record { op = op; value = value })
         target.old.part target.old.at.now)
         (state_of (T.state table.old) global.old scope
-        (lending held (stands target.old.part target.old.at.now)))
+        (lending held (value_walked_on target.old.part target.old.at.now)))
         (assigned result) (state_of (T.state table.new) global.new scope
-        (lending held (stands target.new.part target.new.at.now))) }
+        (lending held (value_walked_on target.new.part target.new.at.now))) }
     ensures shows { (offer : _) (scope : _) (held : _) → offer.fast_operators ≡ fast → HasMemory result →
         let rules = rules_of limits.now H.name_of offer T.natives in
         EndsAlone rules (value_assigned rules.setting root.now (record { op = op; value = value }))
@@ -142,23 +142,23 @@ fn assign_target<H: Host, T: NativeTable<H>>(
 }
 
 impl<H: Host> Engine<H> {
-    /// Assigns to what a target shows: a value as it is, or by an operator, for which the built-in is tried
-    /// first under fast operators, then the native `op=`, which may change the value in its place, and
+    /// Assigns to what a target shows: a value as it is, or by an operator. For that the built-in is tried
+    /// first under fast operators, then the native `op=`, which may change the value where it stands, and
     /// where that is missing the native `op`, which gives the new one. A place or a temporary that is a
     /// handle stands for the value of its cell. A part is put back into its place; after an error the place
-    /// of a part is as it was. The root of the chain tells which constant it is that may not be assigned
-    /// to. What was assigned to is not measured here. Ports upstream's `eval_op_assignment`.
+    /// of a part is as it was. The root of the chain tells which constant it is that may not be assigned to.
+    /// What was assigned to is not measured here. Ports upstream's `eval_op_assignment`.
     ///
     /// A part that its place does not have is assigned to, and put back nowhere. The target shows afterwards
     /// what the assignment made of what it showed. Asked: a value to assign that is no handle of a cell. No
     /// function of a script is called.
     ///
     /// # Errors
-    /// At the root's start: `ErrorAssignmentToConstant` for a constant, and `ErrorDataRace` for the handle
-    /// of a cell that is held. At the operator: what the operator answers, with `ErrorTooManyOperations`
-    /// where the count has reached the limit, `ErrorDataTooLarge` for what it gave, and
-    /// `ErrorMismatchDataType` for a part that has become of another type, whose place then stays. At the
-    /// root `ErrorDataTooLarge` for what a native left in the target, or gave for it.
+    /// At the root's start: `ErrorAssignmentToConstant` for a constant, and `ErrorDataRace` for the handle of
+    /// a cell that is held. At the operator: what the operator answers, with `ErrorTooManyOperations` where
+    /// the count has reached the limit, `ErrorDataTooLarge` for what it gave, and `ErrorMismatchDataType` for
+    /// a part that has become of another type, whose place then stays. At the root `ErrorDataTooLarge` for
+    /// what a native left of what the target shows, or gave for it.
     pub fn eval_op_assignment<T: NativeTable<H>>(
         &self,
         alloc: Global,
@@ -175,14 +175,14 @@ impl<H: Host> Engine<H> {
             EndsAssigned rules (target_assigned rules.setting root.now
             (record { op = op_info.now; value = new_val }) target.old.part target.old.at.now)
             (state_of (T.state table.old) global.old scope
-            (with_place this (Some (stands target.old.part target.old.at.now)))) result
+            (with_place this (Some (value_walked_on target.old.part target.old.at.now)))) result
             (state_of (T.state table.new) global.new scope
-            (with_place this (Some (stands target.new.part target.new.at.now)))) }
+            (with_place this (Some (value_walked_on target.new.part target.new.at.now)))) }
         ensures kept { (scope : _) (this : _) → Kept (under H.name_of self.now T.natives)
             (state_of (T.state table.old) global.old scope
-            (with_place this (Some (stands target.old.part target.old.at.now))))
+            (with_place this (Some (value_walked_on target.old.part target.old.at.now))))
             (state_of (T.state table.new) global.new scope
-            (with_place this (Some (stands target.new.part target.new.at.now)))) }
+            (with_place this (Some (value_walked_on target.new.part target.new.at.now)))) }
         ensures same_reference { target.new.at.ghost_name ≡ target.old.at.ghost_name }
         ensures part { StaysAlike target.old.part target.old.at.now target.new.part target.new.at.now }
         ensures shows { (scope : _) (this : _) → HasMemory result →
@@ -207,8 +207,8 @@ impl<H: Host> Engine<H> {
         result
     }
 
-    /// What a statement does, charged first at its position; in a list that restores, `rewind_scope`
-    /// is set. Ports upstream's `eval_stmt`.
+    /// Runs a statement, charged first at its position. In a list that restores, `rewind_scope` is set. Ports
+    /// upstream's `eval_stmt`.
     ///
     /// The statement is a part of a checked tree, above the variables that the scope has there.
     /// `this` is taken out of its place meanwhile, and put back on every way out.
@@ -225,10 +225,10 @@ impl<H: Host> Engine<H> {
     ) -> Result<Dynamic<H>, EvalAltResult<H>>
         requires resolves { AgreesAt global.old scope.old (passes (resolves_stmt stmt.now)) }
         ensures ends { EndsAs (under H.name_of self.now T.natives) (Exec stmt.now rewind_scope)
-            (state_of (T.state table.old) global.old scope.old (holding (was this.entry))) result
+            (state_of (T.state table.old) global.old scope.old (holding (lent_value this.entry))) result
             (state_of (T.state table.new) global.new scope.new (holding (left_by this.exit))) }
         ensures kept { Grown (under H.name_of self.now T.natives)
-            (state_of (T.state table.old) global.old scope.old (holding (was this.entry)))
+            (state_of (T.state table.old) global.old scope.old (holding (lent_value this.entry)))
             (state_of (T.state table.new) global.new scope.new (holding (left_by this.exit))) }
         ensures begins { Begins (names_in scope.old) (names_in scope.new) }
         ensures names { OnOk result (names_in scope.new
@@ -244,10 +244,10 @@ impl<H: Host> Engine<H> {
         let evaluator = self.evaluator(alloc, &limits);
         match this {
             Some(place) => {
-                let mut run = take_with(alloc, global, scope, place);
+                let mut run = take_with_this(alloc, global, scope, place);
                 let done = evaluator.run_stmt(&mut run, table, stmt, rewind_scope);
                 let result = finish(done, &mut run.value, &mut run.error);
-                give_back_with(run, global, scope, place);
+                give_back_with_this(run, global, scope, place);
                 result
             }
             None => {
@@ -260,9 +260,9 @@ impl<H: Host> Engine<H> {
         }
     }
 
-    /// What a list of statements does, charged statement by statement. With `restore_orig_state` the
-    /// variables that it added, the imports and the scope level are taken back on every way out, want
-    /// of memory included. Ports upstream's `eval_stmt_block`.
+    /// Runs a list of statements, charged statement by statement. With `restore_orig_state` the variables
+    /// that it added, the imports and the scope level are taken back on every way out, also where memory runs
+    /// out. Ports upstream's `eval_stmt_block`.
     ///
     /// The statements are a part of a checked tree, above the variables that the scope has there.
     /// `this` is taken out of its place meanwhile, and put back on every way out.
@@ -280,10 +280,10 @@ impl<H: Host> Engine<H> {
         requires resolves { AgreesAt global.old scope.old
             (passes (all_resolve (map resolves_stmt statements.now))) }
         ensures ends { EndsAs (under H.name_of self.now T.natives) (Enter statements.now restore_orig_state)
-            (state_of (T.state table.old) global.old scope.old (holding (was this.entry))) result
+            (state_of (T.state table.old) global.old scope.old (holding (lent_value this.entry))) result
             (state_of (T.state table.new) global.new scope.new (holding (left_by this.exit))) }
         ensures kept { Grown (under H.name_of self.now T.natives)
-            (state_of (T.state table.old) global.old scope.old (holding (was this.entry)))
+            (state_of (T.state table.old) global.old scope.old (holding (lent_value this.entry)))
             (state_of (T.state table.new) global.new scope.new (holding (left_by this.exit))) }
         ensures begins { Begins (names_in scope.old) (names_in scope.new) }
         ensures restores { IsTrue restore_orig_state → names_in scope.new ≡ names_in scope.old }
@@ -297,7 +297,7 @@ impl<H: Host> Engine<H> {
         let evaluator = self.evaluator(alloc, &limits);
         match this {
             Some(place) => {
-                let mut run = take_with(alloc, global, scope, place);
+                let mut run = take_with_this(alloc, global, scope, place);
                 let done = evaluator.run_stmt_block(
                     &mut run,
                     table,
@@ -305,7 +305,7 @@ impl<H: Host> Engine<H> {
                     restore_orig_state,
                 );
                 let result = finish(done, &mut run.value, &mut run.error);
-                give_back_with(run, global, scope, place);
+                give_back_with_this(run, global, scope, place);
                 result
             }
             None => {

@@ -27,7 +27,8 @@ pub(crate) fn empty<H: Host>(places: &mut [Dynamic<H>])
     }
 }
 
-/// Empties the places of the arguments of a call that is over, but for that of a first one that was lent.
+/// Empties the places of the arguments of a call that is over. That of a first one that was lent stays as it
+/// is.
 pub(crate) fn empty_all<H: Host>(first: &mut Dynamic<H>, rest: &mut [Dynamic<H>], is_lent: bool)
     ensures lent { is_lent ≡ true → first.new ≡ first.old }
     ensures taken { is_lent ≡ false → first.new ≡ unit }

@@ -1,5 +1,5 @@
 //! Calls of a part of a tree: operators, keywords and pointers. Ports upstream's `func/call.rs`; the
-//! contracts speak of the machine's runs, of specs/Calls.antt and of `rhai_cycle`'s.
+//! contracts speak of the machine's runs, of specs/ArgumentValues.antt and of `rhai_eval_core`'s.
 
 ghost use Rattle.std.specs.Prelude.{◌≡◌, IsTrue, IfOk, None, false, map};
 ghost use Rattle.std.specs.Option.{option_copied};
@@ -8,19 +8,19 @@ ghost use Rattle.rhai_tree.specs.Frame.{all_resolve_exprs, resolves_expr, resolv
 ghost use Rattle.rhai_tree.specs.declared.expr.Expr.TheOpen as layer;
 ghost use Rattle.rhai_tree.specs.Positions.{start_of};
 ghost use Rattle.rhai_machine.specs.language.Frames.{Argument, OpenExpr};
-ghost use Rattle.rhai_state.specs.Native.{left_by, was};
+ghost use Rattle.rhai_state.specs.Native.{left_by, lent_value};
 ghost use Rattle.rhai_state.specs.Scope.{names_in};
 ghost use Rattle.rhai_steps.specs.Agreement.{AgreesAt};
 ghost use Rattle.rhai_steps.specs.States.{holding, state_of};
 ghost use Rattle.rhai_laws.specs.Kept.{Kept};
 ghost use Rattle.rhai_eval.specs.Ends.{EndsAs, EndsFrom};
-ghost use Rattle.rhai_pointers.specs.Leading.{all_args};
-ghost use Rattle.rhai_cycle.specs.Calls.{called, in_parts};
-ghost use Rattle.rhai_eval.specs.Calls.{value_with};
+ghost use Rattle.rhai_call_forms.specs.Leading.{all_args};
+ghost use Rattle.rhai_eval_core.specs.Calls.{called, in_parts};
+ghost use Rattle.rhai_eval.specs.ArgumentValues.{value_with};
 ghost use Rattle.rhai_eval.specs.States.{under};
 
 use crate::engine::Engine;
-use crate::this::{give_back_with, take_with};
+use crate::this::{give_back_with_this, take_with_this};
 use rhai_context::ends::finish;
 use rhai_context::{give_back, take};
 use rhai_state::caches::Caches;
@@ -34,8 +34,8 @@ use rhai_tree::token::Token;
 use rhai_values::base::value::{Dynamic, Host};
 use std::alloc::Global;
 
-/// A value with where it starts.
-fn starting_at<H: Host>(
+/// Pairs a value with where it starts.
+fn with_start<H: Host>(
     outcome: Result<Dynamic<H>, EvalAltResult<H>>,
     start: Position,
 ) -> Result<(Dynamic<H>, Position), EvalAltResult<H>>
@@ -49,7 +49,7 @@ fn starting_at<H: Host>(
 }
 
 impl<H: Host> Engine<H> {
-    /// What a call comes to, whose charge is made already: an operator on its operands, a keyword, or a
+    /// Evaluates a call whose charge is made already. It calls an operator on its operands, a keyword, or a
     /// function of a script or a native by its name. Ports upstream's `eval_fn_call_expr`.
     ///
     /// The call is a part of a checked tree, above the variables that the scope has there.
@@ -68,10 +68,10 @@ impl<H: Host> Engine<H> {
         requires resolves { AgreesAt global.old scope.old (resolves_call expr.now pos) }
         ensures ends { EndsAs (under H.name_of self.now T.natives)
             (OpenExpr (layer.Expr::FnCall expr.now pos))
-            (state_of (T.state table.old) global.old scope.old (holding (was this.entry))) result
+            (state_of (T.state table.old) global.old scope.old (holding (lent_value this.entry))) result
             (state_of (T.state table.new) global.new scope.new (holding (left_by this.exit))) }
         ensures kept { Kept (under H.name_of self.now T.natives)
-            (state_of (T.state table.old) global.old scope.old (holding (was this.entry)))
+            (state_of (T.state table.old) global.old scope.old (holding (lent_value this.entry)))
             (state_of (T.state table.new) global.new scope.new (holding (left_by this.exit))) }
         ensures names { names_in scope.new ≡ names_in scope.old }
         ensures caches { _caches.new ≡ _caches.old }
@@ -81,10 +81,10 @@ impl<H: Host> Engine<H> {
         let evaluator = self.evaluator(alloc, &limits);
         match this {
             Some(place) => {
-                let mut run = take_with(alloc, global, scope, place);
+                let mut run = take_with_this(alloc, global, scope, place);
                 let done = evaluator.run_fn_call_expr(&mut run, table, expr, pos);
                 let result = finish(done, &mut run.value, &mut run.error);
-                give_back_with(run, global, scope, place);
+                give_back_with_this(run, global, scope, place);
                 result
             }
             None => {
@@ -97,7 +97,7 @@ impl<H: Host> Engine<H> {
         }
     }
 
-    /// The value of an argument, and where it starts. A literal is charged at its start, and anything else
+    /// Evaluates an argument, and tells where it starts. A literal is charged at its start, and anything else
     /// as an expression. Ports upstream's `get_arg_value`.
     ///
     /// The argument is a part of a checked tree, above the variables that the scope has there.
@@ -115,10 +115,10 @@ impl<H: Host> Engine<H> {
         requires resolves { AgreesAt global.old scope.old (resolves_expr arg_expr.now) }
         ensures position { IfOk result (λ pair. pair.1 ≡ start_of arg_expr.now) }
         ensures ends { EndsAs (under H.name_of self.now T.natives) (Argument arg_expr.now)
-            (state_of (T.state table.old) global.old scope.old (holding (was this.entry))) (value_with result)
+            (state_of (T.state table.old) global.old scope.old (holding (lent_value this.entry))) (value_with result)
             (state_of (T.state table.new) global.new scope.new (holding (left_by this.exit))) }
         ensures kept { Kept (under H.name_of self.now T.natives)
-            (state_of (T.state table.old) global.old scope.old (holding (was this.entry)))
+            (state_of (T.state table.old) global.old scope.old (holding (lent_value this.entry)))
             (state_of (T.state table.new) global.new scope.new (holding (left_by this.exit))) }
         ensures names { names_in scope.new ≡ names_in scope.old }
         ensures caches { _caches.new ≡ _caches.old }
@@ -128,25 +128,25 @@ impl<H: Host> Engine<H> {
         let evaluator = self.evaluator(alloc, &limits);
         match this {
             Some(place) => {
-                let mut run = take_with(alloc, global, scope, place);
+                let mut run = take_with_this(alloc, global, scope, place);
                 let done = evaluator.run_arg(&mut run, table, arg_expr);
                 let result = finish(done, &mut run.value, &mut run.error);
-                give_back_with(run, global, scope, place);
-                starting_at(result, arg_expr.start_position())
+                give_back_with_this(run, global, scope, place);
+                with_start(result, arg_expr.start_position())
             }
             None => {
                 let mut run = take(alloc, global, scope);
                 let done = evaluator.run_arg(&mut run, table, arg_expr);
                 let result = finish(done, &mut run.value, &mut run.error);
                 give_back(run, global, scope);
-                starting_at(result, arg_expr.start_position())
+                with_start(result, arg_expr.start_position())
             }
         }
     }
 
-    /// What a call of a function comes to, whose charge is made already: a keyword, or a function of a script
-    /// or a native by its name. Its first argument stands apart; where there is none the others are not read.
-    /// Ports upstream's `make_function_call`.
+    /// Calls a keyword, or a function of a script or a native by its name. The charge is made already. Its
+    /// first argument stands apart; where there is none the others are not read. Ports upstream's
+    /// `make_function_call`.
     ///
     /// The arguments are parts of a checked tree, above the variables that the scope has there.
     /// `this` is taken out of its place meanwhile, and put back on every way out.
@@ -170,10 +170,10 @@ impl<H: Host> Engine<H> {
         ensures ends { EndsFrom (under H.name_of self.now T.natives)
             (called (record { name = fn_name.now; token = option_copied op_token.entry; at = pos })
             (all_args (option_copied first_arg.entry) args_expr.now) capture_parent_scope)
-            (state_of (T.state table.old) global.old scope.old (holding (was this.entry))) result
+            (state_of (T.state table.old) global.old scope.old (holding (lent_value this.entry))) result
             (state_of (T.state table.new) global.new scope.new (holding (left_by this.exit))) }
         ensures kept { Kept (under H.name_of self.now T.natives)
-            (state_of (T.state table.old) global.old scope.old (holding (was this.entry)))
+            (state_of (T.state table.old) global.old scope.old (holding (lent_value this.entry)))
             (state_of (T.state table.new) global.new scope.new (holding (left_by this.exit))) }
         ensures names { names_in scope.new ≡ names_in scope.old }
         ensures caches { _caches.new ≡ _caches.old }
@@ -185,12 +185,12 @@ impl<H: Host> Engine<H> {
         let evaluator = self.evaluator(alloc, &limits);
         match this {
             Some(place) => {
-                let mut run = take_with(alloc, global, scope, place);
+                let mut run = take_with_this(alloc, global, scope, place);
                 let done = evaluator.run_call(
                     &mut run, table, fn_name, token, first_arg, args_expr, captures, pos,
                 );
                 let result = finish(done, &mut run.value, &mut run.error);
-                give_back_with(run, global, scope, place);
+                give_back_with_this(run, global, scope, place);
                 result
             }
             None => {
@@ -205,10 +205,10 @@ impl<H: Host> Engine<H> {
         }
     }
 
-    /// What a call behind a path comes to, whose charge is made already: its arguments, and then the public function that
-    /// the path leads to. A variable or `this` that stands first is charged first and read last. A path without a module is
-    /// `ErrorModuleNotFound` at the path, and one without the function `ErrorFunctionNotFound` at the call. Ports upstream's
-    /// `make_qualified_function_call`.
+    /// Evaluates a call behind a path, whose charge is made already. Its arguments come first, and then the
+    /// public function that the path leads to. A variable or `this` that stands first is charged first and
+    /// read last. A path without a module is `ErrorModuleNotFound` at the path, and one without the function
+    /// `ErrorFunctionNotFound` at the call. Ports upstream's `make_qualified_function_call`.
     ///
     /// The arguments are parts of a checked tree, above the variables that the scope has there.
     /// `this` is taken out of its place meanwhile, and put back on every way out.
@@ -229,10 +229,10 @@ impl<H: Host> Engine<H> {
         requires behind { is_unqualified namespace.now.path ≡ false }
         ensures ends { EndsAs (under H.name_of self.now T.natives)
             (OpenExpr (layer.Expr::FnCall (in_parts namespace.now fn_name.now args_expr.now None false) pos))
-            (state_of (T.state table.old) global.old scope.old (holding (was this.entry))) result
+            (state_of (T.state table.old) global.old scope.old (holding (lent_value this.entry))) result
             (state_of (T.state table.new) global.new scope.new (holding (left_by this.exit))) }
         ensures kept { Kept (under H.name_of self.now T.natives)
-            (state_of (T.state table.old) global.old scope.old (holding (was this.entry)))
+            (state_of (T.state table.old) global.old scope.old (holding (lent_value this.entry)))
             (state_of (T.state table.new) global.new scope.new (holding (left_by this.exit))) }
         ensures names { names_in scope.new ≡ names_in scope.old }
         ensures caches { _caches.new ≡ _caches.old }
@@ -242,12 +242,12 @@ impl<H: Host> Engine<H> {
         let evaluator = self.evaluator(alloc, &limits);
         match this {
             Some(place) => {
-                let mut run = take_with(alloc, global, scope, place);
+                let mut run = take_with_this(alloc, global, scope, place);
                 let done = evaluator.run_qualified_call(
                     &mut run, table, namespace, fn_name, args_expr, pos,
                 );
                 let result = finish(done, &mut run.value, &mut run.error);
-                give_back_with(run, global, scope, place);
+                give_back_with_this(run, global, scope, place);
                 result
             }
             None => {

@@ -1,18 +1,18 @@
-//! Methods of scripts that run on the caller's variables. Ports what upstream's `exec_fn_call` does with a scope
-//! and a method's object; the contract speaks of the machine's runs.
+//! Methods of scripts that run on the caller's variables. Ports what upstream's `exec_fn_call` does with a
+//! scope for a method; the contract speaks of the machine's runs.
 
 ghost use Rattle.std.specs.Prelude.{false};
 ghost use Rattle.rhai_machine.specs.language.Frames.{EnterOnFocus};
 ghost use Rattle.rhai_machine.specs.language.Runs.{Runs};
-ghost use Rattle.rhai_steps.specs.Marked.{lending};
+ghost use Rattle.rhai_steps.specs.OnFocus.{lending};
 ghost use Rattle.rhai_steps.specs.States.{state_of};
-ghost use Rattle.rhai_cycle.specs.States.{under as under_what_is_read};
+ghost use Rattle.rhai_eval_core.specs.States.{under as under_what_is_read};
 
 use rhai_bodies::callers::{environ_in, level_below};
 use rhai_calls::dispatch::{is_held, races};
 use rhai_context::Context;
 use rhai_context::ends::finish;
-use rhai_cycle::evaluator::Evaluator;
+use rhai_eval_core::evaluator::Evaluator;
 use rhai_few::Few;
 use rhai_functions::function::Function;
 use rhai_state::error::EvalAltResult;
@@ -26,8 +26,9 @@ use rhai_walk::ways::{step_in, step_out};
 use std::alloc::Global;
 use std::mem::replace;
 
-/// A function of a script on the variables of the run, which has a place of the caller as its `this`: of a handle
-/// it runs on the cell's value, and the cell is held meanwhile. What it adds to the variables goes at its end.
+/// Enters a function of a script on the run's variables, with a place of the caller as its `this`. Of a
+/// handle it runs on the cell's value, and the cell is held meanwhile. What it adds to the variables goes at
+/// its end.
 ///
 /// # Errors
 /// At the call: `ErrorDataRace` where the place is the handle of a held cell, or an argument is one then; and

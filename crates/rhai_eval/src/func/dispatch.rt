@@ -6,34 +6,34 @@ ghost use Rattle.std.specs.Prelude.{is_some, length, not, replicate, true, unwra
 ghost use Rattle.std.specs.Option.{option_copied, option_map};
 ghost use Rattle.rhai_values.specs.Copy.{copy_of};
 ghost use Rattle.rhai_state.specs.Errors.{is_out_of_memory};
-ghost use Rattle.rhai_state.specs.Native.{left_by, was};
+ghost use Rattle.rhai_state.specs.Native.{left_by, lent_value};
 ghost use Rattle.rhai_state.specs.Scope.{names_in};
 ghost use Rattle.rhai_machine.specs.language.Calls.{dispatch_core};
 ghost use Rattle.rhai_machine.specs.language.Frames.{EnterOnFocus};
 ghost use Rattle.rhai_machine.specs.language.State.{Answers};
 ghost use Rattle.rhai_machine.specs.language.Values.{unit_value as unit};
-ghost use Rattle.rhai_calls.specs.Marks.{MarkedRuns};
-ghost use Rattle.rhai_steps.specs.Marked.{lending, RunsFrom};
+ghost use Rattle.rhai_calls.specs.ToldChanges.{MarkedRuns};
+ghost use Rattle.rhai_steps.specs.OnFocus.{lending, RunsFrom};
 ghost use Rattle.rhai_methods.specs.Methods.{IsEntered};
 ghost use Rattle.rhai_methods.specs.declared.calls.MethodCall.TheVariants.{Alone, OnTarget};
 ghost use Rattle.rhai_steps.specs.States.{state_of};
 ghost use Rattle.rhai_laws.specs.Kept.{Kept};
-ghost use Rattle.rhai_eval.specs.Ends.{EndsMarked};
+ghost use Rattle.rhai_eval.specs.Ends.{EndsChanged};
 ghost use Rattle.rhai_eval.specs.Entering.{came_out, ComesOut, ComesTo, IsByItself};
-ghost use Rattle.rhai_eval.specs.Places.{by_name, by_value, left_of, on_place, was_of, with_place};
+ghost use Rattle.rhai_eval.specs.Places.{by_name, by_value, left_of, on_place, loan_start, with_place};
 ghost use Rattle.rhai_eval.specs.States.{under};
 
 use crate::engine::Engine;
 use crate::func::arguments::empty_all;
 use crate::func::captured::enter_with_this;
 use rhai_calls::dispatch::{Dispatched, Seeks, pass_all, pass_call};
-use rhai_calls::native::{Passing, marked};
+use rhai_calls::native::{Passing, tell_changed};
 use rhai_context::ends::finish;
 use rhai_context::{give_back, take};
 use rhai_few::Few;
 use rhai_functions::function::Function;
 use rhai_methods::calls::{MethodCall, on_target};
-use rhai_methods::copies::taken_out;
+use rhai_methods::copies::take_out;
 use rhai_state::caches::Caches;
 use rhai_state::error::EvalAltResult;
 use rhai_state::scope::Scope;
@@ -50,21 +50,22 @@ use std::mem::replace;
 /// What a call by name comes to that enters no method any more.
 #[derive(Drop)]
 enum Outcome<H> {
-    /// It has ended, and a value has its mark.
+    /// It has ended, and a value tells whether the call changed its first argument.
     Ended(Result<(Dynamic<H>, bool), EvalAltResult<H>>),
     /// A function of a script is to be entered by itself, with these arguments.
     Enters(Function<H>, Few<Dynamic<H>>),
 }
 
-/// Whether a constant is kept from a native that is not pure: in a place of the caller, and for a method.
+/// Tells whether a constant is kept from a native that is not pure. It is in a place of the caller, and for a
+/// method.
 fn is_guarded(is_ref_mut: bool, is_method_call: bool) -> bool
     ensures { result ≡ (is_ref_mut || is_method_call) }
 {
     is_ref_mut || is_method_call
 }
 
-/// The first argument of a function that is called by itself: of one in a place of the caller a copy, and any
-/// other is taken out of its place.
+/// Gets the first argument of a function that is called by itself. Of one in a place of the caller it is a
+/// copy, and any other is taken out of its place.
 fn own_first<H: Host>(
     alloc: Global,
     first: &mut Dynamic<H>,
@@ -80,7 +81,8 @@ fn own_first<H: Host>(
     Ok(replace(first, unit_value()))
 }
 
-/// All its arguments. The others are taken out of their places.
+/// Gets all arguments of a function that is called by itself. Those behind the first are taken out of their
+/// places.
 ///
 /// # Errors
 /// `ErrorOutOfMemory` at the position alone.
@@ -97,7 +99,7 @@ fn own_args<H: Host>(
     ensures same { is_ref_mut ≡ true → first.new ≡ first.old }
 {
     let value = own_first(alloc, first, is_ref_mut, pos)?;
-    let mut all = match taken_out(alloc, rest, pos) {
+    let mut all = match take_out(alloc, rest, pos) {
         Ok(all) => all,
         Err(error) => {
             let_go(value);
@@ -113,9 +115,9 @@ fn own_args<H: Host>(
     }
 }
 
-/// A function that a call with arguments has found is to be entered: on its first argument for a method, and
-/// else by itself.
-fn to_enter<H: Host>(
+/// Decides how a function is entered that a call with arguments has found. For a method that is on its first
+/// argument, and else by itself.
+fn choose_entry<H: Host>(
     alloc: Global,
     function: Function<H>,
     first: &mut Dynamic<H>,
@@ -143,8 +145,8 @@ fn to_enter<H: Host>(
 }
 
 impl<H: Host> Engine<H> {
-    /// A call by name with arguments: how it ended, or the function of a script that is to be entered, with its
-    /// own variables or on the caller's.
+    /// Makes a call by name with arguments, up to where a function of a script is entered. It answers how the
+    /// call ended, or that function, which gets variables of its own or runs on the caller's.
     fn call_first<T: NativeTable<H>>(
         &self,
         alloc: Global,
@@ -208,7 +210,7 @@ impl<H: Host> Engine<H> {
                 MethodCall::Ended(result)
             }
             Dispatched::Found(function) => {
-                let call = to_enter(
+                let call = choose_entry(
                     alloc,
                     function,
                     first,
@@ -223,7 +225,8 @@ impl<H: Host> Engine<H> {
         }
     }
 
-    /// The same, and a method of a script is entered on its object, with variables of its own.
+    /// Makes a call by name with arguments, and runs a method of a script that it finds. The method runs on
+    /// the first argument, with variables of its own.
     fn call_with<T: NativeTable<H>>(
         &self,
         alloc: Global,
@@ -268,13 +271,16 @@ impl<H: Host> Engine<H> {
         match call {
             MethodCall::Ended(result) => Outcome::Ended(result),
             MethodCall::OnTarget(function, args) => {
-                Outcome::Ended(self.enter_on(alloc, global, table, function, first, args, pos))
+                Outcome::Ended(self.enter_method_fresh(
+                    alloc, global, table, function, first, args, pos,
+                ))
             }
             MethodCall::Alone(function, args) => Outcome::Enters(function, args),
         }
     }
 
-    /// The same on the caller's variables, on which a method of a script runs too.
+    /// Makes a call by name with arguments on the caller's variables. A method of a script that it finds runs
+    /// on them too.
     fn call_on<T: NativeTable<H>>(
         &self,
         alloc: Global,
@@ -326,8 +332,8 @@ impl<H: Host> Engine<H> {
         }
     }
 
-    /// A call by name without arguments.
-    fn call_none<T: NativeTable<H>>(
+    /// Makes a call by name without arguments, up to where a function of a script is entered.
+    fn begin_bare_call<T: NativeTable<H>>(
         &self,
         alloc: Global,
         global: &mut GlobalRuntimeState<H>,
@@ -372,8 +378,8 @@ impl<H: Host> Engine<H> {
         }
     }
 
-    /// A function of a script that has a place of the caller as its `this`, and variables of its own.
-    fn enter_on<T: NativeTable<H>>(
+    /// Runs a function of a script with a place of the caller as its `this`, and variables of its own.
+    fn enter_method_fresh<T: NativeTable<H>>(
         &self,
         alloc: Global,
         global: &mut GlobalRuntimeState<H>,
@@ -400,10 +406,11 @@ impl<H: Host> Engine<H> {
         give_back(run, global, &mut scope);
         drop(scope);
         drop(args);
-        marked(result, false)
+        tell_changed(result, false)
     }
 
-    /// The same on the caller's variables: what it adds to them goes at its end.
+    /// Runs a function of a script with a place of the caller as its `this`, on the caller's variables. What
+    /// it adds to them goes at its end.
     fn enter_on_scope<T: NativeTable<H>>(
         &self,
         alloc: Global,
@@ -428,12 +435,12 @@ impl<H: Host> Engine<H> {
             &evaluator, alloc, &mut run, table, function, place, args, pos,
         );
         give_back(run, global, scope);
-        marked(result, false)
+        tell_changed(result, false)
     }
 
-    /// What becomes of such a call on the caller's variables: it has ended, or its function runs on them, and
+    /// Finishes a call by name on the caller's variables. It has ended, or its function runs on them, and
     /// leaves none of its own.
-    fn finish_on<T: NativeTable<H>>(
+    fn finish_on_scope<T: NativeTable<H>>(
         &self,
         alloc: Global,
         global: &mut GlobalRuntimeState<H>,
@@ -459,12 +466,13 @@ impl<H: Host> Engine<H> {
                 let result = finish(done, &mut run.value, &mut run.error);
                 give_back(run, global, scope);
                 drop(args);
-                marked(result, false)
+                tell_changed(result, false)
             }
         }
     }
 
-    /// The same where there is no scope: its function has variables of its own.
+    /// Finishes a call by name where there is no scope. It has ended, or its function runs with variables of
+    /// its own.
     fn finish_fresh<T: NativeTable<H>>(
         &self,
         alloc: Global,
@@ -493,26 +501,29 @@ impl<H: Host> Engine<H> {
                 give_back(run, global, &mut scope);
                 drop(scope);
                 drop(args);
-                marked(result, false)
+                tell_changed(result, false)
             }
         }
     }
 
-    /// A call by name: the type of a value, whether a script has a function, a function of a script, or else
-    /// the native of the name as `exec_native_fn_call` calls it. With the value comes whether a native gave it
-    /// that is not pure. Ports upstream's `exec_fn_call`.
+    /// Makes a call by name. It gives the type of a value, tells whether a script has a function, runs a
+    /// function of a script, or else calls the native of the name as `exec_native_fn_call` does. With the
+    /// value comes whether a native gave it that is not pure. Ports upstream's `exec_fn_call`.
     ///
-    /// A function of a script runs one level deeper, on the variables of the scope where there is one; its own
-    /// go at its end. For a method it has the first argument as its `this`, in its own place, and no other
-    /// argument may lead to the cell of that. Otherwise it gets all arguments, of a first one in a place of the
-    /// caller (`is_ref_mut`) a copy. All arguments are used up, whatever the call comes to: `()` stands in their
-    /// places, but in that of a first one that is lent. Without a first argument the others stay.
+    /// A function of a script runs one level deeper, on the variables of the scope where there is one; its
+    /// own go at its end. For a method it has the first argument as its `this`, in its own place, and no
+    /// other argument may lead to the cell of that. Otherwise it gets all arguments, of a first one in a
+    /// place of the caller (`is_ref_mut`) a copy. All arguments are used up, whatever the call comes to: `()`
+    /// stands in their places, but in that of a first one that is lent. Without a first argument the others
+    /// stay.
     ///
-    /// Asked: a first argument where there is a mark. Where there is no first argument the call has none.
+    /// Asked: a first argument where `is_ref_mut` or `is_method_call` is set. Where there is no first
+    /// argument the call has none.
     ///
     /// # Errors
-    /// At the call: `ErrorDataRace` for an argument that is the handle of a cell which is held, by the object of
-    /// a method too; `ErrorFunctionNotFound` for `eval`; and those of `call_script_fn` and `exec_native_fn_call`.
+    /// At the call: `ErrorDataRace` for an argument that is the handle of a cell which is held, by the first
+    /// argument of a method too; `ErrorFunctionNotFound` for `eval`; and those of `call_script_fn` and
+    /// `exec_native_fn_call`.
     pub fn exec_fn_call<T: NativeTable<H>>(
         &self,
         alloc: Global,
@@ -530,30 +541,30 @@ impl<H: Host> Engine<H> {
     ) -> Result<(Dynamic<H>, bool), EvalAltResult<H>>
         requires first { (is_ref_mut || is_method_call) ≡ true → is_some first ≡ true }
         ensures lent { (variables : _) (this : _) → (is_ref_mut || is_method_call) ≡ true →
-            let rules = under H.name_of self.now T.natives in EndsMarked rules
-            (dispatch_core rules.setting (by_name is_method_call (is_some (was_of scope.entry))) (on_place
+            let rules = under H.name_of self.now T.natives in EndsChanged rules
+            (dispatch_core rules.setting (by_name is_method_call (is_some (loan_start scope.entry))) (on_place
             (record { name = name.now; token = option_copied op_token.entry; at = position }) true
-            (was first.entry) rest.old))
-            (state_of (T.state table.old) global.old (unwrap_or (was_of scope.entry) variables)
-            (with_place this (was first.entry))) result
+            (lent_value first.entry) rest.old))
+            (state_of (T.state table.old) global.old (unwrap_or (loan_start scope.entry) variables)
+            (with_place this (lent_value first.entry))) result
             (state_of (T.state table.new) global.new (unwrap_or (left_of scope.exit) variables)
             (with_place this (left_by first.exit))) }
         ensures by_value { (variables : _) (held : _) → (is_ref_mut || is_method_call) ≡ false →
-            let rules = under H.name_of self.now T.natives in EndsMarked rules
-            (dispatch_core rules.setting (by_name false (is_some (was_of scope.entry))) (by_value
+            let rules = under H.name_of self.now T.natives in EndsChanged rules
+            (dispatch_core rules.setting (by_name false (is_some (loan_start scope.entry))) (by_value
             (record { name = name.now; token = option_copied op_token.entry; at = position })
-            (was first.entry) rest.old))
-            (state_of (T.state table.old) global.old (unwrap_or (was_of scope.entry) variables) held) result
+            (lent_value first.entry) rest.old))
+            (state_of (T.state table.old) global.old (unwrap_or (loan_start scope.entry) variables) held) result
             (state_of (T.state table.new) global.new (unwrap_or (left_of scope.exit) variables) held) }
         ensures kept { (variables : _) (held : _) → Kept (under H.name_of self.now T.natives)
-            (state_of (T.state table.old) global.old (unwrap_or (was_of scope.entry) variables) held)
+            (state_of (T.state table.old) global.old (unwrap_or (loan_start scope.entry) variables) held)
             (state_of (T.state table.new) global.new (unwrap_or (left_of scope.exit) variables) held) }
         ensures names { (variables : _) → names_in (unwrap_or (left_of scope.exit) variables)
-            ≡ names_in (unwrap_or (was_of scope.entry) variables) }
+            ≡ names_in (unwrap_or (loan_start scope.entry) variables) }
         ensures rest { rest.new
             ≡ (if is_some first.entry then replicate (length rest.old) unit else rest.old) }
         ensures taken { (is_ref_mut || is_method_call) ≡ false →
-            left_by first.exit ≡ option_map (λ v. unit) (was first.entry) }
+            left_by first.exit ≡ option_map (λ v. unit) (lent_value first.entry) }
         ensures caches { _caches.new ≡ _caches.old }
         ensures search { global.new.always_search_scope ≡ global.old.always_search_scope }
     {
@@ -574,7 +585,7 @@ impl<H: Host> Engine<H> {
                         is_method_call,
                         pos,
                     );
-                    return self.finish_on(alloc, global, table, scope, outcome, pos);
+                    return self.finish_on_scope(alloc, global, table, scope, outcome, pos);
                 }
                 None => {
                     let outcome = self.call_with(
@@ -593,9 +604,11 @@ impl<H: Host> Engine<H> {
                 }
             },
             None => {
-                let outcome = self.call_none(alloc, global, table, name, token, pos);
+                let outcome = self.begin_bare_call(alloc, global, table, name, token, pos);
                 match scope {
-                    Some(scope) => return self.finish_on(alloc, global, table, scope, outcome, pos),
+                    Some(scope) => return self.finish_on_scope(
+                        alloc, global, table, scope, outcome, pos,
+                    ),
                     None => return self.finish_fresh(alloc, global, table, outcome, pos),
                 }
             }

@@ -7,20 +7,20 @@ ghost use Rattle.rhai_places.specs.Targets.{is_shared as shows_handle, shown};
 ghost use Rattle.rhai_machine.specs.language.Methods.{method_core};
 ghost use Rattle.rhai_machine.specs.language.State.{HasMemory};
 ghost use Rattle.rhai_machine.specs.language.Values.{unit_value as unit};
-ghost use Rattle.rhai_methods.specs.Targets.{on_target, StaysAlike, stands};
-ghost use Rattle.rhai_steps.specs.Marked.{lending, RunsFrom};
-ghost use Rattle.rhai_cycle.specs.States.{under as under_what_is_read};
+ghost use Rattle.rhai_methods.specs.Targets.{on_target, StaysAlike, value_walked_on};
+ghost use Rattle.rhai_steps.specs.OnFocus.{lending, RunsFrom};
+ghost use Rattle.rhai_eval_core.specs.States.{under as under_what_is_read};
 ghost use Rattle.rhai_steps.specs.States.{state_of};
 ghost use Rattle.rhai_laws.specs.Kept.{Kept};
-ghost use Rattle.rhai_eval.specs.Ends.{EndsAlone, EndsMarked};
+ghost use Rattle.rhai_eval.specs.Ends.{EndsAlone, EndsChanged};
 ghost use Rattle.rhai_eval.specs.Places.{with_place};
 ghost use Rattle.rhai_eval.specs.States.{under};
 
 use crate::engine::Engine;
 use crate::func::arguments::empty;
-use rhai_context::ends::finish_marked;
+use rhai_context::ends::finish_changed;
 use rhai_context::{Context, give_back, take};
-use rhai_cycle::evaluator::Evaluator;
+use rhai_eval_core::evaluator::Evaluator;
 use rhai_methods::target::put_back;
 use rhai_places::target::{Part, Target};
 use rhai_state::caches::Caches;
@@ -32,9 +32,9 @@ use rhai_tree::position::Position;
 use rhai_values::base::value::{Dynamic, Host};
 use std::alloc::Global;
 
-/// A method on what a target shows, in the state of a run: the place, the temporary, or the part's value. A
-/// part that the method may have changed is put back into its place.
-fn method_on<H: Host, T: NativeTable<H>>(
+/// Calls a method on what a target shows, in the state of a run. That is the place, the temporary, or the
+/// part's value. A part that the method may have changed is put back into its place.
+fn call_on_target<H: Host, T: NativeTable<H>>(
     evaluator: &Evaluator<'_, H>,
     alloc: Global,
     run: &mut Context<H>,
@@ -60,7 +60,7 @@ fn method_on<H: Host, T: NativeTable<H>>(
         (state_of (T.state table.old) run.old.global scope
         (lending held (shown target.old.part target.old.at.now)))
         result (state_of (T.state table.new) run.new.global scope
-        (lending held (stands target.new.part target.new.at.now))) }
+        (lending held (value_walked_on target.new.part target.new.at.now))) }
     ensures shows { (scope : _) (held : _) → HasMemory result →
         let rules = under_what_is_read H.name_of evaluator.now T.natives in
         EndsAlone rules (method_core rules.setting
@@ -80,28 +80,29 @@ fn method_on<H: Host, T: NativeTable<H>>(
         Part::Whole => {
             let place = &mut *target.at;
             let mark = evaluator.run_method(run, table, name, place, args, first, pos, is_handle);
-            finish_marked(mark, &mut run.value, &mut run.error)
+            finish_changed(mark, &mut run.value, &mut run.error)
         }
         Part::Temporary(value) => {
             let mark = evaluator.run_method(run, table, name, value, args, first, pos, is_handle);
-            finish_marked(mark, &mut run.value, &mut run.error)
+            finish_changed(mark, &mut run.value, &mut run.error)
         }
         Part::Of(_, value) => {
             let mark = evaluator.run_method(run, table, name, value, args, first, pos, is_handle);
-            let answer = finish_marked(mark, &mut run.value, &mut run.error);
+            let answer = finish_changed(mark, &mut run.value, &mut run.error);
             put_back(alloc, target, answer, pos)
         }
     }
 }
 
 impl<H: Host> Engine<H> {
-    /// A method on what a target shows, its arguments there: `call`, `curry` and `is_shared` on pointers and
-    /// handles, a map's own pointer under the name, and else a call by name with what is shown before the
-    /// arguments, which is lent, and kept from a native that is not pure where it is a constant. A function of
-    /// a script has what is shown as its `this`, in its own place. A part that a native may have changed is put
-    /// back into its place. With the value comes whether a native gave it that is not pure. The arguments
-    /// are used up, whatever the call comes to: `()` stands in their places. The target shows what the method has made of the value
-    /// that it worked on, also of a part that went back or was refused. Ports upstream's `make_method_call`.
+    /// Calls a method on what a target shows, its arguments there. The method is `call`, `curry` or
+    /// `is_shared` on a pointer or a handle, a map's own pointer under the name, or else a call by name with
+    /// what is shown before the arguments, which is lent, and kept from a native that is not pure where it is
+    /// a constant. A function of a script has what is shown as its `this`, in its own place. A part that a
+    /// native may have changed is put back into its place. With the value comes whether a native gave it that
+    /// is not pure. The arguments are used up, whatever the call comes to: `()` stands in their places. The
+    /// target shows what the method has made of the value that it worked on, also of a part that went back or
+    /// was refused. Ports upstream's `make_method_call`.
     ///
     /// A part that its place does not have goes nowhere.
     ///
@@ -123,7 +124,7 @@ impl<H: Host> Engine<H> {
         pos: Position,
     ) -> Result<(Dynamic<H>, bool), EvalAltResult<H>>
         ensures ends { (scope : _) (this : _) → let rules = under H.name_of self.now T.natives in
-            EndsMarked rules (on_target rules.setting
+            EndsChanged rules (on_target rules.setting
             (record {
               name = fn_name.now;
               at = pos;
@@ -134,12 +135,12 @@ impl<H: Host> Engine<H> {
             (state_of (T.state table.old) global.old scope
             (with_place this (Some (shown target.old.part target.old.at.now)))) result
             (state_of (T.state table.new) global.new scope
-            (with_place this (Some (stands target.new.part target.new.at.now)))) }
+            (with_place this (Some (value_walked_on target.new.part target.new.at.now)))) }
         ensures kept { (scope : _) (this : _) → Kept (under H.name_of self.now T.natives)
             (state_of (T.state table.old) global.old scope
             (with_place this (Some (shown target.old.part target.old.at.now))))
             (state_of (T.state table.new) global.new scope
-            (with_place this (Some (stands target.new.part target.new.at.now)))) }
+            (with_place this (Some (value_walked_on target.new.part target.new.at.now)))) }
         ensures same_reference { target.new.at.ghost_name ≡ target.old.at.ghost_name }
         ensures part { StaysAlike target.old.part target.old.at.now target.new.part target.new.at.now }
         ensures shows { (scope : _) (this : _) → HasMemory result →
@@ -164,7 +165,7 @@ impl<H: Host> Engine<H> {
         let limits = self.limits();
         let evaluator = self.evaluator(alloc, &limits);
         let first = Some(first_arg_pos);
-        let result = method_on(
+        let result = call_on_target(
             &evaluator, alloc, &mut run, table, fn_name, target, call_args, first, pos,
         );
         give_back(run, global, &mut scope);

@@ -3,11 +3,11 @@
 
 ghost use Rattle.std.specs.Prelude.{◌≡◌};
 ghost use Rattle.std.specs.Option.{option_copied};
-ghost use Rattle.rhai_state.specs.Native.{left_by, was};
+ghost use Rattle.rhai_state.specs.Native.{left_by, lent_value};
 ghost use Rattle.rhai_machine.specs.language.Frames.{Ask, core};
 ghost use Rattle.rhai_steps.specs.States.{state_of};
 ghost use Rattle.rhai_laws.specs.Kept.{Kept};
-ghost use Rattle.rhai_eval.specs.Ends.{EndsMarked};
+ghost use Rattle.rhai_eval.specs.Ends.{EndsChanged};
 ghost use Rattle.rhai_eval.specs.Places.{on_place, with_place};
 ghost use Rattle.rhai_eval.specs.States.{under};
 
@@ -23,9 +23,9 @@ use rhai_values::base::value::{Dynamic, Host};
 use std::alloc::Global;
 
 impl<H: Host> Engine<H> {
-    /// Charges a call at its position, and calls the native of its name; where there is none, the built-in
-    /// of the operator has the answer. With the value comes whether a native gave it that is not pure, and
-    /// so may have changed the first argument. Ports upstream's `exec_native_fn_call`.
+    /// Charges a call at its position, and calls the native of its name. Where there is none, the built-in of
+    /// the operator has the answer. With the value comes whether a native gave it that is not pure, and so
+    /// may have changed the first argument. Ports upstream's `exec_native_fn_call`.
     ///
     /// The first argument is a place of the caller where `is_ref_mut` says so, and a constant there is kept
     /// from a native that is not pure. What a native leaves of it stands there on every way out. Where there
@@ -49,14 +49,14 @@ impl<H: Host> Engine<H> {
         is_ref_mut: bool,
         position: Position,
     ) -> Result<(Dynamic<H>, bool), EvalAltResult<H>>
-        ensures ends { (scope : _) (this : _) → EndsMarked (under H.name_of self.now T.natives)
+        ensures ends { (scope : _) (this : _) → EndsChanged (under H.name_of self.now T.natives)
             (λ k l. core (Ask (on_place
             (record { name = name.now; token = option_copied op_token.entry; at = position })
-            is_ref_mut (was first.entry) rest.old)) k l)
-            (state_of (T.state table.old) global.old scope (with_place this (was first.entry))) result
+            is_ref_mut (lent_value first.entry) rest.old)) k l)
+            (state_of (T.state table.old) global.old scope (with_place this (lent_value first.entry))) result
             (state_of (T.state table.new) global.new scope (with_place this (left_by first.exit))) }
         ensures kept { (scope : _) (this : _) → Kept (under H.name_of self.now T.natives)
-            (state_of (T.state table.old) global.old scope (with_place this (was first.entry)))
+            (state_of (T.state table.old) global.old scope (with_place this (lent_value first.entry)))
             (state_of (T.state table.new) global.new scope (with_place this (left_by first.exit))) }
         ensures rest { rest.new ≡ rest.old }
         ensures caches { _caches.new ≡ _caches.old }

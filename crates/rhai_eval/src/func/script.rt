@@ -6,23 +6,23 @@ ghost use Rattle.std.specs.Prelude.{true};
 ghost use Rattle.std.specs.Option.{option_copied};
 ghost use Rattle.rhai_tree.specs.Names.{Begins};
 ghost use Rattle.rhai_functions.specs.Functions.{found_in};
-ghost use Rattle.rhai_functions.specs.Keys.{key_seen};
+ghost use Rattle.rhai_functions.specs.Keys.{function_key_of};
 ghost use Rattle.rhai_machine.specs.language.Activations.{OwnThis};
 ghost use Rattle.rhai_machine.specs.language.Frames.{EnterFunction};
 ghost use Rattle.rhai_machine.specs.language.Runs.{Runs};
 ghost use Rattle.rhai_machine.specs.language.State.{HasMemory};
-ghost use Rattle.rhai_state.specs.Native.{left_by, was};
+ghost use Rattle.rhai_state.specs.Native.{left_by, lent_value};
 ghost use Rattle.rhai_state.specs.Scope.{entries_of, names_in};
 ghost use Rattle.rhai_steps.specs.States.{holding, state_of};
 ghost use Rattle.rhai_functions.specs.Entering.{TakesSome};
-ghost use Rattle.rhai_cycle.specs.Bodies.{args_left, entered, is_entered};
-ghost use Rattle.rhai_cycle.specs.States.{state_in};
+ghost use Rattle.rhai_eval_core.specs.Bodies.{args_left, entered, is_entered};
+ghost use Rattle.rhai_eval_core.specs.States.{state_in};
 ghost use Rattle.rhai_laws.specs.Kept.{Kept};
 ghost use Rattle.rhai_eval.specs.Ends.{AgreesAbove, EndsAs};
 ghost use Rattle.rhai_eval.specs.States.{limits_of, under};
 
 use crate::engine::Engine;
-use crate::this::{give_back_with, take_with};
+use crate::this::{give_back_with_this, take_with_this};
 use rhai_context::ends::finish;
 use rhai_context::{Context, give_back, take};
 use rhai_functions::key::FnKey;
@@ -51,8 +51,8 @@ fn leave_variables<H: Host>(scope: &mut Scope<H>, before: usize, parameters: usi
 }
 
 impl<H: Host> Engine<H> {
-    /// A function on the variables and with the `this` that the run has, at the level as it stands.
-    fn call_in<T: NativeTable<H>>(
+    /// Runs a function on the variables and with the `this` that the run has, at the level as it stands.
+    fn call_in_run<T: NativeTable<H>>(
         &self,
         alloc: Global,
         run: &mut Context<H>,
@@ -89,14 +89,14 @@ impl<H: Host> Engine<H> {
     /// which `()` is left; an empty body answers `()` and takes no argument. An environment brings its
     /// libraries and imports and its table of constants, which go again on every way out. With `rewind_scope`
     /// so do all variables that the body added; otherwise only the parameters leave the scope, and the body's
-    /// list does not restore. `this` is taken out of its place meanwhile, and put back on every way out. Ports
-    /// upstream's `call_script_fn`.
+    /// list does not restore. `this` is taken out of its place meanwhile, and put back on every way out.
+    /// Ports upstream's `call_script_fn`.
     ///
     /// # Errors
-    /// At the call: `ErrorTooManyOperations` where the count has reached the limit; `ErrorStackOverflow` where
-    /// the level is above its limit; `ErrorTooManyVariables` where the scope has no room for the parameters.
-    /// Of the body's errors a `return` is a value, an exit and those of the system stand at the call, and any
-    /// other is in an `ErrorInFunctionCall` there.
+    /// At the call: `ErrorTooManyOperations` where the count has reached the limit; `ErrorStackOverflow`
+    /// where the level is above its limit; `ErrorTooManyVariables` where the scope has no room for the
+    /// parameters. Of the body's errors a `return` is a value, an exit and those of the system stand at the
+    /// call, and any other is in an `ErrorInFunctionCall` there.
     pub fn call_script_fn<T: NativeTable<H>>(
         &self,
         alloc: Global,
@@ -114,16 +114,16 @@ impl<H: Host> Engine<H> {
         ensures ends { EndsAs (under H.name_of self.now T.natives)
             (EnterFunction (entered def.now (option_copied env.entry) OwnThis false rewind_scope args.old
             global.old.level pos))
-            (state_of (T.state table.old) global.old scope.old (holding (was this.entry))) result
+            (state_of (T.state table.old) global.old scope.old (holding (lent_value this.entry))) result
             (state_of (T.state table.new) global.new scope.new (holding (left_by this.exit))) }
         ensures kept { Kept (under H.name_of self.now T.natives)
-            (state_of (T.state table.old) global.old scope.old (holding (was this.entry)))
+            (state_of (T.state table.old) global.old scope.old (holding (lent_value this.entry)))
             (state_of (T.state table.new) global.new scope.new (holding (left_by this.exit))) }
         ensures charges { OnOk result (global.old.num_operations < global.new.num_operations) }
         ensures two_limits { AgreesAbove (under H.name_of self.now T.natives)
             (EnterFunction (entered def.now (option_copied env.entry) OwnThis false rewind_scope args.old
             global.old.level pos))
-            (state_of (T.state table.old) global.old scope.old (holding (was this.entry))) result
+            (state_of (T.state table.old) global.old scope.old (holding (lent_value this.entry))) result
             (state_of (T.state table.new) global.new scope.new (holding (left_by this.exit))) }
         ensures args { HasMemory result → args.new ≡ args_left (is_entered (limits_of self.now)
             global.old.num_operations global.old.level (length (entries_of scope.old)) def.now)
@@ -134,7 +134,7 @@ impl<H: Host> Engine<H> {
         ensures constants { global.new.constants ≡ global.old.constants }
         ensures level { global.new.level ≡ global.old.level }
         ensures scope_level { global.new.scope_level ≡ global.old.scope_level }
-        ensures this { is_some (left_by this.exit) ≡ is_some (was this.entry) }
+        ensures this { is_some (left_by this.exit) ≡ is_some (lent_value this.entry) }
         ensures begins { Begins (names_in scope.old) (names_in scope.new) }
         ensures restores { IsTrue rewind_scope → names_in scope.new ≡ names_in scope.old }
         ensures variables { length (names_in scope.old) ≤ self.now.max_variables →
@@ -144,8 +144,8 @@ impl<H: Host> Engine<H> {
     {
         match this {
             Some(place) => {
-                let mut run = take_with(alloc, global, scope, place);
-                let result = self.call_in(
+                let mut run = take_with_this(alloc, global, scope, place);
+                let result = self.call_in_run(
                     alloc,
                     &mut run,
                     table,
@@ -155,12 +155,12 @@ impl<H: Host> Engine<H> {
                     rewind_scope,
                     pos,
                 );
-                give_back_with(run, global, scope, place);
+                give_back_with_this(run, global, scope, place);
                 result
             }
             None => {
                 let mut run = take(alloc, global, scope);
-                let result = self.call_in(
+                let result = self.call_in_run(
                     alloc,
                     &mut run,
                     table,
@@ -176,16 +176,16 @@ impl<H: Host> Engine<H> {
         }
     }
 
-    /// Whether a function of a script has a key: in the libraries of the state, in the engine's global modules,
-    /// in the imports, or in the engine's global modules under names, where what is shown alone is found. It
-    /// takes no memory. Ports upstream's `has_script_fn`.
+    /// Tells whether a function of a script has a key. It is looked for in the libraries of the state, in the
+    /// engine's global modules, in the imports, and in the engine's global modules under names, where what is
+    /// shown alone is found. It takes no memory. Ports upstream's `has_script_fn`.
     pub fn has_script_fn(
         &self,
         state: &GlobalRuntimeState<H>,
         _caches: &mut Caches<H>,
         key: FnKey<'_>,
     ) -> bool
-        ensures found { result ≡ is_some (found_in (key_seen key.entry) state.now.lib self.now.global_modules
+        ensures found { result ≡ is_some (found_in (function_key_of key.entry) state.now.lib self.now.global_modules
             state.now.imports self.now.global_sub_modules.1) }
         ensures caches { _caches.new ≡ _caches.old }
     {

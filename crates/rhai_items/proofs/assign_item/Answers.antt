@@ -19,7 +19,7 @@ use Rattle.rhai_items.proofs.assign_item.Goals as goal
 pub returns-clause-keeps : goal.returns-clause-keeps
 returns-clause-keeps g c = item_keeps c.args.global.now c.charge_all.new.global c.args.scope.now c.write_item.new.scope
     c.in-Some-entry_of_variable.entry c.charges-count.result
-    (with_value c.value_at-source.result.now (spot.Item c.in-Some-place_in_value.at) c.in-Some-assign_known.value)
+    (with_value c.value_at-source.result.now (spot.Item c.in-Some-place_in_value.at) c.in-Some-compute_known.value)
     (c.charge_all.ensures.charged c.if-not-charge_all.false)
     (c.write_item.ensures c.value_at-source.result.now c.value_at-source.ensures)
 
@@ -45,10 +45,11 @@ returns-clause-runs g c is offer held restoring fast =
     (c.charge_all.ensures.room c.if-not-charge_all.false))
     (subst (λ (n : ℕ). c.charge_all.new.global ≡ record c.args.global.now { num_operations = c.args.global.now.num_operations + n })
     c.charges-count.ensures (c.charge_all.ensures.charged c.if-not-charge_all.false))
-    c.in-Some-place_in_value.at c.in-Some-assign_known.value (c.write_item.ensures c.value_at-source.result.now c.value_at-source.ensures)
+    c.in-Some-place_in_value.at c.in-Some-compute_known.value (c.write_item.ensures c.value_at-source.result.now c.value_at-source.ensures)
     (ap (place_in_array (layer_of c.value_at-source.result.now)) at_index ∙ sym c.place_in_value.ensures.at ∙ c.in-Some-place_in_value.is)
-    (ap (assigned_known c.in-Some-op.token (writable_at (value_at c.value_at-source.result.now (spot.Item c.in-Some-place_in_value.at)))) operand
-    ∙ sym (rw c.integer_of_item-target.ensures at c.assign_known.ensures) ∙ c.in-Some-assign_known.is)
+    (ap (assigned_known c.in-Some-op.token (writable_at (value_at c.value_at-source.result.now (spot.Item
+    c.in-Some-place_in_value.at)))) operand
+    ∙ sym (rw c.integer_of_item-target.ensures at c.compute_known.ensures) ∙ c.in-Some-compute_known.is)
 
 pub entry_of_variable-requires : goal.entry_of_variable-requires
 entry_of_variable-requires g c =

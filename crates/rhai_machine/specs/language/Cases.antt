@@ -16,32 +16,33 @@ pub record Cases : Type 0 where
 
 -- ---- numbers
 
--- an integer lies in a range
+-- whether an integer lies in a range
 abbrev pub is_within : ℤ → RangeCase → Bool
 is_within n (ExclusiveInt start last number) = int_le start n && int_lt n last
 is_within n (InclusiveInt start last number) = int_le start n && int_le n last
 
+-- the number of the result that a range leads to
 abbrev pub number_of : RangeCase → ℕ
 number_of (ExclusiveInt start last number) = number
 number_of (InclusiveInt start last number) = number
 
--- the numbers of the ranges in which an integer lies
+-- the numbers of the results that ranges with this integer lead to, in order
 abbrev pub in_ranges : ℤ → List RangeCase → List ℕ
 in_ranges n [] = []
 in_ranges n (range ∷ ranges) = if is_within n range then number_of range ∷ in_ranges n ranges else in_ranges n ranges
 
--- what can not be hashed leads to no number
+-- the numbers that a value leads to: one that can not be hashed leads to none
 abbrev pub if_hashable : Bool → List ℕ → List ℕ
 if_hashable true numbers = numbers
 if_hashable false numbers = []
 
 module _ {H : Type 0} where
-  -- ranges are for integers alone
+  -- the numbers that ranges lead to, for an integer alone
   abbrev pub by_ranges : Union H → List RangeCase → List ℕ
   by_ranges (value.Int n) ranges = in_ranges n ranges
   by_ranges _ ranges = []
 
-  -- the numbers of the case that a value equals by type and content
+  -- the numbers of the first case that a value equals by type and content
   abbrev pub by_cases : Dynamic H → List SwitchCase → List ℕ
   by_cases v [] = []
   by_cases v (case ∷ cases) = if equals case.value v then case.blocks else by_cases v cases
@@ -52,12 +53,12 @@ module _ {H : Type 0} where
 
 -- ---- results
 
--- a number without a result is passed over
+-- a result before the others; where a number has none, it is passed over
 abbrev pub with_result : Option ConditionalExpr → List ConditionalExpr → List ConditionalExpr
 with_result (Some result) rest = result ∷ rest
 with_result None rest = rest
 
--- the results of some numbers
+-- the results of some numbers, in order
 abbrev pub results_of : List ConditionalExpr → List ℕ → List ConditionalExpr
 results_of results [] = []
 results_of results (number ∷ numbers) = with_result (slice_get results number) (results_of results numbers)
@@ -66,6 +67,6 @@ results_of results (number ∷ numbers) = with_result (slice_get results number)
 abbrev pub candidates : {H : Type 0} → Cases → Dynamic H → List ConditionalExpr
 candidates choice v = results_of choice.results (numbers_for choice v)
 
--- the result where none of them has a condition that holds: its own condition does not count
+-- the result where no candidate's condition holds; its own condition does not count
 abbrev pub default_of : Cases → Option Expr
 default_of choice = option_map (λ result. result.expr) (option_and_then (λ number. slice_get choice.results number) choice.default)

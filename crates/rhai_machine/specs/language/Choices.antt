@@ -7,25 +7,25 @@ use Rattle.rhai_machine.specs.language.State.{Local}
 use Rattle.rhai_machine.specs.language.Values.{unit_value}
 use Rattle.rhai_machine.specs.language.Frames.{Frame, Core, core, Eval, Choose, Back, SwitchCondition}
 
--- a condition that is written as a truth value
+-- the truth value that a condition is written as, if it is one
 abbrev pub truth_literal : ExprLayer → Option Bool
 truth_literal (layer.BoolConstant b pos) = Some b
 truth_literal _ = None
 
 module _ {H : Type 0} where
-  -- where its condition holds a result is evaluated, and comes up as it is; else the next one is tried
+  -- a candidate whose condition was tested: where it holds its result is evaluated and comes up as it is, and else the next one is tried
   abbrev pub met_core : (holds : Bool) → ConditionalExpr → (rest : List ConditionalExpr) → (default : Option Expr) → List (Frame H) →
       Local H → Core H
   met_core true candidate rest default k l = core (Eval candidate.expr) k l
   met_core false candidate rest default k l = core (Choose rest default) k l
 
-  -- a truth value that is written there is read without a charge, and any other condition is evaluated
+  -- a candidate: a condition that is written as a truth value is read without a charge, and any other is evaluated
   abbrev pub tested_core : Option Bool → ConditionalExpr → (rest : List ConditionalExpr) → (default : Option Expr) → List (Frame H) →
       Local H → Core H
   tested_core (Some holds) candidate rest default k l = met_core holds candidate rest default k l
   tested_core None candidate rest default k l = core (Eval candidate.condition) (SwitchCondition candidate rest default ∷ k) l
 
-  -- the results that a value may have, one after the other; after the last one the default, or `()`
+  -- the candidates one after the other, and after the last one the default, or `()`
   abbrev pub choose_core : List ConditionalExpr → (default : Option Expr) → List (Frame H) → Local H → Core H
   choose_core [] None k l = core (Back unit_value) k l
   choose_core [] (Some result) k l = core (Eval result) k l

@@ -20,12 +20,12 @@ use Rattle.rhai_machine.specs.language.Language.{machine}
 use Rattle.rhai_machine.specs.language.Runs.{at}
 
 module _ {H : Type 0} where
-  -- a cell is held as long as a chain is in it
+  -- the cells after a step: one that leads into a cell holds it
   abbrev pub held_by : Cells H → Step → Cells H
   held_by cells (ToPlace spot) = cells
   held_by cells (ToCell number) = with_held cells number
 
-  -- where a step leads
+  -- where a step leads, with its cell held
   abbrev pub gone_down : Rooted H → Step → Rooted H
   gone_down root step = record {
     value = unwrap_or (next root.cells root.value step) root.value;
@@ -42,12 +42,12 @@ module _ {H : Type 0} where
   frames_of root [] k = k
   frames_of root (step ∷ path) k = frames_of (gone_down root step) path (StepDown root.value step ∷ k)
 
-  -- another value at the end of a path, the cells on it still held
+  -- where a path leads, with another value there; the cells on it are still held
   abbrev pub left_at : Rooted H → List Step → Dynamic H → Rooted H
   left_at root path w = record (end_of root path) { value = w }
 
 module _ {S H : Type 0} where
-  -- a state in which a chain works on a value among these cells
+  -- a state in which this value is the focus, with these cells
   abbrev pub works_on : Rooted H → State S H → State S H
   works_on root s = record s { local = gone_up root s.local }
 
@@ -56,14 +56,14 @@ module _ {S H : Type 0} where
   chain_ended lender outer s = record s { local = ended_chain lender outer s.local }
 
 module _ {S H : Type 0} (rules : Rules S H) where
-  -- from the end of a path, where a value has been left, the machine goes up to what waits below the path's frames, without a charge: the
-  -- value is written at the path then, and no cell on it is held any more
+  -- From the end of a path, where a value has been left, the machine goes up through the path's frames without a charge: the value is
+  -- written at the path then, and no cell on it is held any more.
   abbrev pub WritesAtOnce : Control H → Type 0
   WritesAtOnce control = (root : Rooted H) (path : List Step) (w : Dynamic H) (k : List (Frame H)) (s : State S H) → IsSimple path →
       Reaches (machine rules) (cut rules) (at control (frames_of root path k) (works_on (left_at root path w) s))
       (at control k (works_on (write root path w) s))
 
-  -- and over a chain's end: who lent the root gets its value with that one written at the path, and whoever had a focus before has it again
+  -- and so it does over a chain's end: who lent the root gets it with that value written at the path, and the focus before comes back
   abbrev pub EndsWritten : (control end : Control H) → Type 0
   EndsWritten control end = (root : Rooted H) (path : List Step) (w : Dynamic H) (lender : Option Lender) (outer : Option (Dynamic H))
       (k : List (Frame H)) (s : State S H) → IsSimple path →
@@ -79,7 +79,7 @@ module _ {S H : Type 0} (rules : Rules S H) where
       ≡ core (Walk (behind_link link rest true chain)) (frames_of root (path ++ ToPlace spot ∷ []) k)
       (gone_up (end_of root (path ++ ToPlace spot ∷ [])) l)
 
-  -- and so it does in the cell of a handle there
+  -- a chain that is at the end of a path, where there is a handle, goes on in its cell, which is the end of a longer path
   abbrev pub EntersCell : Type 0
   EntersCell = (root : Rooted H) (path : List Step) (id : CellId) (v : Dynamic H) → (end_of root path).value.value ≡ value.Cell id →
       value_of_cell (end_of root path).cells id.number ≡ Some v →
@@ -88,8 +88,8 @@ module _ {S H : Type 0} (rules : Rules S H) where
       ≡ go (frames_of root (path ++ ToCell id.number ∷ []) k) (gone_up (end_of root (path ++ ToCell id.number ∷ [])) l)
 
   -- A path that goes through no cell twice leads to what it reads, and one step more goes through none twice, since its cells are held. The
-  -- walk pushes its frames. With a value, a marked value or an error on its way up what was left there is written at once; a chain's end
-  -- forgets the mark.
+  -- walk pushes its frames. With a value, a change or an error on its way up, what was left there is written at once; a chain's end forgets
+  -- a change.
   pub record DescentLaws : Type 0 where
     pub leads : (root : Rooted H) (path : List Step) (u : Dynamic H) → IsSimple path → read root path ≡ Some u →
         (end_of root path).value ≡ u
@@ -98,8 +98,8 @@ module _ {S H : Type 0} (rules : Rules S H) where
     pub enters_place : EntersPlace
     pub enters_cell : EntersCell
     pub by_value : (v : Dynamic H) → WritesAtOnce (Back v)
-    pub by_marked : (v : Dynamic H) → WritesAtOnce (Changed v)
+    pub by_changed : (v : Dynamic H) → WritesAtOnce (Changed v)
     pub by_error : (e : EvalAltResult H) → WritesAtOnce (Fail e)
     pub ends_by_value : (v : Dynamic H) → EndsWritten (Back v) (Back v)
-    pub ends_by_marked : (v : Dynamic H) → EndsWritten (Changed v) (Back v)
+    pub ends_by_changed : (v : Dynamic H) → EndsWritten (Changed v) (Back v)
     pub ends_by_error : (e : EvalAltResult H) → EndsWritten (Fail e) (Fail e)

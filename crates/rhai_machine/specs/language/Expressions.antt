@@ -22,7 +22,7 @@ use Rattle.rhai_machine.specs.language.Arguments.{function_move}
 use Rattle.rhai_machine.specs.language.Data.{entries_core, items_core, parts_core}
 
 module _ {H : Type 0} where
-  -- the value of a literal, read-write
+  -- the value that a literal is, read-write; anything else is no literal
   abbrev pub literal_of : ExprLayer → Option (Dynamic H)
   literal_of (layer.DynamicConstant literal pos) = Some (value_of_literal literal)
   literal_of (layer.BoolConstant b pos) = Some (bool_value b)
@@ -32,7 +32,7 @@ module _ {H : Type 0} where
   literal_of (layer.Unit pos) = Some unit_value
   literal_of _ = None
 
-  -- an argument: a literal is charged at its start, anything else is an expression
+  -- an argument: a literal is charged at its start, and anything else is evaluated as an expression
   abbrev pub argument_move : Option (Dynamic H) → Expr → List (Frame H) → Local H → Move H (Core H)
   argument_move (Some v) e k l = Charge (start_of e) (core (Back v) k l)
   argument_move None e k l = Go (core (Eval e) k l)
@@ -42,34 +42,38 @@ module _ {H : Type 0} where
   and_core [] k l = core (Back (bool_value true)) k l
   and_core (part ∷ parts) k l = core (Eval part) (AndPart (position_of part) parts ∷ k) l
 
+  -- after a part of an `&&`: where it is true the other parts, and else `false`
   abbrev pub and_next : Bool → List Expr → List (Frame H) → Local H → Core H
   and_next true parts k l = and_core parts k l
   and_next false parts k l = core (Back (bool_value false)) k l
 
-  -- those of an `||` up to the first that is true
+  -- the parts of an `||` from left to right, up to the first that is true
   abbrev pub or_core : List Expr → List (Frame H) → Local H → Core H
   or_core [] k l = core (Back (bool_value false)) k l
   or_core (part ∷ parts) k l = core (Eval part) (OrPart (position_of part) parts ∷ k) l
 
+  -- after a part of an `||`: where it is true `true`, and else the other parts
   abbrev pub or_next : Bool → List Expr → List (Frame H) → Local H → Core H
   or_next true parts k l = core (Back (bool_value true)) k l
   or_next false parts k l = or_core parts k l
 
-  -- those of a `??` up to the first that is not `()`, which comes up as it is, a handle too
+  -- the parts of a `??` from left to right, up to the first that is not `()`; where all are, the last value
   abbrev pub coalesce_core : (last : Dynamic H) → List Expr → List (Frame H) → Local H → Core H
   coalesce_core last [] k l = core (Back last) k l
   coalesce_core last (part ∷ parts) k l = core (Eval part) (CoalescePart (position_of part) parts ∷ k) l
 
+  -- after a part of a `??`, by the kind that is seen: after `()` the other parts, and else its value as it is, a handle too
   abbrev pub coalesce_seen : Union H → Dynamic H → List Expr → List (Frame H) → Local H → Core H
   coalesce_seen value.Unit v parts k l = coalesce_core v parts k l
   coalesce_seen _ v parts k l = core (Back v) k l
 
+  -- after a part of a `??`, which is seen through a handle: the other parts or its value, and an error comes down
   abbrev pub coalesce_next : (seen : Result (Dynamic H) (EvalAltResult H)) → Dynamic H → List Expr → List (Frame H) → Local H → Core H
   coalesce_next r v parts k l = on_value r (λ seen. coalesce_seen seen.value v parts k l) k l
 
   module _ (s : Setting H) where
-    -- a call: under fast operators the operands of one that was written as an operator on one or two come from left to right; any other
-    -- is one by name, or behind a path
+    -- A call. Under fast operators one that was written as an operator on one operand or two evaluates them from left to right; any other
+    -- is one by name, or behind a path.
     abbrev pub call_move : (fast_operators : Bool) → Option Token → FnCallExpr → List Expr → Position → List (Frame H) → Local H → Move H (Core H)
     call_move true (Some token) call (operand ∷ []) pos k l =
         Go (core (Argument operand) (UnaryOperand (record { name = call.name; token = Some token; at = pos }) (position_of operand) ∷ k) l)
@@ -77,7 +81,7 @@ module _ {H : Type 0} where
         Go (core (Argument left) (LeftOperand (record { name = call.name; token = Some token; at = pos }) (position_of left) right ∷ k) l)
     call_move _ _ call args pos k l = function_move s (is_unqualified call.namespace.path) call pos k l
 
-    -- an expression, after its charge; a form that is not there has no step
+    -- an expression by its form, after its charge; a property and a method are none by themselves and have no step
     abbrev pub expr_move : (fast_operators : Bool) → ExprLayer → List (Frame H) → Local H → Move H (Core H)
     expr_move fast (layer.DynamicConstant literal pos) k l = Go (core (Back (value_of_literal literal)) k l)
     expr_move fast (layer.BoolConstant b pos) k l = Go (core (Back (bool_value b)) k l)

@@ -8,15 +8,16 @@ use Rattle.rhai_values.specs.declared.base.value.Union.TheVariants as value
 use Rattle.rhai_values.specs.Copy.{plain}
 pub use Rattle.rhai_functions.specs.declared.function.Function.{Function}
 use Rattle.rhai_functions.specs.Called.{function_of}
-use Rattle.rhai_functions.specs.Functions.{FunctionKey, found_in, in_modules, named_in}
+use Rattle.rhai_functions.specs.Functions.{FunctionKey, found_in, in_modules, arity_in_modules}
 use Rattle.rhai_machine.specs.language.Setting.{Offer}
 use Rattle.rhai_machine.specs.language.State.{Surroundings}
 
+-- a function's key: its name, how many parameters it has, and the type that its `this` must have, if any
 abbrev pub key_by : List ℕ → (arity : ℕ) → (this_type : Option (List ℕ)) → FunctionKey
 key_by name arity this_type = record { name = name; arity = arity; this_type = this_type }
 
 module _ {H : Type 0} where
-  -- the function of a key, where a run looks for it
+  -- the function of a key: in the libraries, then the global modules, then the imports, then the engine's modules that have names
   abbrev pub found_function : FunctionKey → Offer H → Surroundings H → Option (Function H)
   found_function key offer around = option_map function_of
       (found_in key around.lib offer.global_modules around.imports offer.global_sub_modules.1)
@@ -33,4 +34,4 @@ module _ {H : Type 0} where
 
   -- the pointer that a name means by itself: to the first function of the name in the libraries
   abbrev pub meant_function : List (Module H) → List ℕ → Option (Dynamic H)
-  meant_function lib name = option_map (pointer_to name) (named_in name lib)
+  meant_function lib name = option_map (pointer_to name) (arity_in_modules name lib)

@@ -25,10 +25,10 @@ use Rattle.rhai_machine.specs.language.Loops.{is_endless, while_move}
 use Rattle.rhai_machine.specs.language.Walks.{for_move, item_core}
 use Rattle.rhai_machine.specs.language.Sharing.{share_core}
 use Rattle.rhai_machine.specs.language.Statements.{enter_core, run_core, stmt_move}
-use Rattle.rhai_machine.specs.language.Unwinding.{up_core, down_core, marked_core}
+use Rattle.rhai_machine.specs.language.Unwinding.{up_core, down_core, changed_up_core}
 
 module _ {H : Type 0} (s : Setting H) where
-  -- one move: a charge stands at its position before anything else of a form
+  -- one move, by the control; a charge stands at its position before anything else of a form is done
   abbrev pub move_at : Control H → List (Frame H) → Local H → Move H (Core H)
   move_at (Eval e) k l = Charge (position_of e) (core (OpenExpr (out-Expr e)) k l)
   move_at (Exec stmt restoring) k l = Charge (stmt_position_of stmt) (core (OpenStmt (out-Stmt stmt) restoring) k l)
@@ -67,21 +67,22 @@ module _ {H : Type 0} (s : Setting H) where
   move_at (Back v) [] l = Halt
   move_at (Back v) (frame ∷ k) l = Go (up_core s frame v k l)
   move_at (Changed v) [] l = Go (core (Back v) [] l)
-  move_at (Changed v) (frame ∷ k) l = Go (marked_core s frame v k l)
+  move_at (Changed v) (frame ∷ k) l = Go (changed_up_core s frame v k l)
   move_at (Fail e) [] l = Halt
   move_at (Fail e) (frame ∷ k) l = Go (down_core s frame e k l)
 
+  -- one move of a core
   abbrev pub move : Core H → Move H (Core H)
   move c = move_at c.control c.stack c.local
 
--- a refused charge is an error at its position
+-- where a charge is refused, its error comes down from the position of the charge
 abbrev pub refuse : {H : Type 0} → Position → Core H → Core H
 refuse pos c = core (Fail (error.ErrorTooManyOperations pos)) c.stack c.local
 
--- where memory runs out an error comes down too
-abbrev pub want : {H : Type 0} → Position → Core H → Core H
-want pos c = core (Fail (error.ErrorOutOfMemory pos)) c.stack c.local
+-- where memory runs out, the error of that comes down from this position
+abbrev pub without_memory : {H : Type 0} → Position → Core H → Core H
+without_memory pos c = core (Fail (error.ErrorOutOfMemory pos)) c.stack c.local
 
 -- the machine of the language, under its rules
 abbrev pub machine : {S H : Type 0} → Rules S H → Machine S H (Core H)
-machine rules = record { move = move rules.setting; refuse = refuse; want = want; natives = rules.natives; host = rules.setting.host_type }
+machine rules = record { move = move rules.setting; refuse = refuse; without_memory = without_memory; natives = rules.natives; host = rules.setting.host_type }

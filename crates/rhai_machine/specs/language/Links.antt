@@ -22,46 +22,48 @@ pub record Link : Type 0 where
   pub stops_at_unit : Bool
   pub behind : Option ExprLayer
 
--- a null conditional stops at `()`
+-- whether an operator of a chain is a null conditional, which stops at `()`
 abbrev pub stops : ASTFlags → Bool
 stops options = nat_eq (bit_and options.0 1) 1
 
--- a chain in brackets is an index by itself, and what stands behind it does not belong to it
+-- whether an operator of a chain ends it: what stands behind it is in brackets of its own
 abbrev pub breaks : ASTFlags → Bool
 breaks options = nat_eq (bit_and options.0 2) 2
 
--- behind a dot stands a property, or a method without a path; anything else is no link
+-- the link behind a dot: a property, or a method without a path; anything else is none
 abbrev pub dot_form : ExprLayer → Option LinkForm
 dot_form (layer.Property name pos) = Some (AtProperty name pos)
 dot_form (layer.MethodCall call pos) = if is_unqualified call.namespace.path then Some (AtMethod call.name call.args pos) else None
 dot_form _ = None
 
--- the first of a chain, which is what its operator works on
+-- the first part of a chain, which its operator works on; anything else has none
 abbrev pub first_in : ExprLayer → Option Expr
 first_in (layer.Index lhs rhs options pos) = Some lhs
 first_in (layer.Dot lhs rhs options pos) = Some lhs
 first_in _ = None
 
+-- a link of this form, with its positions, its options, and the chain that goes on from it
 abbrev pub link_with : (form : LinkForm) → (at rest_at : Position) → (options : ASTFlags) → (behind : Option ExprLayer) → Link
 link_with form at rest_at options behind =
     record { form = form; at = at; rest_at = rest_at; stops_at_unit = stops options; behind = behind }
 
--- an index: the first of the chain behind it, or all that stands there
+-- the link of an index: by the first part of the chain behind it, or by all that stands there
 abbrev pub index_link : (broken : Bool) → Option Expr → Expr → ASTFlags → Position → Link
 index_link false (Some first) rhs options at = link_with (AtIndex first) at (position_of rhs) options (Some (out-Expr rhs))
 index_link _ _ rhs options at = link_with (AtIndex rhs) at (position_of rhs) options None
 
+-- the link of a dot whose form is this one, if it has one
 abbrev pub dot_link_with : Option LinkForm → (rest_at at : Position) → ASTFlags → (behind : Option ExprLayer) → Option Link
 dot_link_with (Some form) rest_at at options behind = Some (link_with form at rest_at options behind)
 dot_link_with None rest_at at options behind = None
 
--- a dot: the first of the chain behind it, or what stands there alone; a dot in brackets does not go on
+-- the link of a dot: the first part of the chain behind it, or what stands there alone; a chain in brackets is none
 abbrev pub dot_link : (broken : Bool) → Option Expr → Expr → ASTFlags → Position → Option Link
 dot_link false (Some first) rhs options at = dot_link_with (dot_form (out-Expr first)) (position_of rhs) at options (Some (out-Expr rhs))
 dot_link true (Some first) rhs options at = None
 dot_link _ None rhs options at = dot_link_with (dot_form (out-Expr rhs)) (position_of rhs) at options None
 
--- the link of a chain; anything else has none
+-- the link behind the operator of a chain; anything else has none
 abbrev pub link_of : ExprLayer → Option Link
 link_of (layer.Index lhs rhs options pos) = Some (index_link (breaks options) (first_in (out-Expr rhs)) rhs options pos)
 link_of (layer.Dot lhs rhs options pos) = dot_link (breaks options) (first_in (out-Expr rhs)) rhs options pos
@@ -73,11 +75,11 @@ asked_by (AtIndex index) = index ∷ []
 asked_by (AtProperty name at) = []
 asked_by (AtMethod name args at) = args
 
--- where an index starts, and where a property or a method stands
-abbrev pub place_in_text : LinkForm → Position
-place_in_text (AtIndex index) = start_of index
-place_in_text (AtProperty name at) = at
-place_in_text (AtMethod name args at) = at
+-- the position of a link: where an index starts, and where a property or a method stands
+abbrev pub link_position : LinkForm → Position
+link_position (AtIndex index) = start_of index
+link_position (AtProperty name at) = at
+link_position (AtMethod name args at) = at
 
 -- where the first of some arguments stands
 abbrev pub first_position : List Expr → Option Position

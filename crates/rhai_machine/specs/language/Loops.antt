@@ -9,39 +9,40 @@ use Rattle.rhai_machine.specs.language.State.{Local}
 use Rattle.rhai_machine.specs.language.Values.{unit_value}
 use Rattle.rhai_machine.specs.language.Frames.{Control, Frame, Core, core, Eval, Enter, WhileTurn, Back, Fail, WhileCondition, WhileBody}
 
--- a `while` without a condition, or whose condition is the literal `true`
+-- whether a `while` has no condition, or the literal `true` as one
 abbrev pub is_endless : ExprLayer → Bool
 is_endless (layer.BoolConstant b pos) = b
 is_endless (layer.Unit pos) = true
 is_endless _ = false
 
--- whether a `do` goes on: `until` its condition holds, or `while` it does
+-- whether a `do` goes on after its condition: an `until` where it does not hold, and a `while` where it does
 abbrev pub goes_on : (until holds : Bool) → Bool
 goes_on true holds = not holds
 goes_on false holds = holds
 
 module _ {H : Type 0} where
-  -- a turn of a `while` evaluates its condition; without one it enters the body, and an empty body is charged at its brace
+  -- a turn of a `while`: its condition is evaluated; without one the body is entered, or charged where it is empty
   abbrev pub while_move : (endless : Bool) → List Stmt → Expr → StmtBlock → List (Frame H) → Local H → Move H (Core H)
   while_move false stmts test body k l = Go (core (Eval test) (WhileCondition test body ∷ k) l)
   while_move true [] test body k l = Charge body.position (core (WhileTurn test body) k l)
   while_move true (stmt ∷ stmts) test body k l = Go (core (Enter (stmt ∷ stmts) true) (WhileBody test body ∷ k) l)
 
-  -- a condition that holds leads to the body, and one that does not ends the loop with `()`
+  -- after the condition of a `while`: where it holds the body is entered, and else the loop ends with `()`
   abbrev pub while_core : Bool → Expr → StmtBlock → List (Frame H) → Local H → Core H
   while_core true test body k l = core (Enter body.statements true) (WhileBody test body ∷ k) l
   while_core false test body k l = core (Back unit_value) k l
 
+  -- the next turn where a loop goes on, and else its end with `()`
   abbrev pub if_goes_on : Bool → Control H → Control H
   if_goes_on true turn = turn
   if_goes_on false turn = Back unit_value
 
-  -- after its condition a `do` starts its next turn, or ends with `()`
+  -- after the condition of a `do`: its next turn or its end with `()`; an error comes down
   abbrev pub do_control : Result Bool (EvalAltResult H) → (until : Bool) → (turn : Control H) → Control H
   do_control (Ok holds) until turn = if_goes_on (goes_on until holds) turn
   do_control (Err e) until turn = Fail e
 
-  -- out of a body: `continue` starts the next turn, `break` ends the loop with its value as it is, and any other error passes
+  -- what comes of an error in a body: `continue` starts the next turn, `break` ends the loop with its value, and any other comes down
   abbrev pub caught : (turn : Control H) → EvalAltResult H → Control H
   caught turn (error.LoopBreak v false at) = turn
   caught turn (error.LoopBreak v true at) = Back v

@@ -8,10 +8,10 @@ use Rattle.rhai_machine.specs.language.Setting.{Rules, cut}
 use Rattle.rhai_machine.specs.language.Frames.{Core, Fail}
 use Rattle.rhai_machine.specs.language.Language.{machine}
 
--- the error that says so is on its way down
-abbrev pub IsWanting : {H : Type 0} → Core H → Type 0
-IsWanting c = (at : Position) × (c.control ≡ Fail (error.ErrorOutOfMemory at))
+-- the error that memory ran out is on its way down
+abbrev pub IsOutOfMemory : {H : Type 0} → Core H → Type 0
+IsOutOfMemory c = (at : Position) × (c.control ≡ Fail (error.ErrorOutOfMemory at))
 
--- the machine goes from one point to the other by itself, or it comes by itself to where memory runs out, and only unwinds from there
+-- the machine comes by itself from one point to the other, or to where memory runs out, and from there it only unwinds
 abbrev pub UpToMemory : {S H : Type 0} → Rules S H → Point S (Core H) → Point S (Core H) → Type 0
-UpToMemory rules p q = Reaches (machine rules) (cut rules) p q ⊎ RunsOut (machine rules) (cut rules) IsWanting p q
+UpToMemory rules p q = Reaches (machine rules) (cut rules) p q ⊎ RunsOut (machine rules) (cut rules) IsOutOfMemory p q

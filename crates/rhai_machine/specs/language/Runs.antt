@@ -9,11 +9,11 @@ use Rattle.rhai_machine.specs.language.Frames.{Control, Frame, Core, core, ended
 use Rattle.rhai_machine.specs.language.Language.{machine}
 
 module _ {S H : Type 0} where
-  -- a control on a stack, in a state
+  -- the point of a control on a stack, in a state
   abbrev pub at : Control H → List (Frame H) → State S H → Point S (Core H)
   at c k s = record { core = core c k s.local; table = s.table; count = s.count }
 
-  -- what the language has in a state
+  -- the point of a core, with the table and the count of a state
   abbrev pub with_core : Core H → State S H → Point S (Core H)
   with_core c s = record { core = c; table = s.table; count = s.count }
 
@@ -22,10 +22,10 @@ module _ {S H : Type 0} where
     abbrev pub Goes : Point S (Core H) → Point S (Core H) → Type 0
     Goes p q = Leads (machine rules) (cut rules) p q
 
-    -- from one control to another, over any stack
+    -- steps from one control to another, over any stack
     unfoldable pub Steps : Control H → State S H → Control H → State S H → Type 0
     Steps c old d new = (k : List (Frame H)) → Goes (at c k old) (at d k new)
 
-    -- from a control to the value or error that came of it
+    -- steps from a control to the value or the error that comes of it, over any stack
     abbrev pub Runs : Control H → State S H → Result (Dynamic H) (EvalAltResult H) → State S H → Type 0
     Runs c old result new = Steps c old (ended result) new

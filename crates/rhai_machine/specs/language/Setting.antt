@@ -18,7 +18,7 @@ pub record Globals (H : Type 0) : Type 0 where
   pub modules : List (Module H)
   pub named : List (List ℕ) × List (Module H)
 
--- what the rules of the language read
+-- what is fixed for the rules of the language: the limits, what the engine offers, and the type names of host values
 pub record Setting (H : Type 0) : Type 0 where
   pub limits : Limits
   pub offer : Offer H
@@ -30,13 +30,16 @@ pub record Rules (S H : Type 0) : Type 0 where
   pub setting : Setting H
   pub natives : Natives S H
 
+-- the modules that names lead to, of an engine's offer
 abbrev pub globals_of : {H : Type 0} → Offer H → Globals H
 globals_of offer = record { modules = offer.global_modules; named = offer.global_sub_modules }
 
 module _ {S H : Type 0} where
+  -- the rules of a setting over a table of natives
   abbrev pub over : Setting H → Natives S H → Rules S H
   over setting natives = record { setting = setting; natives = natives }
 
+  -- the rules of these limits, these type names of host values, this offer and these natives
   abbrev pub rules_of : Limits → (H → List ℕ) → Offer H → Natives S H → Rules S H
   rules_of limits host offer natives = over (record { limits = limits; offer = offer; host_type = host }) natives
 
@@ -44,6 +47,6 @@ module _ {S H : Type 0} where
   abbrev pub limit_under : Rules S H → ℕ
   limit_under rules = rules.setting.limits.max_operations
 
-  -- at which counts a charge is let through
+  -- the limit of operations as a test of the count: a charge is let through while the count is below it
   abbrev pub cut : Rules S H → ℕ → Bool
   cut rules = below (limit_under rules)

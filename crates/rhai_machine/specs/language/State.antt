@@ -4,8 +4,8 @@ use Rattle.rhai_machine.specs.Types.{Dynamic, EvalAltResult, Module, ScopeEntry}
 use Rattle.rhai_values.specs.declared.base.value.Import.{Import}
 use Rattle.rhai_state.specs.Errors.{is_out_of_memory}
 
--- the surroundings of the variables: libraries, imports, constants and their tables, how deep the calls are, the modules loaded, the
--- source's name, and the cells with their held marks
+-- What surrounds the variables: the libraries, the imports, the number of the current table of constants and all these tables, how deep the
+-- calls are, how many modules are loaded, the source's name, and the cells, each with its value or none where it is held.
 pub record Surroundings (H : Type 0) : Type 0 where
   pub lib : List (Module H)
   pub imports : List (Import H)
@@ -16,12 +16,13 @@ pub record Surroundings (H : Type 0) : Type 0 where
   pub source : Option (List ℕ)
   pub cells : List (Option (Dynamic H))
 
--- what a run has in hand beside its variables: `this`, and the value that a chain works on
+-- what a run has in hand beside its variables: `this`, and the focus of its chain
 pub record Held (H : Type 0) : Type 0 where
   pub this : Option (Dynamic H)
   pub focus : Option (Dynamic H)
 
--- what the rules of the language read and change; the focus is a copy of the value that a chain works on, which goes back to its place
+-- What the rules of the language read and change: the variables, `this`, the focus, how deep the restoring lists are, and what surrounds
+-- them. The focus is what a chain's link works on: a temporary, or a copy that goes back to its place.
 pub record Local (H : Type 0) : Type 0 where
   pub scope : List (ScopeEntry H)
   pub this : Option (Dynamic H)
@@ -29,7 +30,7 @@ pub record Local (H : Type 0) : Type 0 where
   pub scope_level : ℕ
   pub around : Surroundings H
 
--- all that a run changes: also the table's state, and the count of charges
+-- all that a run changes: the table's state, the count of charges, and what the rules see
 pub record State (S H : Type 0) : Type 0 where
   pub table : S
   pub count : ℕ
@@ -39,11 +40,11 @@ pub record State (S H : Type 0) : Type 0 where
 abbrev pub deeper : ℕ → ℕ
 deeper level = min (level + 1) (2 ^ 64 - 1)
 
--- no answer for want of memory
+-- a result that is not the error that memory ran out
 abbrev pub HasMemory : {A H : Type 0} → Result A (EvalAltResult H) → Type 0
 HasMemory (Ok v) = ⊤
 HasMemory (Err e) = is_out_of_memory e ≡ false
 
--- the result is this one, unless memory was wanting
+-- the result is this one, unless memory ran out
 abbrev pub Answers : {A H : Type 0} → Result A (EvalAltResult H) → Result A (EvalAltResult H) → Type 0
 Answers result wanted = HasMemory result → result ≡ wanted

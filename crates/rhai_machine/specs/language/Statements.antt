@@ -29,7 +29,7 @@ use Rattle.rhai_machine.specs.language.Imports.{import_core}
 use Rattle.rhai_machine.specs.language.Walks.{for_core, has_no_room}
 use Rattle.rhai_machine.specs.language.Assignment.{assignment_move}
 
--- an option is among the options
+-- whether an option is among the options
 abbrev pub has_option : ℕ → ASTFlags → Bool
 has_option option options = nat_eq (bit_and options.0 option) option
 
@@ -37,7 +37,7 @@ has_option option options = nat_eq (bit_and options.0 option) option
 abbrev pub mode_of : ASTFlags → AccessMode
 mode_of options = if has_option 4 options then ReadOnly else ReadWrite
 
--- the tables with a value for a name in one of them
+-- the tables with a value under a name in one of them
 abbrev pub with_entry_at : {T : Type 0} → List ℕ → T → List (List (List ℕ) × List T) → (at : ℕ) → Option (List (List ℕ) × List T) →
     List (List (List ℕ) × List T)
 with_entry_at name v tables at (Some table) = slice_set tables at (with_entry name v table)
@@ -48,22 +48,23 @@ abbrev pub loop_of : Ident → (counter : Option Ident) → Expr → StmtBlock �
 loop_of variable counter items body = record { variable = variable; counter = counter; items = items; body = body }
 
 module _ {H : Type 0} where
-  -- a list: an empty one has no effect; a restoring one keeps what it takes back at its end
+  -- what a restoring list keeps of the local state until its end
   abbrev pub saved_by : Local H → Saved
   saved_by l = record { scope_length = length l.scope; imports_length = length l.around.imports; scope_level = l.scope_level }
 
+  -- a list is entered: an empty one gives `()` at once, and a restoring one keeps what it takes back at its end
   abbrev pub enter_core : List Stmt → Bool → List (Frame H) → Local H → Core H
   enter_core [] restoring k l = core (Back unit_value) k l
   enter_core (stmt ∷ stmts) true k l = core (Run (stmt ∷ stmts) true unit_value) (RestoreList (saved_by l) ∷ k)
       (record l { scope_level = deeper l.scope_level })
   enter_core (stmt ∷ stmts) false k l = core (Run (stmt ∷ stmts) false unit_value) k l
 
-  -- the statements of a list, one after the other; the last one's value is the list's
+  -- the statements of a list one after the other; the value of the last one is the list's
   abbrev pub run_core : List Stmt → Bool → Dynamic H → List (Frame H) → Local H → Core H
   run_core [] restoring last k l = core (Back last) k l
   run_core (stmt ∷ stmts) restoring last k l = core (Exec stmt restoring) (RestOfList stmts restoring ∷ k) l
 
-  -- what a restoring list leaves
+  -- the local state after a restoring list: scope, imports and depth as they were kept
   abbrev pub restored_by : Saved → Local H → Local H
   restored_by saved l = record l {
     scope = take saved.scope_length l.scope;
@@ -71,51 +72,54 @@ module _ {H : Type 0} where
     around = record l.around { imports = take saved.imports_length l.around.imports };
   }
 
-  -- an `if` goes on with the list that its condition chose
+  -- after the condition of an `if`: the list that it chose is entered
   abbrev pub chosen_core : Bool → StmtBlock → StmtBlock → List (Frame H) → Local H → Core H
   chosen_core true body branch k l = core (Enter body.statements true) k l
   chosen_core false body branch k l = core (Enter branch.statements true) k l
 
-  -- a library with anything in it
+  -- whether a library has a function, a constant or a module
   abbrev pub has_some : Module H → Bool
   has_some m =
       let shown = out-Module H m in
       nat_lt 0 (length shown.functions + (length shown.constants.1 + length shown.sub_modules.1))
 
-  -- a constant is entered at the top of a script that has a library
+  -- whether a `const` is entered into the table of constants: it stands at the top of a script, and a library has anything in it
   abbrev pub enters : ASTFlags → (restoring : Bool) → Local H → Bool
   enters options restoring l =
       has_option 4 options && (not restoring && (nat_eq l.scope_level 0 && list_any has_some l.around.lib))
 
-  -- it is entered into the table of constants, as a copy
+  -- the surroundings with a copy of a value as a constant in the current table
   abbrev pub with_constant : List ℕ → Dynamic H → Surroundings H → Surroundings H
   with_constant name v around = record around {
     constant_tables = with_entry_at name (copy_of v) around.constant_tables around.constants
         (slice_get around.constant_tables around.constants);
   }
 
+  -- the local state once a `const` is entered into the table of constants, if it is
   abbrev pub constant_core : (enters : Bool) → List ℕ → Dynamic H → Local H → Local H
   constant_core true name v l = record l { around = with_constant name v l.around }
   constant_core false name v l = l
 
-  -- a new variable with its value
+  -- the scope with a new variable, in the mode that is asked for
   abbrev pub added : Dynamic H → Ident → ASTFlags → Local H → Local H
   added v ident options l = record l { scope = l.scope ++ new_entry ident.name (mode_of options) v ∷ [] }
 
-  -- the value of one that overwrites another goes into the newest entry of its name, a constant's and a handle's too
+  -- the entry at an index gets this value, in the mode that is asked for, whatever it had, a constant or a handle too
   abbrev pub overwritten : (at : Option ℕ) → Dynamic H → ASTFlags → Local H → Local H
   overwritten None v options l = l
   overwritten (Some at) v options l = put (InEntry at) (with_mode (mode_of options) v) l
 
+  -- a variable that is defined: a new one, or, with an index, the newest one of its name, which is overwritten
   abbrev pub written : (index : Option NonZeroUsize) → Dynamic H → Ident → ASTFlags → Local H → Local H
   written None v ident options l = added v ident options l
   written (Some offset) v ident options l = overwritten (index_of ident.name l.scope) v options l
 
-  -- one that is exported is then exported under its own name
+  -- a variable that is defined, and exported under its own name where that is asked
   abbrev pub declared_core : (exported : Bool) → Ident → List (Frame H) → Local H → Core H
   declared_core false ident k l = core (Back unit_value) k l
   declared_core true ident k l = export_core ident None k l
 
+  -- a `let` or a `const`, once its value is there
   abbrev pub defined_core : Dynamic H → Ident → (index : Option NonZeroUsize) → ASTFlags → (restoring : Bool) → List (Frame H) →
       Local H → Core H
   defined_core v ident index options restoring k l = declared_core (is_exported options) ident k
@@ -126,7 +130,7 @@ module _ {H : Type 0} where
   break_core None is_break pos k l = core (Fail (error.LoopBreak unit_value is_break pos)) k l
   break_core (Some value) is_break pos k l = core (Eval value) (BreakValue is_break pos ∷ k) l
 
-  -- a `return` is an error on its way to the end of its function or script, and a `throw` on its way to a `try`
+  -- a `return` is an error on its way to the end of its function or script, and a `throw` one on its way to a `try`
   abbrev pub return_move : (throws : Bool) → Option Expr → Position → List (Frame H) → Local H → Move H (Core H)
   return_move true None pos k l = Go (core (Fail (error.ErrorRuntime unit_value pos)) k l)
   return_move true (Some value) pos k l = Go (core (Eval value) (ThrowValue (position_of value) pos ∷ k) l)
@@ -134,7 +138,7 @@ module _ {H : Type 0} where
   return_move false (Some value) pos k l = Go (core (Eval value) (ReturnValue (position_of value) pos ∷ k) l)
 
   module _ (s : Setting H) where
-    -- where shadowing is off a name is declared once; a scope gets a new variable only below its limit; then the value
+    -- a `let` or a `const`: without shadowing a name is declared once, and a new variable needs room; then the value is evaluated
     abbrev pub define_core : (shadows full : Bool) → Ident → Expr → (index : Option NonZeroUsize) → ASTFlags → (restoring : Bool) →
         Position → List (Frame H) → Local H → Core H
     define_core true full ident value index options restoring pos k l = core (Fail (error.ErrorVariableExists ident.name pos)) k l
@@ -142,7 +146,7 @@ module _ {H : Type 0} where
     define_core false false ident value index options restoring pos k l =
         core (Eval value) (DefineValue ident index options restoring (position_of value) ∷ k) l
 
-    -- a statement, after its charge
+    -- a statement by its form, after its charge
     abbrev pub stmt_move : StmtLayer → Bool → List (Frame H) → Local H → Move H (Core H)
     stmt_move (layer.Noop pos) restoring k l = Go (core (Back unit_value) k l)
     stmt_move (layer.Expr value) restoring k l = Go (core (Eval value) (StatementValue (position_of value) ∷ k) l)

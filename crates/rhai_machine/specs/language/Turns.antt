@@ -15,18 +15,21 @@ pub record ForLoop : Type 0 where
   pub items : Expr
   pub body : StmtBlock
 
--- the turns that are left: one for each of some items, or for each of so many integers from one on
+-- the turns that are left: one for each of some items, or one for each of so many integers, from this one upward
 pub data Turns (H : Type 0) : Type 0 where
   OfItems : List (Dynamic H) → Turns H
   OfIntegers : (next : ℤ) → (count : ℕ) → Turns H
 
 module _ {H : Type 0} where
+  -- an integer, read-write
   abbrev pub integer_value : ℤ → Dynamic H
   integer_value n = plain (value.Int n)
 
+  -- a byte as an integer, read-write
   abbrev pub byte_value : ℕ → Dynamic H
   byte_value byte = integer_value (pos byte)
 
+  -- a character, read-write
   abbrev pub letter_value : ℕ → Dynamic H
   letter_value letter = plain (value.Char letter)
 

@@ -49,15 +49,16 @@ use Rattle.rhai_machine.specs.language.Chains.{assign_focus, begun_core}
 module _ {H : Type 0} where
   -- ---- what a frame takes back as it is left
 
-  -- the value above a step, with the focus where the step leads
+  -- the local state with a value as the focus, and the cells that it goes with
   abbrev pub gone_up : Rooted H → Local H → Local H
   gone_up root l = record l { focus = Some root.value; around = record l.around { cells = root.cells } }
 
-  -- a chain's focus goes back to who lent its root
+  -- the local state as a chain ends: its focus goes back to who lent the root, and the focus before it comes back
   abbrev pub ended_chain : (lender : Option Lender) → (outer : Option (Dynamic H)) → Local H → Local H
   ended_chain None outer l = focused_on outer l
   ended_chain (Some lender) outer l = focused_on outer (put (place_of lender) (focus_of l) l)
 
+  -- the local state as a frame is left: what a list, a statement, a call or a link of a chain has to take back is taken back
   abbrev pub restored : Frame H → Local H → Local H
   restored (RestoreList saved) l = restored_by saved l
   restored (RestoreScope length) l = record l { scope = take length l.scope }
@@ -70,57 +71,58 @@ module _ {H : Type 0} where
   restored (MemberOperated access above op_at) l = focused_on above l
   restored _ l = l
 
-  -- a value as it is measured, through a handle
+  -- a value as it is measured, by its kind: of a handle the value of its cell, unless that is held
   abbrev pub looked_at_in : Cells H → Union H → Dynamic H → Dynamic H
   looked_at_in cells (value.Cell id) v = unwrap_or (value_of_cell cells id.number) v
   looked_at_in cells _ v = v
 
-  abbrev pub looked_at : Cells H → Dynamic H → Dynamic H
-  looked_at cells v = looked_at_in cells v.value v
+  -- a value as it is measured, seen through a handle
+  abbrev pub as_measured : Cells H → Dynamic H → Dynamic H
+  as_measured cells v = looked_at_in cells v.value v
 
-  -- what a script's end makes of an error: a `return` gives its value, and so does an exit where that is asked
-  abbrev pub topped : (map_exit : Bool) → EvalAltResult H → Result (Dynamic H) (EvalAltResult H)
-  topped map_exit (error.Return v at) = Ok v
-  topped true (error.Exit v at) = Ok v
-  topped map_exit e = Err e
+  -- what comes of an error at a script's end: a `return` gives its value, and so does an exit where that is asked
+  abbrev pub script_ended : (map_exit : Bool) → EvalAltResult H → Result (Dynamic H) (EvalAltResult H)
+  script_ended map_exit (error.Return v at) = Ok v
+  script_ended true (error.Exit v at) = Ok v
+  script_ended map_exit e = Err e
 
-  -- an assignment ends marked, once what was assigned to is measured
+  -- an assignment in a chain ends as a change, once what was assigned to is measured
   abbrev pub measured_part : Result (Dynamic H) (EvalAltResult H) → Control H
   measured_part (Ok v) = Changed unit_value
   measured_part (Err e) = Fail e
 
 module _ {H : Type 0} (s : Setting H) where
   -- the operands of an operator are there
-  abbrev pub operated : Operation → List (Dynamic H) → List (Frame H) → Local H → Core H
-  operated operation args k l = operator_core s (builtin_of operation.token args) (call_of operation args) k l
+  abbrev pub operands_there : Operation → List (Dynamic H) → List (Frame H) → Local H → Core H
+  operands_there operation args k l = operator_core s (builtin_of operation.token args) (call_of operation args) k l
 
-  -- a changed part is put back into the value above, where it is of the type that was read
-  abbrev pub not_put : Spot → (part : Dynamic H) → Position → EvalAltResult H
-  not_put at part pos = mismatch (wanted at) (own_type_name s.host_type part.value) pos
+  -- the error that a part is of another type than the one that was read, and can not be put back
+  abbrev pub put_back_error : Spot → (part : Dynamic H) → Position → EvalAltResult H
+  put_back_error at part pos = mismatch (wanted at) (own_type_name s.host_type part.value) pos
 
-  -- an assigned part, and it is measured then
+  -- a part that was assigned to is put back into the value above, and measured then
   abbrev pub part_assigned : Option (Dynamic H) → (above : Dynamic H) → Spot → (op_at : Position) → List (Frame H) → Local H → Core H
   part_assigned (Some whole) above at op_at k l =
       core (measured_part (sized s.limits (focus_of l) op_at)) k (focused_on (Some whole) l)
-  part_assigned None above at op_at k l = core (Fail (not_put at (focus_of l) op_at)) k (focused_on (Some above) l)
+  part_assigned None above at op_at k l = core (Fail (put_back_error at (focus_of l) op_at)) k (focused_on (Some above) l)
 
-  -- a part that a method may have changed
+  -- a part that a method may have changed is put back into the value above
   abbrev pub part_changed : Option (Dynamic H) → (above : Dynamic H) → Spot → Position → Dynamic H → List (Frame H) → Local H → Core H
   part_changed (Some whole) above at pos v k l = core (Changed v) k (focused_on (Some whole) l)
-  part_changed None above at pos v k l = core (Fail (not_put at (focus_of l) pos)) k (focused_on (Some above) l)
+  part_changed None above at pos v k l = core (Fail (put_back_error at (focus_of l) pos)) k (focused_on (Some above) l)
 
-  -- a member that was operated on is set, an item once it is measured
+  -- a member that an operator worked on is set, an item once it is measured
   abbrev pub operated_core : Member H → MemberAccess H → Dynamic H → (op_at : Position) → List (Frame H) → Local H → Core H
   operated_core (Property name at) access v op_at k l = set_core false access v k l
   operated_core (Item index) access v op_at k l =
       on_value (sized s.limits v op_at) (λ x. set_core false access x (MemberSet unit_value ∷ k) l) k l
 
-  -- where there is no indexer an item is set to the right side as it is
+  -- where an operator gets no member: an item that has no indexer is set to the right side as it is, and any other error comes down
   abbrev pub got_none : (lacks : Bool) → Member H → EvalAltResult H → MemberAccess H → NewValue H → List (Frame H) → Local H → Core H
   got_none true (Item index) e access new k l = set_core false access new.value (MemberSet unit_value ∷ k) l
   got_none _ member e access new k l = core (Fail e) k l
 
-  -- a value comes up to a frame; a left operand is flattened before the right one is evaluated
+  -- what a frame does with a value that comes up to it
   abbrev pub up_core : Frame H → Dynamic H → List (Frame H) → Local H → Core H
   up_core (StatementValue at) v k l = core (ended (flat l.around.cells v at)) k l
   up_core (DefineValue ident index options restoring value_at) v k l =
@@ -131,11 +133,11 @@ module _ {H : Type 0} (s : Setting H) where
   up_core (IfCondition test_at body branch) v k l =
       on_value (truth s.host_type l.around.cells v test_at) (λ holds. chosen_core holds body branch k l) k l
   up_core (RestOfList rest restoring) v k l = core (Run rest restoring v) k l
-  up_core (UnaryOperand operation operand_at) v k l = on_value (flat l.around.cells v operand_at) (λ x. operated operation (x ∷ []) k l) k l
+  up_core (UnaryOperand operation operand_at) v k l = on_value (flat l.around.cells v operand_at) (λ x. operands_there operation (x ∷ []) k l) k l
   up_core (LeftOperand operation left_at right) v k l = on_value (flat l.around.cells v left_at)
       (λ x. core (Argument right) (RightOperand operation x (position_of right) ∷ k) l) k l
   up_core (RightOperand operation left right_at) v k l =
-      on_value (flat l.around.cells v right_at) (λ y. operated operation (left ∷ y ∷ []) k l) k l
+      on_value (flat l.around.cells v right_at) (λ y. operands_there operation (left ∷ y ∷ []) k l) k l
   up_core (CallArgument purpose made argument_at rest) v k l =
       on_value (taken (flattens purpose) l.around.cells v argument_at) (λ x. arguments_core s purpose (made ++ x ∷ []) rest k l) k l
   up_core (KeywordArgument keyword call_at start rest captures) v k l = keyword_core s keyword call_at start rest captures v k l
@@ -176,7 +178,7 @@ module _ {H : Type 0} (s : Setting H) where
   up_core (RootValue chain) v k l =
       on_value (flat l.around.cells v (position_of chain.root)) (λ x. begun_core false None x chain k l) k l
   up_core (PartAssigned above at op_at) v k l = part_assigned (put_back above at (focus_of l)) above at op_at k l
-  up_core (Measured op_at) v k l = on_value (sized s.limits (looked_at l.around.cells (focus_of l)) op_at) (λ x. core (Changed unit_value) k l) k l
+  up_core (Measured op_at) v k l = on_value (sized s.limits (as_measured l.around.cells (focus_of l)) op_at) (λ x. core (Changed unit_value) k l) k l
   up_core (MethodLink chain) v k l = core (Walk chain) (Temporary l.focus None ∷ k) (focused_on (Some v) l)
   up_core (MemberLink access chain) v k l = core (Walk chain) (Temporary l.focus (Some access) ∷ k) (focused_on (Some v) l)
   up_core (MemberGot access root new) v k l =
@@ -185,10 +187,10 @@ module _ {H : Type 0} (s : Setting H) where
   up_core (MemberSet value) v k l = core (Changed value) k l
   up_core frame v k l = core (Back v) k (restored frame l)
 
-  -- an error comes down to a frame: but for a script's and a function's end, a loop's body, a `try` and its branch, and what a native
-  -- prints each takes back what it has to, and passes it on
+  -- What a frame does with an error that comes down to it. All but the ends of scripts and of functions, the bodies of loops, a `try` and
+  -- its branch, a printed part, and natives that may be missing take back what they have to, and pass it on.
   abbrev pub down_core : Frame H → EvalAltResult H → List (Frame H) → Local H → Core H
-  down_core (Top map_exit) e k l = core (ended (topped map_exit e)) k l
+  down_core (Top map_exit) e k l = core (ended (script_ended map_exit e)) k l
   down_core (CallEnd exit) e k l = core (ended (returned exit e)) k (called_back exit l)
   down_core (WhileBody test body) e k l = core (caught (WhileTurn test body) e) k l
   down_core (DoBody test body options) e k l = core (caught (DoTurn test body options) e) k l
@@ -207,13 +209,13 @@ module _ {H : Type 0} (s : Setting H) where
   temporary_changed None temporary v k l = core (Changed v) k l
   temporary_changed (Some access) temporary v k l = set_core true access temporary (MemberSet v ∷ k) l
 
-  -- a value comes up that is marked: where the focus goes back to a place the mark goes on, and to a part or a temporary it is what makes
-  -- it go back; what waits for a value alone forgets it
-  abbrev pub marked_core : Frame H → Dynamic H → List (Frame H) → Local H → Core H
-  marked_core (StepDown above step) v k l = core (Changed v) k (restored (StepDown above step) l)
-  marked_core (Temporary above back) v k l = temporary_changed back (focus_of l) v k (focused_on above l)
-  marked_core (PartMethod above at pos) v k l = part_changed (put_back above at (focus_of l)) above at pos v k l
-  marked_core (GetterTried access name) v k l = core (Changed v) k l
-  marked_core (SetterTried access name value ignores) v k l = core (Changed v) k l
-  marked_core (IndexerTried otherwise) v k l = core (Changed v) k l
-  marked_core frame v k l = core (Back v) (frame ∷ k) l
+  -- What a frame does with a value that comes up as that of a change. The change goes on where the focus goes back to a place, and past a
+  -- native that was tried; a part or a temporary goes back because of it; any other frame forgets it.
+  abbrev pub changed_up_core : Frame H → Dynamic H → List (Frame H) → Local H → Core H
+  changed_up_core (StepDown above step) v k l = core (Changed v) k (restored (StepDown above step) l)
+  changed_up_core (Temporary above back) v k l = temporary_changed back (focus_of l) v k (focused_on above l)
+  changed_up_core (PartMethod above at pos) v k l = part_changed (put_back above at (focus_of l)) above at pos v k l
+  changed_up_core (GetterTried access name) v k l = core (Changed v) k l
+  changed_up_core (SetterTried access name value ignores) v k l = core (Changed v) k l
+  changed_up_core (IndexerTried otherwise) v k l = core (Changed v) k l
+  changed_up_core frame v k l = core (Back v) (frame ∷ k) l

@@ -12,9 +12,11 @@ abbrev pub Cells : Type 0 → Type 0
 Cells H = List (Option (Dynamic H))
 
 module _ {H : Type 0} where
+  -- the value `()`, read-write
   abbrev pub unit_value : Dynamic H
   unit_value = plain value.Unit
 
+  -- a truth value, read-write
   abbrev pub bool_value : Bool → Dynamic H
   bool_value b = plain (value.Bool b)
 
@@ -28,39 +30,44 @@ module _ {H : Type 0} where
   is_truth (value.Bool b) = true
   is_truth _ = false
 
-  -- a use of what a handle leads to, or the race with whoever holds the cell
+  -- a cell's value as it is used; where the cell is held, a data race under this name
   abbrev pub used : List ℕ → Position → Option (Dynamic H) → Result (Dynamic H) (EvalAltResult H)
   used name at (Some v) = Ok v
   used name at None = Err (error.ErrorDataRace name at)
 
+  -- a copy of the value that a result has; an error stays
   abbrev pub copied : Result (Dynamic H) (EvalAltResult H) → Result (Dynamic H) (EvalAltResult H)
   copied (Ok v) = Ok (copy_of v)
   copied (Err e) = Err e
 
-  -- a value without its handle: of a handle, a copy of the cell's value; anything else stays
+  -- a value taken off its handle, by its kind: of a handle a copy of the cell's value, and anything else as it is
   abbrev pub flat_union : Cells H → Union H → Dynamic H → Position → Result (Dynamic H) (EvalAltResult H)
   flat_union cells (value.Cell id) v at = copied (used [] at (value_of_cell cells id.number))
   flat_union cells _ v at = Ok v
 
+  -- a value taken off its handle; where its cell is held, a data race at this position
   abbrev pub flat : Cells H → Dynamic H → Position → Result (Dynamic H) (EvalAltResult H)
   flat cells v at = flat_union cells v.value v at
 
-  -- the value looked at, through a handle, without a copy
+  -- a value looked at through its handle, by its kind: of a handle the cell's value itself, and anything else as it is
   abbrev pub through_union : Cells H → Union H → Dynamic H → Position → Result (Dynamic H) (EvalAltResult H)
   through_union cells (value.Cell id) v at = used [] at (value_of_cell cells id.number)
   through_union cells _ v at = Ok v
 
+  -- a value looked at through its handle, without a copy; where its cell is held, a data race at this position
   abbrev pub through : Cells H → Dynamic H → Position → Result (Dynamic H) (EvalAltResult H)
   through cells v at = through_union cells v.value v at
 
+  -- the error that a value of one type is wanted, and one of another type is there
   abbrev pub mismatch : List ℕ → List ℕ → Position → EvalAltResult H
   mismatch wanted found at = error.ErrorMismatchDataType (record { wanted = wanted; found = found }) at
 
-  -- a truth value, or the mismatch
+  -- the truth value that a value is, by its kind; any other kind is a mismatch
   abbrev pub truth_union : (H → List ℕ) → Cells H → Union H → Dynamic H → Position → Result Bool (EvalAltResult H)
   truth_union host cells (value.Bool b) v at = Ok b
   truth_union host cells _ v at = Err (mismatch (codes "bool") (type_name_of host cells v) at)
 
+  -- the truth value that a value is as it was seen through a handle; an error stays
   abbrev pub truth_seen : (H → List ℕ) → Cells H → Position → Result (Dynamic H) (EvalAltResult H) → Result Bool (EvalAltResult H)
   truth_seen host cells at (Ok v) = truth_union host cells v.value v at
   truth_seen host cells at (Err e) = Err e

@@ -11,22 +11,25 @@ pub record Path : Type 0 where
   pub names : List (List ℕ)
   pub at : Position
 
+-- a variable as it is written: its path, its name, and where the name stands
 pub record Variable : Type 0 where
   pub path : Path
   pub name : List ℕ
   pub at : Position
 
--- in front of a name by itself stands nothing
+-- the path of a name by itself: nothing stands in front of it
 abbrev pub no_path : Path
 no_path = record { names = []; at = none }
 
+-- the path that a namespace is
 abbrev pub path_of : Namespace → Path
 path_of namespace = record { names = namespace.path; at = namespace.position }
 
+-- the variable of this name behind a namespace, at this position
 abbrev pub variable_named : (name : List ℕ) → Namespace → (at : Position) → Variable
 variable_named name namespace at = record { path = path_of namespace; name = name; at = at }
 
--- where an expression is a variable
+-- the variable that an expression is, if it is one
 abbrev pub variable_in : ExprLayer → Option Variable
 variable_in (layer.Variable offset name namespace pos) = Some (variable_named name namespace pos)
 variable_in _ = None

@@ -4,28 +4,28 @@ use Rattle.rhai_machine.specs.Types.{Dynamic, Position}
 use Rattle.rhai_state.specs.Native.{Request, Reply, Effect}
 use Rattle.rhai_machine.specs.machine.Machine.{Move, Halt, Go, Charge, Native, AskPure, Machine, Config, Run}
 
--- a configuration but for its calls
+-- a configuration without its list of calls
 pub record Point (S Core : Type 0) : Type 0 where
   pub core : Core
   pub table : S
   pub count : ℕ
 
--- the configuration at a point after a list of calls
+-- the configuration of a point, with this list of calls
 abbrev pub with_calls : {S H Core : Type 0} → Point S Core → List (Request H) → Config S H Core
 with_calls p calls = record { core = p.core; table = p.table; count = p.count; calls = calls }
 
--- a call leaves its state of the table
+-- what a native's call makes of a point: the core goes on from its reply, with the table's state that it leaves
 abbrev pub answered : {S H Core : Type 0} → (Reply H → Option (Dynamic H) → Core) → Effect S H → Point S Core → Point S Core
 answered f e p = record p { core = f e.reply e.first; table = e.state }
 
 module _ {S H Core : Type 0} (M : Machine S H Core) where
-  -- a charge that is let through adds one; a refused one adds nothing
+  -- a charge that is let through adds one to the count and goes on; a refused one adds nothing, and leaves the core of the refusal
   abbrev pub paid : Bool → Position → Core → Point S Core → Point S Core
   paid true at d p = record p { core = d; count = p.count + 1 }
   paid false at d p = record p { core = M.refuse at p.core }
 
 module _ {S H Core : Type 0} (M : Machine S H Core) (allows : ℕ → Bool) where
-  -- what a move makes of a point; at the end it stays
+  -- what a move makes of a point; at the end of the run it stays
   abbrev pub moved : Move H Core → Point S Core → Point S Core
   moved Halt p = p
   moved (Go d) p = record p { core = d }
@@ -33,7 +33,7 @@ module _ {S H Core : Type 0} (M : Machine S H Core) (allows : ℕ → Bool) wher
   moved (Native q f) p = answered f (M.natives.gives p.table q) p
   moved (AskPure q f) p = record p { core = f (M.natives.pure p.table q) }
 
-  -- one step
+  -- the point after one step
   unfoldable pub after : Point S Core → Point S Core
   after p = moved (M.move p.core) p
 
@@ -42,7 +42,7 @@ module _ {S H Core : Type 0} (M : Machine S H Core) (allows : ℕ → Bool) wher
     here : {p : Point S Core} → Reaches p p
     next : {p q : Point S Core} → Reaches (after p) q → Reaches p q
 
-  -- the run that goes on from a point after a list of calls, and ends at another after all its calls
+  -- from one point, with these calls so far, a run ends at the other point, with some list of calls
   abbrev pub Logged : Point S Core → Point S Core → List (Request H) → Type 0
   Logged p q calls = (all : List (Request H)) × Run M allows (with_calls p calls) (with_calls q all)
 

@@ -5,7 +5,7 @@ use Rattle.rhai_state.specs.Native.{Request, Reply, Purity}
 use Rattle.rhai_machine.specs.machine.Machine.{Move, Halt, Go, Charge, Native, AskPure, Machine}
 
 module _ {S H Core : Type 0} (M : Machine S H Core) where
-  -- after so many steps the run halts or charges, whatever the table answers on the way
+  -- from this core the run halts or charges after finitely many steps, whatever the table answers on the way
   pub data Settles : Core → Type 0 where
     at_end : {c : Core} → M.move c ≡ Halt → Settles c
     at_charge : {c d : Core} {at : Position} → M.move c ≡ Charge at d → Settles c
@@ -14,7 +14,7 @@ module _ {S H Core : Type 0} (M : Machine S H Core) where
         ((reply : Reply H) (first : Option (Dynamic H)) → Settles (f reply first)) → Settles c
     by_question : {c : Core} {p : Purity} {f : Bool → Core} → M.move c ≡ AskPure p f → ((answer : Bool) → Settles (f answer)) → Settles c
 
--- a size of cores falls at a move without a charge
+-- a size of cores falls at this move, unless it is the end or a charge
 abbrev pub Falls : {H Core : Type 0} → (Core → ℕ) → Core → Move H Core → Type 0
 Falls size c Halt = ⊤
 Falls size c (Go d) = size d < size c

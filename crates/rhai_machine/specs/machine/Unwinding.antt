@@ -3,7 +3,7 @@ use Rattle.std.specs.Prelude.{◌≡◌, ⊤}
 use Rattle.rhai_machine.specs.Types.{Position}
 use Rattle.rhai_machine.specs.machine.Machine.{Move, Halt, Go, Charge, Native, AskPure, Machine, Config}
 
--- a move while such an error is on its way: the end, or a plain step that keeps it on its way
+-- a move that only unwinds: the end of the run, or a plain step after which the error is still on its way
 abbrev pub Passes : {H Core : Type 0} → (Core → Type 0) → Move H Core → Type 0
 Passes R Halt = ⊤
 Passes R (Go d) = R d
@@ -12,12 +12,12 @@ Passes R (Native q f) = ⊥
 Passes R (AskPure p f) = ⊥
 
 module _ {S H Core : Type 0} (M : Machine S H Core) (R : Core → Type 0) where
-  -- A language in which a refused charge only unwinds. R says of a core that the error of a refused charge is on its way down.
+  -- a refused charge only unwinds; R says of a core that the error of a refused charge is on its way down
   pub record Unwinds : Type 0 where
     pub refuses : (at : Position) (c : Core) → R (M.refuse at c)
     pub stays : (c : Core) → R c → Passes R (M.move c)
 
--- what unwinding leaves: the error, and table, count and calls as they were
+-- what unwinding leaves: the error, with table, count and calls as they were
 pub record Unwound {S H Core : Type 0} (R : Core → Type 0) (c a : Config S H Core) : Type 0 where
   pub refused : R a.core
   pub table : a.table ≡ c.table

@@ -1,7 +1,7 @@
 //! `switch`, `for`, `try`, `export` and `import`, what closures share, and functions.
 
 use crate::making::statements::ident;
-use crate::making::{Making, place, shared};
+use crate::making::{Making, at_column, shared};
 use crate::parts::{Case, Part};
 use rhai_build::functions::script_function;
 use rhai_tree::Items;
@@ -12,7 +12,7 @@ use rhai_tree::position::Position;
 use std::alloc::{AllocError, Global};
 use std::num::NonZeroUsize;
 
-/// The cases of a `switch`.
+/// Builds the cases of a `switch`.
 fn cases_of(alloc: Global, cases: &[Case<'_>]) -> Result<Items<SwitchCase>, AllocError> {
     let mut made = Items::new(alloc);
     for case in cases {
@@ -28,7 +28,7 @@ fn cases_of(alloc: Global, cases: &[Case<'_>]) -> Result<Items<SwitchCase>, Allo
     Ok(made)
 }
 
-/// What closures share.
+/// Builds what closures share.
 fn variables(
     alloc: Global,
     names: &[(&str, usize, u16)],
@@ -52,21 +52,21 @@ impl Making {
                 cases: cases_of(self.alloc, cases)?,
                 ranges: Items::from_slice(self.alloc, ranges)?,
                 def_case: default,
-                pos: place(column),
+                pos: at_column(column),
             },
             Part::For(name, at_name, column) => Stmt::For {
                 name: ident(self.alloc, name, at_name)?,
                 counter: None,
                 expr: self.expr(),
                 body: self.block(),
-                pos: place(column),
+                pos: at_column(column),
             },
             Part::ForCounted(name, at_name, counter, at_counter, column) => Stmt::For {
                 name: ident(self.alloc, name, at_name)?,
                 counter: Some(ident(self.alloc, counter, at_counter)?),
                 expr: self.expr(),
                 body: self.block(),
-                pos: place(column),
+                pos: at_column(column),
             },
             _ => return self.add_catch(part),
         };
@@ -90,21 +90,21 @@ impl Making {
             Part::Try(column) => {
                 let branch = self.block();
                 let caught = Expr::Unit(Position::NONE);
-                Stmt::TryCatch(self.block(), caught, branch, place(column))
+                Stmt::TryCatch(self.block(), caught, branch, at_column(column))
             }
             Part::TryCatching(column) => {
                 let branch = self.block();
                 let caught = self.expr();
-                Stmt::TryCatch(self.block(), caught, branch, place(column))
+                Stmt::TryCatch(self.block(), caught, branch, at_column(column))
             }
             Part::Share(names) => Stmt::Share(variables(self.alloc, names)?),
             Part::Export(name, at_name, column) => {
-                Stmt::Export(ident(self.alloc, name, at_name)?, None, place(column))
+                Stmt::Export(ident(self.alloc, name, at_name)?, None, at_column(column))
             }
             Part::ExportAs(name, at_name, alias, at_alias, column) => {
                 let name = ident(self.alloc, name, at_name)?;
                 let alias = ident(self.alloc, alias, at_alias)?;
-                Stmt::Export(name, Some(alias), place(column))
+                Stmt::Export(name, Some(alias), at_column(column))
             }
             _ => return self.add_import(part),
         };
@@ -114,10 +114,10 @@ impl Making {
     /// Adds an `import` or a function.
     fn add_import(&mut self, part: Part<'_>) -> Result<(), AllocError> {
         let made = match part {
-            Part::Import(column) => Stmt::Import(self.expr(), None, place(column)),
+            Part::Import(column) => Stmt::Import(self.expr(), None, at_column(column)),
             Part::ImportAs(alias, at_alias, column) => {
                 let alias = ident(self.alloc, alias, at_alias)?;
-                Stmt::Import(self.expr(), Some(alias), place(column))
+                Stmt::Import(self.expr(), Some(alias), at_column(column))
             }
             Part::Function(name, params) => {
                 return self.add_function(FnAccess::Public, name, params);

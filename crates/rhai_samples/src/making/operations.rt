@@ -1,6 +1,6 @@
 //! Expressions that are made of others.
 
-use crate::making::{Making, place, shared, take_last};
+use crate::making::{Making, at_column, shared, take_last};
 use crate::parts::Part;
 use bitflags::Flags;
 use rhai_tree::expr::{Expr, FnCallExpr, MapEntry};
@@ -10,11 +10,11 @@ use rhai_tree::token::Token;
 use rhai_tree::{Boxed, Items, Table};
 use std::alloc::{AllocError, Global};
 
-/// So many ones, which all stand at one place.
+/// Builds so many ones, which all stand at one position.
 fn ones(alloc: Global, count: u32, column: u16) -> Result<Items<Expr>, AllocError> {
     let mut items = Items::new(alloc);
     for _ in 0..count {
-        items.push(Expr::IntegerConstant(1, place(column)))?;
+        items.push(Expr::IntegerConstant(1, at_column(column)))?;
     }
     Ok(items)
 }
@@ -23,22 +23,22 @@ impl Making {
     /// Adds an expression that is made of others.
     pub(super) fn add_operation(&mut self, part: Part<'_>) -> Result<(), AllocError> {
         let made = match part {
-            Part::Array(count, column) => Expr::Array(self.exprs(count)?, place(column)),
+            Part::Array(count, column) => Expr::Array(self.exprs(count)?, at_column(column)),
             Part::Ones(count, at_item, column) => {
-                Expr::Array(ones(self.alloc, count, at_item)?, place(column))
+                Expr::Array(ones(self.alloc, count, at_item)?, at_column(column))
             }
             Part::Map(names, column) => self.map(names, column)?,
-            Part::And(column) => Expr::And(self.exprs(2)?, place(column)),
-            Part::Coalesce(column) => Expr::Coalesce(self.exprs(2)?, place(column)),
+            Part::And(column) => Expr::And(self.exprs(2)?, at_column(column)),
+            Part::Coalesce(column) => Expr::Coalesce(self.exprs(2)?, at_column(column)),
             Part::Operator(token, column) => {
                 let call = self.call(token.as_str(), 2, Some(token))?;
-                Expr::FnCall(call, place(column))
+                Expr::FnCall(call, at_column(column))
             }
             Part::Call(name, count, column) => {
-                Expr::FnCall(self.call(name, count, None)?, place(column))
+                Expr::FnCall(self.call(name, count, None)?, at_column(column))
             }
             Part::Method(name, count, column) => {
-                Expr::MethodCall(self.call(name, count, None)?, place(column))
+                Expr::MethodCall(self.call(name, count, None)?, at_column(column))
             }
             Part::Dot(column) => self.dot(ASTFlags::empty(), column)?,
             Part::DotUnlessUnit(column) => self.dot(ASTFlags::NEGATED, column)?,
@@ -55,7 +55,7 @@ impl Making {
         take_last(self.alloc, &mut self.exprs, count)
     }
 
-    /// A call with so many arguments.
+    /// Builds a call with so many arguments.
     fn call(
         &mut self,
         name: &str,
@@ -72,7 +72,7 @@ impl Making {
         })
     }
 
-    /// A map with a value for each of its names.
+    /// Builds a map with a value for each of its names.
     fn map(&mut self, names: &[&str], column: u16) -> Result<Expr, AllocError> {
         let mut entries = Items::new(self.alloc);
         let mut template = Table::new(self.alloc);
@@ -82,7 +82,7 @@ impl Making {
             let value = self.expr();
             entries.insert(0, MapEntry { key, value })?;
         }
-        Ok(Expr::Map(entries, template, place(column)))
+        Ok(Expr::Map(entries, template, at_column(column)))
     }
 
     fn dot(&mut self, options: ASTFlags, column: u16) -> Result<Expr, AllocError> {
@@ -90,7 +90,7 @@ impl Making {
         let rest = Boxed::new(self.alloc, rest)?;
         let object = self.expr();
         let object = Boxed::new(self.alloc, object)?;
-        Ok(Expr::Dot(object, rest, options, place(column)))
+        Ok(Expr::Dot(object, rest, options, at_column(column)))
     }
 
     fn index(&mut self, options: ASTFlags, column: u16) -> Result<Expr, AllocError> {
@@ -98,6 +98,6 @@ impl Making {
         let rest = Boxed::new(self.alloc, rest)?;
         let object = self.expr();
         let object = Boxed::new(self.alloc, object)?;
-        Ok(Expr::Index(object, rest, options, place(column)))
+        Ok(Expr::Index(object, rest, options, at_column(column)))
     }
 }

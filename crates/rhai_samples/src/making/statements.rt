@@ -1,6 +1,6 @@
 //! Statements without parts of their own, and blocks.
 
-use crate::making::{Making, place, shared, take_last};
+use crate::making::{Making, at_column, shared, take_last};
 use crate::parts::Part;
 use bitflags::Flags;
 use rhai_build::statements::no_block;
@@ -11,16 +11,16 @@ use rhai_tree::token::Token;
 use std::alloc::{AllocError, Global};
 use std::num::NonZeroUsize;
 
-/// A name at a column.
+/// Builds a name at a column.
 pub(super) fn ident(alloc: Global, name: &str, column: u16) -> Result<Ident, AllocError> {
     Ok(Ident {
         name: shared(alloc, name)?,
-        pos: place(column),
+        pos: at_column(column),
     })
 }
 
-/// Options in one.
-fn all_of(options: &[ASTFlags]) -> ASTFlags {
+/// Joins options into one.
+fn join_options(options: &[ASTFlags]) -> ASTFlags {
     let mut all = ASTFlags::empty();
     for option in options {
         all.insert(*option);
@@ -36,8 +36,8 @@ impl Making {
                 let statements = take_last(self.alloc, &mut self.statements, count)?;
                 return self.blocks.push(StmtBlock {
                     statements,
-                    position: place(opening),
-                    end_position: place(closing),
+                    position: at_column(opening),
+                    end_position: at_column(closing),
                 });
             }
             Part::Value => Stmt::Expr(self.expr()),
@@ -58,16 +58,17 @@ impl Making {
             }
             Part::Assign(column) => self.assignment(None, column),
             Part::AssignBy(token, column) => self.assignment(Some(token), column),
-            Part::Throw(column) => Stmt::Return(None, ASTFlags::BREAK, place(column)),
+            Part::Throw(column) => Stmt::Return(None, ASTFlags::BREAK, at_column(column)),
             Part::ThrowValue(column) => {
-                Stmt::Return(Some(self.expr()), ASTFlags::BREAK, place(column))
+                Stmt::Return(Some(self.expr()), ASTFlags::BREAK, at_column(column))
             }
             _ => return self.add_branch(part),
         };
         self.statements.push(made)
     }
 
-    /// A `let` with options over the variable at an offset from the end of the scope; zero is none.
+    /// Builds a `let` with options over the variable at an offset from the end of the scope. Zero is no
+    /// offset.
     fn declaration(
         &mut self,
         name: &str,
@@ -79,13 +80,13 @@ impl Making {
         let name = ident(self.alloc, name, at_name)?;
         let value = self.expr();
         let index = NonZeroUsize::new(offset);
-        Ok(Stmt::Var(name, value, index, all_of(options), place(column)))
+        Ok(Stmt::Var(name, value, index, join_options(options), at_column(column)))
     }
 
     fn assignment(&mut self, op: Option<Token>, column: u16) -> Stmt {
         let right = self.expr();
         let left = self.expr();
-        let position = place(column);
+        let position = at_column(column);
         Stmt::Assignment(OpAssignment { op, position }, left, right)
     }
 
@@ -94,26 +95,26 @@ impl Making {
         let made = match part {
             Part::If(column) => {
                 let body = self.block();
-                Stmt::If(self.expr(), body, no_block(self.alloc), place(column))
+                Stmt::If(self.expr(), body, no_block(self.alloc), at_column(column))
             }
             Part::IfElse(column) => {
                 let branch = self.block();
                 let body = self.block();
-                Stmt::If(self.expr(), body, branch, place(column))
+                Stmt::If(self.expr(), body, branch, at_column(column))
             }
             Part::While(column) => {
                 let body = self.block();
-                Stmt::While(self.expr(), body, place(column))
+                Stmt::While(self.expr(), body, at_column(column))
             }
             Part::Loop(column) => {
                 let condition = Expr::Unit(Position::NONE);
-                Stmt::While(condition, self.block(), place(column))
+                Stmt::While(condition, self.block(), at_column(column))
             }
-            Part::Break(column) => Stmt::BreakLoop(None, ASTFlags::BREAK, place(column)),
+            Part::Break(column) => Stmt::BreakLoop(None, ASTFlags::BREAK, at_column(column)),
             Part::BreakWith(column) => {
-                Stmt::BreakLoop(Some(self.expr()), ASTFlags::BREAK, place(column))
+                Stmt::BreakLoop(Some(self.expr()), ASTFlags::BREAK, at_column(column))
             }
-            Part::Continue(column) => Stmt::BreakLoop(None, ASTFlags::empty(), place(column)),
+            Part::Continue(column) => Stmt::BreakLoop(None, ASTFlags::empty(), at_column(column)),
             _ => return self.add_choice(part),
         };
         self.statements.push(made)

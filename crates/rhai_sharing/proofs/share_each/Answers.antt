@@ -6,15 +6,16 @@ use Rattle.rhai_machine.specs.language.Runs.{Steps}
 use Rattle.rhai_machine.specs.language.Setting.{rules_of}
 use Rattle.rhai_steps.proofs.Agreeing.{brings, same}
 use Rattle.rhai_steps.proofs.Pieces.{exits}
-use Rattle.rhai_sharing.proofs.Steps.{drop_all, drop_item, is_none, item_there, left_so, shares_none, shares_not, shares_one, shares_wanting}
+use Rattle.rhai_sharing.proofs.Steps.{drop_all, drop_item, is_none, item_there, left_so, shares_none, shares_not, shares_one}
+use Rattle.rhai_sharing.proofs.Steps.{shares_without_memory}
 use Rattle.rhai_sharing.proofs.share_each.Goals as goal
 
 pub each_variable-init : goal.each_variable-init
 unfolding Steps
 each_variable-init g c = record { rest = refl; sight = refl; names = refl; steps = λ offer held k. here }
 
-pub place_of_variable-requires : goal.place_of_variable-requires
-place_of_variable-requires g c = rw c.variable-item.is (same c.each_variable.invariant.sight c.each_variable.invariant.names
+pub index_of_variable-requires : goal.index_of_variable-requires
+index_of_variable-requires g c = rw c.variable-item.is (same c.each_variable.invariant.sight c.each_variable.invariant.names
     (brings (λ frame. shared_at c.args.variables.now c.each_variable.variable-index _ frame c.each_variable-test.true) c.requires))
 
 pub returns-in_default-clause-runs : goal.returns-in_default-clause-runs
@@ -22,7 +23,7 @@ unfolding Steps
 returns-in_default-clause-runs g c offer held k =
     let rules = rules_of c.args.limits.now g.H.Host.name_of offer g.T.NativeTable.natives in
     c.each_variable.invariant.steps offer held k ⨾ rw (drop_item _ _ _ c.each_variable-test.true c.variable-item.is)
-    (shares_not rules k _ _ _ _ (sym c.place_of_variable.ensures.exact ∙ is_none c.place_of_variable.result c.in_default.not-Some)
+    (shares_not rules k _ _ _ _ (sym c.index_of_variable.ensures.exact ∙ is_none c.index_of_variable.result c.in_default.not-Some)
     c.variable_not_found.ensures)
 
 pub returns-in_err-share_value-clause-runs : goal.returns-in_err-share_value-clause-runs
@@ -32,7 +33,7 @@ returns-in_err-share_value-clause-runs g c offer held =
     exits rules _ _ _ _ _ c.from_residual.ensures (λ k.
     c.each_variable.invariant.steps offer held k ⨾ rw (drop_item _ _ _ c.each_variable-test.true c.variable-item.is)
     (rw (c.in_err-share_value.ensures.rest, c.in_err-share_value.ensures.same_cells, c.in_err-share_value.ensures.same_scope)
-    (shares_wanting rules k _ _ _ _ c.in_err-share_value.ensures.refused)))
+    (shares_without_memory rules k _ _ _ _ c.in_err-share_value.ensures.refused)))
 
 pub each_variable-preserved : goal.each_variable-preserved
 unfolding Steps
@@ -45,7 +46,8 @@ each_variable-preserved g c =
       steps = λ offer held k.
           let rules = rules_of c.args.limits.now g.H.Host.name_of offer g.T.NativeTable.natives in
           c.each_variable.invariant.steps offer held k ⨾ rw (drop_item _ _ _ c.each_variable-test.true c.variable-item.is)
-          (shares_one rules k _ _ _ c.in-Some.index (value_of there.0) _ (sym c.in-Some.ensures.exact) (rw there.1 refl) (left_so _ c.each_variable.global c.share_value.new.global
+          (shares_one rules k _ _ _ c.in-Some.index (value_of there.0) _ (sym c.in-Some.ensures.exact) (rw there.1 refl) (left_so _
+          c.each_variable.global c.share_value.new.global
           c.each_variable.scope c.share_value.new.scope held _
           c.in_ok-share_value.ensures.rest (rw there.1 at (c.in_ok-share_value.ensures.shared held))));
     }

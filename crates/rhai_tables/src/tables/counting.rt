@@ -78,7 +78,7 @@ impl ListedNatives<Pair> for Counting {
 }
 
 impl Counting {
-    /// The table of these natives, at nought.
+    /// Creates the table of these natives, with the counter at nought.
     pub fn table(alloc: Global) -> Natives<Counting>
         ensures { result.natives.counter ≡ pos 0 }
     {

@@ -12,14 +12,14 @@ use std::alloc::AllocError;
 use std::cmp::Ordering;
 
 impl<T> Table<T> {
-    /// The place of a key in the order of the keys, or the place where it would go.
+    /// Finds the index of a key in the order of the keys, or the index where it would go.
     pub fn find(&self, key: &str) -> Result<usize, usize>
         ensures { result ≡ ok_or (place_of key.now self.now.0) (rank key.now self.now.0) }
     {
         search(self.keys(), key)
     }
 
-    /// The value of a key, if it is there.
+    /// Finds the value of a key, if it is there.
     pub fn get(&self, key: &str) -> Option<&T>
         ensures { option_copied result ≡ value_of key.now self.now }
     {
@@ -29,7 +29,7 @@ impl<T> Table<T> {
         }
     }
 
-    /// The value at a place in the order of the keys, to be changed in place.
+    /// Lends the value at an index in the order of the keys, to be changed in place.
     pub fn value_mut(&mut self, at: usize) -> &mut T
         requires { at < length self.old.1 }
         ensures* writes_back { sem 𝓛 (Lends (the_row T.row) T.row self.entry result
@@ -41,7 +41,7 @@ impl<T> Table<T> {
 }
 
 impl<T: Drop> Table<T> {
-    /// Gives a key a value, in the place of the one that it had. Where there is no memory the map
+    /// Gives a key a value, which replaces the one that it had. Where there is no memory the map
     /// stays.
     pub fn insert(&mut self, key: Shared<Text>, value: T) -> Result<(), AllocError>
         ensures ok { OnOk result (self.new ≡ with_entry key value self.old) }
@@ -56,7 +56,7 @@ impl<T: Drop> Table<T> {
         }
     }
 
-    /// Adds a key that is not there, at the place where it goes.
+    /// Adds a key that is not there, at the index where it goes.
     fn add(&mut self, at: usize, key: Shared<Text>, value: T) -> Result<(), AllocError>
         requires absent { place_of key self.old.0 ≡ None }
         requires place { at ≡ rank key self.old.0 }
@@ -74,7 +74,7 @@ impl<T: Drop> Table<T> {
     }
 }
 
-/// The place of a key among ascending keys, or the place where it would go.
+/// Finds the index of a key among ascending keys, or the index where it would go.
 fn search(keys: &[Shared<Text>], key: &str) -> Result<usize, usize>
     requires { IsTrue (is_ascending keys.now) }
     ensures { result ≡ ok_or (place_of key.now keys.now) (rank key.now keys.now) }

@@ -9,8 +9,8 @@ use rhai_tree::{Boxed, Items, Table};
 use std::alloc::{AllocError, Global};
 
 impl<H: Host> Dynamic<H> {
-    /// A copy, read-write throughout. Texts, functions and environments are shared, and a copied
-    /// handle names the same cell. Stands for upstream's `Dynamic::clone`.
+    /// Copies the value, read-write throughout. Texts, functions and environments are shared, and a
+    /// copied handle names the same cell. Stands for upstream's `Dynamic::clone`.
     #[inline(always)]
     pub fn try_clone(&self, alloc: Global) -> Result<Dynamic<H>, AllocError>
         ensures { IfOk result (λ c. c ≡ copy_of self.now) }
@@ -108,7 +108,7 @@ fn copy_pointer<H: Host>(alloc: Global, pointer: &FnPtr<H>) -> Result<FnPtr<H>, 
     })
 }
 
-/// What a pointer leads to, shared.
+/// Shares what a pointer leads to.
 fn share_kind<H: Drop>(kind: &FnPtrKind<H>) -> Result<FnPtrKind<H>, AllocError>
     ensures { IfOk result (λ k. k ≡ kind.now) }
 {

@@ -50,7 +50,7 @@ fn show<H: Host, W: Write>(value: &Union<H>, f: &mut Formatter<W>) -> fmt::Resul
     }
 }
 
-/// The values with commas between them, and something before the first.
+/// Writes the values with commas between them, and something before the first.
 #[cycle(show)]
 fn show_values<H: Host, W: Write>(
     values: &[Dynamic<H>],

@@ -9,8 +9,8 @@ use rhai_tree::{Items, Shared};
 use std::alloc::{AllocError, Global};
 
 impl<H: Drop> EncapsulatedEnviron<H> {
-    /// These libraries and imports, each module with another owner, and the table of constants of a number.
-    /// It takes memory for the two lists alone.
+    /// Builds an environment of these libraries, imports and table of constants, which is given by its
+    /// number. Each module gets another owner. It takes memory for the two lists alone.
     pub fn sharing(
         alloc: Global,
         lib: &[Shared<Module<H>>],
@@ -26,8 +26,8 @@ impl<H: Drop> EncapsulatedEnviron<H> {
         })
     }
 
-    /// The same again, with the same modules. It takes memory for the lists of them alone. Stands for
-    /// upstream's `EncapsulatedEnviron::clone`.
+    /// Copies the environment, and shares its modules. It takes memory for the lists of them alone.
+    /// Stands for upstream's `EncapsulatedEnviron::clone`.
     pub fn try_clone(&self, alloc: Global) -> Result<EncapsulatedEnviron<H>, AllocError>
         ensures { IfOk result (λ copy. copy ≡ self.now) }
     {
@@ -40,7 +40,7 @@ impl<H: Drop> EncapsulatedEnviron<H> {
     }
 }
 
-/// The same modules, each with another owner.
+/// Shares the modules of a list, each with another owner.
 fn share_modules<H: Drop>(
     alloc: Global,
     modules: &[Shared<Module<H>>],
@@ -56,7 +56,7 @@ fn share_modules<H: Drop>(
     Ok(shared)
 }
 
-/// The same import, with another owner of its module.
+/// Shares an import, with another owner of its module.
 fn share_import<H: Drop>(import: &Import<H>) -> Result<Import<H>, AllocError>
     ensures { IfOk result (λ shared. shared ≡ import.now) }
 {
@@ -66,7 +66,7 @@ fn share_import<H: Drop>(import: &Import<H>) -> Result<Import<H>, AllocError>
     })
 }
 
-/// The same imports.
+/// Shares the imports of a list, each as `share_import` does it.
 fn share_imports<H: Drop>(
     alloc: Global,
     imports: &[Import<H>],

@@ -10,8 +10,9 @@ use rhai_tree::literal::Literal;
 use rhai_tree::{Shared, Text};
 
 impl<H> Dynamic<H> {
-    /// Whether the value can be a case of a `switch`: `()`, truth values, integers, characters,
-    /// texts, ranges, blobs, and arrays and maps of such values. Ports upstream's `is_hashable`.
+    /// Tells whether the value can be a case of a `switch`. Such are `()`, truth values, integers,
+    /// characters, texts, ranges, blobs, and arrays and maps of such values. Ports upstream's
+    /// `is_hashable`.
     pub fn is_hashable(&self) -> bool
         ensures { result ≡ is_hashable self.now }
     {
@@ -43,7 +44,7 @@ fn all_are_hashable<H>(values: &[Dynamic<H>]) -> bool
     true
 }
 
-/// Whether a constant of the tree is a value, by type and content; access modes do not matter. A
+/// Tells whether a constant of the tree is a value, by type and content; access modes do not matter. A
 /// pointer is equal to nothing.
 #[cycle(equals)]
 pub fn literal_equals<H>(literal: &Literal, value: &Dynamic<H>) -> bool

@@ -8,7 +8,7 @@ use rhai_tree::literal::{Literal, LiteralFnPtr, LiteralFnPtrKind};
 use rhai_tree::{Boxed, Items, Table};
 use std::alloc::{AllocError, Global};
 
-/// The value of a constant, read-write throughout. Texts are shared.
+/// Builds the value of a constant, read-write throughout. Texts are shared.
 #[cycle(literals)]
 pub fn literal_value<H: Drop>(alloc: Global, literal: &Literal) -> Result<Dynamic<H>, AllocError>
     ensures { IfOk result (λ d. d ≡ value_of_literal literal.now) }
@@ -72,7 +72,7 @@ fn literal_pointer<H: Drop>(alloc: Global, pointer: &LiteralFnPtr) -> Result<FnP
     })
 }
 
-/// What a constant pointer leads to.
+/// Returns what a constant pointer leads to.
 fn literal_kind<H>(kind: LiteralFnPtrKind) -> FnPtrKind<H>
     ensures { result ≡ leads_to kind }
 {

@@ -1,4 +1,4 @@
-//! How much data a value holds, and the limits on it.
+//! How much data a value contains, and the limits on it.
 
 ghost use Rattle.std.specs.Prelude.{◌≡◌, map, false};
 ghost use Rattle.rhai_values.specs.DataSize.{sizes, saturated, joined, total, total_of, data_sizes};
@@ -6,9 +6,9 @@ ghost use Rattle.rhai_values.specs.DataSize.{holds_data, exceeded, fault_text};
 
 use crate::base::value::{Dynamic, Union};
 
-/// How much data a value holds: the elements of its arrays and the bytes of its blobs, the
-/// entries of its maps, and the bytes of its texts. What is more than a `usize` counts as the
-/// greatest `usize`. Handles of cells and pointers to functions hold none.
+/// How much data a value contains: the elements of its arrays and the bytes of its blobs, the entries of
+/// its maps, and the bytes of its texts. What is more than a `usize` counts as the greatest `usize`.
+/// Handles of cells and pointers to functions contain none.
 #[derive(Clone, Copy, Debug, PartialEq, Eq)]
 pub struct DataSizes {
     pub arrays: usize,
@@ -25,7 +25,7 @@ pub enum SizeFault {
 }
 
 impl SizeFault {
-    /// The text of the error.
+    /// Returns the text of the error.
     pub fn text(self) -> &'static str
         ensures { result.now ≡ fault_text self }
     {
@@ -38,7 +38,7 @@ impl SizeFault {
 }
 
 impl DataSizes {
-    /// No data.
+    /// Returns the sizes of no data.
     pub fn none() -> DataSizes
         ensures { result ≡ sizes 0 0 0 }
     {
@@ -49,7 +49,7 @@ impl DataSizes {
         }
     }
 
-    /// So many elements of arrays or bytes of blobs.
+    /// Returns the sizes of so many elements of arrays or bytes of blobs.
     pub fn of_arrays(count: usize) -> DataSizes
         ensures { result ≡ sizes count 0 0 }
     {
@@ -60,7 +60,7 @@ impl DataSizes {
         }
     }
 
-    /// So many entries of maps.
+    /// Returns the sizes of so many entries of maps.
     pub fn of_maps(count: usize) -> DataSizes
         ensures { result ≡ sizes 0 count 0 }
     {
@@ -71,7 +71,7 @@ impl DataSizes {
         }
     }
 
-    /// So many bytes of texts.
+    /// Returns the sizes of so many bytes of texts.
     pub fn of_strings(count: usize) -> DataSizes
         ensures { result ≡ sizes 0 0 count }
     {
@@ -82,7 +82,7 @@ impl DataSizes {
         }
     }
 
-    /// The sizes of two values together.
+    /// Adds the sizes of two values.
     pub fn joined(self, more: DataSizes) -> DataSizes
         ensures { result ≡ joined self more }
     {
@@ -93,7 +93,7 @@ impl DataSizes {
         }
     }
 
-    /// The first kind of data that is above its limit, in the order texts, arrays and blobs, maps.
+    /// Finds the first kind of data that is above its limit, in the order texts, arrays and blobs, maps.
     /// A limit of zero is none. Ports upstream's `throw_on_size`.
     pub fn exceeds(
         self,
@@ -116,14 +116,14 @@ impl DataSizes {
 }
 
 impl<H> Dynamic<H> {
-    /// How much data the value holds. Ports upstream's `calc_data_sizes`.
+    /// Counts the data that the value contains. Ports upstream's `calc_data_sizes`.
     pub fn data_sizes(&self) -> DataSizes
         ensures { result ≡ data_sizes self.now }
     {
         value_sizes(self)
     }
 
-    /// Whether the value is of a kind that holds data: a text, an array, a blob or a map.
+    /// Tells whether the value is of a kind that contains data: a text, an array, a blob or a map.
     pub fn holds_data(&self) -> bool
         ensures same { result ≡ holds_data self.now }
         ensures none { result ≡ false → data_sizes self.now ≡ sizes 0 0 0 }
@@ -134,7 +134,7 @@ impl<H> Dynamic<H> {
         )
     }
 
-    /// The first kind of data of which the value holds more than its limit, in the order texts,
+    /// Finds the first kind of data of which the value contains more than its limit. The order is texts,
     /// arrays and blobs, maps. A limit of zero is none. Ports upstream's `check_data_size`.
     pub fn exceeds(
         &self,
@@ -163,20 +163,20 @@ fn value_sizes<H>(value: &Dynamic<H>) -> DataSizes
         Union::Str(text) => DataSizes::of_strings(text.get().len()),
         Union::Array(items) => {
             let items = items.get().as_slice();
-            held_by(items).joined(DataSizes::of_arrays(items.len()))
+            sum_sizes(items).joined(DataSizes::of_arrays(items.len()))
         }
         Union::Blob(bytes) => DataSizes::of_arrays(bytes.get().len()),
         Union::Map(entries) => {
             let values = entries.get().values();
-            held_by(values).joined(DataSizes::of_maps(values.len()))
+            sum_sizes(values).joined(DataSizes::of_maps(values.len()))
         }
         _ => DataSizes::none(),
     }
 }
 
-/// How much data several values hold together.
+/// Counts the data that several values contain together.
 #[cycle(sizes)]
-fn held_by<H>(values: &[Dynamic<H>]) -> DataSizes
+fn sum_sizes<H>(values: &[Dynamic<H>]) -> DataSizes
     ensures { result ≡ saturated (total_of (map total values.now)) }
 {
     let mut held = DataSizes::none();

@@ -8,7 +8,7 @@ use crate::base::value::{Dynamic, Host, Union};
 use crate::cells::CellStore;
 
 impl<H: Host> Dynamic<H> {
-    /// The name of the value's type. For a handle it is that of its cell's value, and the empty
+    /// Returns the name of the value's type. For a handle it is that of its cell's value, and the empty
     /// text where the cell is held or unknown. Ports upstream's `Dynamic::type_name`.
     pub fn type_name<'a>(&'a self, cells: &'a CellStore<H>) -> &'a str
         ensures { result.now ≡ type_name_of H.name_of (cells_of cells.now) self.now }
@@ -22,7 +22,7 @@ impl<H: Host> Dynamic<H> {
         }
     }
 
-    /// The name of the value's type without a look at the cells: the empty text for a handle.
+    /// Returns the name of the value's type without a look at the cells: the empty text for a handle.
     pub fn own_type_name(&self) -> &str
         ensures { result.now ≡ name_of_own_type H.name_of self.now.value }
     {
@@ -30,7 +30,7 @@ impl<H: Host> Dynamic<H> {
     }
 }
 
-/// The name of a value's own type, and the empty text for a handle.
+/// Returns the name of a value's own type, and the empty text for a handle.
 fn own_type_name<H: Host>(value: &Union<H>) -> &str
     ensures { result.now ≡ name_of_own_type H.name_of value.now }
 {

@@ -1,4 +1,4 @@
-//! Values, and the modules and environments that they may hold.
+//! Values, and the modules and environments that they may lead to.
 
 ghost use Rattle.std.specs.Prelude.{◌≡◌, List, [], ℕ, IfOk};
 ghost use Rattle.rhai_values.specs.Copy.{plain};
@@ -28,11 +28,11 @@ pub trait Host: Sized + Drop {
     /// The name of a value's type.
     ghost name_of: { Self → List ℕ };
 
-    /// A copy that equals the original, or there is no memory.
+    /// Copies the value: the copy equals the original, or there is no memory.
     fn try_clone(&self, alloc: Global) -> Result<Self, AllocError>
         ensures { IfOk result (λ c. c ≡ self.now) };
 
-    /// The name of the value's type.
+    /// Returns the name of the value's type.
     fn type_name(&self) -> &str
         ensures { result.now ≡ name_of self.now };
 }
@@ -72,7 +72,7 @@ impl<H: Drop> MadeWith<Global> for Dynamic<H> {
 }
 
 impl<H> Dynamic<H> {
-    /// A value that may be written.
+    /// Builds a value that may be written.
     pub fn new(value: Union<H>) -> Dynamic<H>
         ensures { result ≡ plain value }
     {
@@ -82,7 +82,7 @@ impl<H> Dynamic<H> {
         }
     }
 
-    /// The value's own mode. That of a handle says nothing of the mode of the cell's value. Ports
+    /// Returns the value's own mode. That of a handle says nothing of the mode of the cell's value. Ports
     /// upstream's `Dynamic::access_mode`.
     pub fn access_mode(&self) -> AccessMode
         ensures { result ≡ self.now.mode }
@@ -173,7 +173,7 @@ pub struct Module<H> {
 }
 
 impl<H> Module<H> {
-    /// A module with nothing in it. It takes no memory. Ports upstream's `Module::new`.
+    /// Creates a module with nothing in it. It takes no memory. Ports upstream's `Module::new`.
     pub fn new(alloc: Global) -> Module<H>
         ensures { result ≡ empty_module }
     {
@@ -199,7 +199,7 @@ impl<H: Drop> Drop for ModuleTable<H> {
 }
 
 impl<H> ModuleTable<H> {
-    /// A table with no module. It takes no memory.
+    /// Creates a table with no module. It takes no memory.
     pub fn new(alloc: Global) -> ModuleTable<H>
         ensures { result.modules ≡ ([], []) }
     {

@@ -12,7 +12,7 @@ use std::alloc::{AllocError, Global};
 const DEPTH: usize = 4;
 
 impl<'a> Reader<'a> {
-    /// The next value, and the space after it. After `constant` it is read-only.
+    /// Reads the next value, and the space after it. After `constant` it is read-only.
     pub fn value(&mut self) -> Dynamic<Stone> {
         let constant = self.passes("constant ");
         let mut value = self.nested(DEPTH);
@@ -23,13 +23,13 @@ impl<'a> Reader<'a> {
         value
     }
 
-    /// A value in which arrays and maps are at most so deep.
+    /// Reads a value in which arrays and maps are at most so deep.
     #[cycle(nested)]
     fn nested(&mut self, depth: usize) -> Dynamic<Stone> {
         Dynamic::new(self.content(depth))
     }
 
-    /// What such a value holds.
+    /// Reads the content of such a value.
     #[cycle(nested)]
     fn content(&mut self, depth: usize) -> Union<Stone> {
         let Some(inner) = depth.checked_sub(1) else {
@@ -88,8 +88,8 @@ impl<'a> Reader<'a> {
 
     /// Puts a value under a key.
     fn enter(&mut self, entries: &mut Table<Dynamic<Stone>>, key: &str, value: Dynamic<Stone>) {
-        if entered(self.alloc, entries, key, value).is_err() {
-            self.starve();
+        if insert_copied(self.alloc, entries, key, value).is_err() {
+            self.lack_memory();
         }
     }
 
@@ -100,7 +100,7 @@ impl<'a> Reader<'a> {
         }
     }
 
-    /// A text in quotes, without escapes.
+    /// Reads a text in quotes, without escapes.
     fn text(&mut self) -> &'a str {
         self.expect("\"");
         self.up_to("\"")
@@ -114,7 +114,7 @@ impl<'a> Reader<'a> {
         }
     }
 
-    /// A character in quotes; the one escape is the end of a line.
+    /// Reads a character in quotes. The one escape is the end of a line.
     fn character(&mut self) -> char {
         self.expect("'");
         let written = self.up_to("'");
@@ -143,7 +143,7 @@ impl<'a> Reader<'a> {
         }
     }
 
-    /// A value that begins with a word of its own.
+    /// Reads a value that begins with a word of its own.
     fn named(&mut self) -> Union<Stone> {
         if self.passes("()") {
             Union::Unit
@@ -173,7 +173,7 @@ impl<'a> Reader<'a> {
         }
     }
 
-    /// The bytes of a blob, as `01 ff]`.
+    /// Reads the bytes of a blob, as `01 ff]`.
     fn blob(&mut self) -> Union<Stone> {
         let mut bytes = Items::new(self.alloc);
         for digits in self.up_to("]").split_whitespace() {
@@ -187,7 +187,7 @@ impl<'a> Reader<'a> {
         }
     }
 
-    /// The name of a function, as `"name")`.
+    /// Reads a pointer by the name of its function, as `"name")`.
     fn pointer(&mut self) -> Union<Stone> {
         let name = self.text();
         self.expect(")");
@@ -211,7 +211,7 @@ impl<'a> Reader<'a> {
 }
 
 /// Puts a value under a key.
-fn entered(
+fn insert_copied(
     alloc: Global,
     entries: &mut Table<Dynamic<Stone>>,
     key: &str,

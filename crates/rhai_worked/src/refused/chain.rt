@@ -23,7 +23,7 @@ const SCRIPT: &[Part<'_>] = &[
     Assign(9),
 ];
 
-/// An array of two values.
+/// Makes an array of two values.
 fn array_of(
     alloc: Global,
     first: Dynamic<Pair>,
@@ -35,13 +35,13 @@ fn array_of(
     Ok(Dynamic::new(Union::Array(Boxed::new(alloc, items)?)))
 }
 
-/// An array of two integers.
+/// Makes an array of two integers.
 fn integers(alloc: Global, first: i64, second: i64) -> Result<Dynamic<Pair>, AllocError> {
     let first = Dynamic::new(Union::Int(first));
     array_of(alloc, first, Dynamic::new(Union::Int(second)))
 }
 
-/// A scope with the array `[[1, 2], [3, 4]]`.
+/// Makes a scope with the array `[[1, 2], [3, 4]]`.
 fn variables(alloc: Global) -> Result<Scope<Pair>, AllocError> {
     let mut scope = Scope::new(alloc);
     let first = integers(alloc, 1, 2)?;
@@ -51,7 +51,7 @@ fn variables(alloc: Global) -> Result<Scope<Pair>, AllocError> {
     Ok(scope)
 }
 
-/// Whether the script gives `()` and leaves `[[1, 5], [3, 4]]`. None where its run is not reached.
+/// Tells whether the script gives `()` and leaves `[[1, 5], [3, 4]]`. None where its run is not reached.
 pub fn is_assigned(alloc: Global) -> Option<bool> {
     let statements = statements_of(alloc, SCRIPT).ok()?;
     let tree = check_tree(alloc, statements, Items::new(alloc)).ok()?;
@@ -73,7 +73,7 @@ pub fn is_assigned(alloc: Global) -> Option<bool> {
     Some(is_unit && is_changed(value))
 }
 
-/// Whether a value is `[[1, 5], [3, 4]]`.
+/// Tells whether a value is `[[1, 5], [3, 4]]`.
 fn is_changed(value: &Dynamic<Pair>) -> bool {
     match items_of(value) {
         Some([first, second]) => is_pair(first, 1, 5) && is_pair(second, 3, 4),
@@ -88,7 +88,7 @@ fn items_of(value: &Dynamic<Pair>) -> Option<&[Dynamic<Pair>]> {
     }
 }
 
-/// Whether a value is an array of these two integers.
+/// Tells whether a value is an array of these two integers.
 fn is_pair(value: &Dynamic<Pair>, first: i64, second: i64) -> bool {
     match items_of(value) {
         Some([one, other]) => is_integer(one, first) && is_integer(other, second),

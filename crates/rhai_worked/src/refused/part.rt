@@ -22,7 +22,7 @@ use std::alloc::Global;
 use std::io;
 use std::io::Write;
 
-/// A script with its list and its place there, and a way to run it.
+/// A script with its list and its position there, and a way to run it.
 #[derive(Clone, Copy)]
 pub struct Part {
     pub list: &'static str,
@@ -43,7 +43,7 @@ pub struct Report {
     pub names: Vec<u8>,
     /// The names of the imports that it left, one a line.
     pub imports: Vec<u8>,
-    pub wants_memory: bool,
+    pub has_run_out: bool,
     /// What should hold after a run, and does not.
     pub wrong: Option<&'static str>,
 }
@@ -99,14 +99,14 @@ impl Run {
         refuser::end(alloc);
         let mut line = Vec::new(alloc);
         write_ending(&mut line, &ending)?;
-        let wants_memory = is_want_of_memory(&ending);
+        let has_run_out = found_no_memory(&ending);
         drop(ending);
         let num_operations = self.global.num_operations;
         let counter = self.table.natives.counter;
         let names = names_of(alloc, &self.scope)?;
         let imports = imports_of(alloc, &self.global)?;
         let wrong = if is_restored {
-            self.fault(alloc, settings)
+            self.what_is_wrong(alloc, settings)
         } else {
             Some("libraries or levels are not what they were")
         };
@@ -116,12 +116,13 @@ impl Run {
             counter,
             names,
             imports,
-            wants_memory,
+            has_run_out,
             wrong,
         }))
     }
 
-    /// How a tree ends, and whether what a run takes back is as it was. None where the engine could not be made.
+    /// Runs a tree, and tells how it ends and whether what a run takes back is as it was. None where the
+    /// engine could not be made.
     fn run_tree(
         &mut self,
         alloc: Global,
@@ -149,8 +150,8 @@ impl Run {
         }
     }
 
-    /// What does not hold after a run.
-    fn fault(&mut self, alloc: Global, settings: Settings) -> Option<&'static str> {
+    /// Tells what does not hold after a run.
+    fn what_is_wrong(&mut self, alloc: Global, settings: Settings) -> Option<&'static str> {
         let limit = settings.limits.max_operations;
         if limit > 0 && self.global.num_operations > limit {
             Some("the count is past its limit")
@@ -169,7 +170,7 @@ impl Run {
         }
     }
 
-    /// What `40 + 2` comes to over what the run left.
+    /// Evaluates `40 + 2` over what the run left.
     fn sum(&mut self, alloc: Global) -> Option<i64> {
         let tree = check_tree(alloc, statements_of(alloc, SUM).ok()?, Items::new(alloc)).ok()?;
         self.global.num_operations = 0;
@@ -180,7 +181,7 @@ impl Run {
     }
 }
 
-/// The names of a scope's variables, one a line.
+/// Lists the names of a scope's variables, one a line.
 fn names_of(alloc: Global, scope: &Scope<Pair>) -> io::Result<Vec<u8>> {
     let mut names = Vec::new(alloc);
     for entry in scope.entries() {
@@ -189,7 +190,7 @@ fn names_of(alloc: Global, scope: &Scope<Pair>) -> io::Result<Vec<u8>> {
     Ok(names)
 }
 
-/// The names of a state's imports, one a line.
+/// Lists the names of a state's imports, one a line.
 fn imports_of(alloc: Global, global: &GlobalRuntimeState<Pair>) -> io::Result<Vec<u8>> {
     let mut names = Vec::new(alloc);
     for import in global.imports.as_slice() {
@@ -218,7 +219,7 @@ impl Levels {
     }
 }
 
-fn is_want_of_memory(ending: &Ending) -> bool {
+fn found_no_memory(ending: &Ending) -> bool {
     match ending {
         Ending::Value(_) => false,
         Ending::Error(error) => matches!(error, EvalAltResult::ErrorOutOfMemory(_)),

@@ -7,7 +7,7 @@ use std::alloc::Global;
 /// Asks for nothing to be refused any more.
 const GRANT_ALL: usize = 999_999;
 
-/// Asks whether as many blocks are held as there were.
+/// Asks whether as many blocks are in use as there were.
 const COUNT_BLOCKS: usize = 999_998;
 
 /// The greatest number of a request that can be refused.
@@ -25,7 +25,7 @@ pub enum Refusal {
 impl Refusal {
     pub const BOTH: [Refusal; 2] = [Refusal::Alone, Refusal::WithAllAfter];
 
-    /// The size that asks for it, less the number of the request.
+    /// Returns the size that asks for it, less the number of the request.
     fn base(self) -> usize {
         match self {
             Refusal::Alone => 1_000_000,
@@ -34,17 +34,17 @@ impl Refusal {
     }
 }
 
-/// From here on the request of a number, counted from 1, is refused. Whether anything hears that.
+/// Begins to refuse the request of a number, counted from 1. Tells whether anything hears that.
 pub fn begin(alloc: Global, refusal: Refusal, number: usize) -> bool {
     is_refused(alloc, refusal.base().saturating_add(number))
 }
 
-/// From here on nothing is refused. Whether something was.
+/// Ends the refusing: from here on nothing is refused. Tells whether something was.
 pub fn end(alloc: Global) -> bool {
     is_refused(alloc, GRANT_ALL)
 }
 
-/// Whether as many blocks of memory are held as where refusing began.
+/// Tells whether as many blocks of memory are in use as where refusing began.
 pub fn is_all_given_back(alloc: Global) -> bool {
     !is_refused(alloc, COUNT_BLOCKS)
 }

@@ -8,7 +8,7 @@ use Rattle.rhai_machine.specs.language.Setting.{Rules, rules_of}
 use Rattle.rhai_machine.specs.language.State.{State}
 use Rattle.rhai_machine.specs.language.Variables.{no_path}
 use Rattle.rhai_steps.specs.States.{state_of}
-use Rattle.rhai_assign.specs.Chains.{InItself, InOwnCell}
+use Rattle.rhai_assign.specs.FocusTargets.{InItself, InOwnCell}
 use Rattle.rhai_assign.specs.Lending.{placed}
 use Rattle.rhai_assign.proofs.Going.{focus_fails, focus_found}
 use Rattle.rhai_assign.proofs.focus.assign_focus.Goals as goal

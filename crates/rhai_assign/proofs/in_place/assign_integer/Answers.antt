@@ -15,7 +15,7 @@ use Rattle.rhai_assign.proofs.in_place.assign_integer.Goals as goal
 
 pub returns-clause-keeps : goal.returns-clause-keeps
 returns-clause-keeps g c = integer_keeps c.args.global.now c.charge_all.new.global c.args.scope.now c.write_number.new.scope
-    c.args.charges c.in-Some-place_by_offset.index c.in-Some-assign_known.value (c.charge_all.ensures.charged c.if-not-charge_all.false)
+    c.args.charges c.in-Some-index_by_offset.index c.in-Some-compute_known.value (c.charge_all.ensures.charged c.if-not-charge_all.false)
     c.write_number.ensures
 
 pub returns-clause-found : goal.returns-clause-found
@@ -25,9 +25,9 @@ returns-clause-found g c is =
     (c.is_none-2.ensures ∙ ap not c.if-is_none-2.false) c.integer_in_place-operand.ensures) in
     integer_found c.args.scope.now (cells_of c.args.global.now.cells) c.args.op.now c.args.lhs.now c.args.rhs.now
     c.in-Variable.offset c.in-Variable.name c.in-Variable.namespace c.in-Variable.pos (rw (c.in-Variable.is, exprs.outs-Variable) refl)
-    c.in-Some.token c.in-Some.is c.in-Some-place_by_offset.index c.value_at.result.now c.in-Some-assign_known.value
-    c.in-Some-place_by_offset.ensures.exact c.value_at.ensures
-    (stands ∙ sym (rw c.writable_integer-target.ensures at c.assign_known.ensures) ∙ c.in-Some-assign_known.is)
+    c.in-Some.token c.in-Some.is c.in-Some-index_by_offset.index c.value_at.result.now c.in-Some-compute_known.value
+    c.in-Some-index_by_offset.ensures.exact c.value_at.ensures
+    (stands ∙ sym (rw c.writable_integer-target.ensures at c.compute_known.ensures) ∙ c.in-Some-compute_known.is)
 
 pub returns-clause-runs : goal.returns-clause-runs
 returns-clause-runs g c is offer held restoring level fast =
@@ -43,10 +43,10 @@ returns-clause-runs g c is offer held restoring level fast =
     (charged_at (c.args.charges - 2) level c.args.global.now) (record c.charge_all.new.global { scope_level = level })
     c.write_number.new.scope (omega (arith, c.requires.both, c.charge_all.ensures.room c.if-not-charge_all.false))
     (both_charged c.args.global.now c.charge_all.new.global c.args.charges level c.requires.both
-    (c.charge_all.ensures.charged c.if-not-charge_all.false)) c.in-Some.token c.in-Some.is fast c.in-Some-place_by_offset.index
-    c.value_at.result.now c.in-Some-assign_known.value
-    c.in-Some-place_by_offset.ensures.exact
-    c.value_at.ensures (stands ∙ sym (rw c.writable_integer-target.ensures at c.assign_known.ensures) ∙ c.in-Some-assign_known.is)
+    (c.charge_all.ensures.charged c.if-not-charge_all.false)) c.in-Some.token c.in-Some.is fast c.in-Some-index_by_offset.index
+    c.value_at.result.now c.in-Some-compute_known.value
+    c.in-Some-index_by_offset.ensures.exact
+    c.value_at.ensures (stands ∙ sym (rw c.writable_integer-target.ensures at c.compute_known.ensures) ∙ c.in-Some-compute_known.is)
     c.write_number.ensures
 
 pub returns-clause-room : goal.returns-clause-room
@@ -55,7 +55,7 @@ returns-clause-room g c is = c.charge_all.ensures.room c.if-not-charge_all.false
 pub returns-clause-charged : goal.returns-clause-charged
 returns-clause-charged g c is = c.charge_all.ensures.charged c.if-not-charge_all.false
 
-pub place_by_offset-requires : goal.place_by_offset-requires
-place_by_offset-requires g c =
+pub index_by_offset-requires : goal.index_by_offset-requires
+index_by_offset-requires g c =
     brings (λ frame. good_target c.args.lhs.now c.in-Variable.offset c.in-Variable.name c.in-Variable.namespace c.in-Variable.pos frame
     (rw (c.in-Variable.is, exprs.outs-Variable) refl)) c.requires.resolves_target

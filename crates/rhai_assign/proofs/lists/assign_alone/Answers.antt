@@ -29,5 +29,6 @@ returns-clause-runs g c is offer held fast =
     let room : c.args.global.now.num_operations < limit_under rules = omega (arith, c.assign_integer.ensures.room is) in
     rw (one_item c.args.statements.now c.only-item.result c.only-item.is c.in-len1.len_at_least c.in-len1.len_below)
     (alone rules (g.T.NativeTable.state c.args.table.now) c.args.global.now c.assign_integer.new.global c.args.scope.now
-    c.assign_integer.new.scope held c.only-item.result _ form room (c.assign_integer.ensures.charged is) c.assign_integer.ensures.keeps.names
+    c.assign_integer.new.scope held c.only-item.result _ form room (c.assign_integer.ensures.charged is)
+    c.assign_integer.ensures.keeps.names
     (c.assign_integer.ensures.runs is offer held true (deeper c.args.global.now.scope_level) (fast ∙ c.if-not-is_fast.false)))

@@ -18,6 +18,7 @@ returns-clause-told g c =
     let back = back_again (cells_of c.args.cells.now) (cells_of c.put_back.new.cells) c.in-Some.id c.replace.result c.unwrap-back.result.now
     (rw c.in-Some.is at c.requires) c.put_back.ensures (ap option_copied (sym c.unwrap-back.ensures) ∙ c.get-2.ensures)
     ∙ c.replace.ensures.value in
-    let seen : cells_of c.put_back.new.cells ≡ with_value (cells_of c.args.cells.now) c.in-Some.id.number c.args.target.now = c.put_back.ensures
+    let seen : cells_of c.put_back.new.cells ≡ with_value (cells_of c.args.cells.now) c.in-Some.id.number c.args.target.now =
+    c.put_back.ensures
     ∙ ap (λ v. with_value (cells_of c.args.cells.now) c.in-Some.id.number v) c.replace.ensures.value in
     rw c.in-Some.is (rw (c.as_str-name.ensures, c.get.ensures, back, seen) at c.replied-outcome.ensures.told)

@@ -5,7 +5,7 @@ use Rattle.rhai_machine.specs.language.Setting.{Rules, rules_of}
 use Rattle.rhai_machine.specs.language.State.{State}
 use Rattle.rhai_machine.specs.language.Variables.{no_path}
 use Rattle.rhai_steps.specs.States.{state_of}
-use Rattle.rhai_assign.specs.Chains.{IsThis, InOwnCell}
+use Rattle.rhai_assign.specs.FocusTargets.{IsThis, InOwnCell}
 use Rattle.rhai_assign.proofs.Going.{this_fails, this_found}
 use Rattle.rhai_assign.proofs.this.assign_this.Goals as goal
 
@@ -33,7 +33,8 @@ returns-in-Ok-Some-clause-runs g c offer scope focus fast =
     rw c.in-Ok-Some.field-0-is at c.in-Ok-Some.ensures in
     this_found rules c.args.op c.args.pos c.args.value old new (target (InCell c.in-Ok-Some.id.number) found.value)
     c.assign_in_cell.result found.is
-    (c.assign_in_cell.ensures.runs offer scope (record { this = Some c.args.this.now; focus = focus }) no_path [] found.value fast found.there)
+    (c.assign_in_cell.ensures.runs offer scope (record { this = Some c.args.this.now; focus = focus }) no_path [] found.value
+    fast found.there)
 
 pub returns-in-Err-clause-runs : goal.returns-in-Err-clause-runs
 returns-in-Err-clause-runs g c offer scope focus fast =

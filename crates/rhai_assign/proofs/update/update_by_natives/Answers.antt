@@ -4,7 +4,7 @@ use Rattle.rhai_machine.specs.language.Frames.{InPlace, AskUpdate}
 use Rattle.rhai_steps.specs.States.{state_of}
 use Rattle.rhai_assign.specs.Lending.{placed}
 use Rattle.rhai_assign.specs.Updates.{update_of}
-use Rattle.rhai_assign.proofs.Updates.{wants}
+use Rattle.rhai_assign.proofs.Updates.{ends_of_memory}
 use Rattle.rhai_assign.proofs.update.update_by_natives.Goals as goal
 
 pub returns-in-Ok-clause-runs : goal.returns-in-Ok-clause-runs
@@ -14,5 +14,5 @@ returns-in-Ok-clause-runs g c offer scope held place from =
 pub returns-in-Err-clause-runs : goal.returns-in-Err-clause-runs
 returns-in-Err-clause-runs g c offer scope held place from =
     let rules : Rules _ _ = rules_of c.args.limits.now g.H.Host.name_of offer g.T.NativeTable.natives in
-    wants rules (AskUpdate (update_of c.args.update InPlace place c.args.target.now c.args.operand))
+    ends_of_memory rules (AskUpdate (update_of c.args.update InPlace place c.args.target.now c.args.operand))
     (placed place c.args.target.now (state_of (g.T.NativeTable.state c.args.table.now) c.args.global.now scope held)) c.args.update.at

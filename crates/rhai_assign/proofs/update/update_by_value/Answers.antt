@@ -7,13 +7,13 @@ use Rattle.rhai_steps.specs.States.{local_of, state_of}
 use Rattle.rhai_assign.specs.Lending.{placed}
 use Rattle.rhai_assign.specs.Updates.{update_of}
 use Rattle.rhai_assign.proofs.Lent.{seen_cells}
-use Rattle.rhai_assign.proofs.Updates.{valued_by, wants}
+use Rattle.rhai_assign.proofs.Updates.{valued_by, ends_of_memory}
 use Rattle.rhai_assign.proofs.update.update_by_value.Goals as goal
 
 pub returns-in_default-clause-runs : goal.returns-in_default-clause-runs
 returns-in_default-clause-runs g c offer scope held place operand from only =
     let rules : Rules _ _ = rules_of c.args.limits.now g.H.Host.name_of offer g.T.NativeTable.natives in
-    wants rules (AskUpdate (update_of c.args.update AsValue place c.args.target.now operand))
+    ends_of_memory rules (AskUpdate (update_of c.args.update AsValue place c.args.target.now operand))
     (placed place c.args.target.now (state_of (g.T.NativeTable.state c.args.table.now) c.args.global.now scope held)) c.args.update.at
 
 pub returns-clause-runs : goal.returns-clause-runs

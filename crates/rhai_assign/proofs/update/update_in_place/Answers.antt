@@ -7,13 +7,13 @@ use Rattle.rhai_machine.specs.language.Runs.{at, Steps}
 use Rattle.rhai_steps.specs.States.{state_of}
 use Rattle.rhai_assign.specs.Lending.{placed}
 use Rattle.rhai_assign.specs.Updates.{other_fault, update_of}
-use Rattle.rhai_assign.proofs.Updates.{changed_by, failed_by, goes_on_by, missing_by, wants}
+use Rattle.rhai_assign.proofs.Updates.{changed_by, failed_by, goes_on_by, missing_by, ends_of_memory}
 use Rattle.rhai_assign.proofs.update.update_in_place.Goals as goal
 
 pub returns-in_default-clause-runs : goal.returns-in_default-clause-runs
 returns-in_default-clause-runs g c offer scope held place operand from only =
     let rules : Rules _ _ = rules_of c.args.limits.now g.H.Host.name_of offer g.T.NativeTable.natives in
-    wants rules (AskUpdate (update_of c.args.update InPlace place c.args.target.now operand))
+    ends_of_memory rules (AskUpdate (update_of c.args.update InPlace place c.args.target.now operand))
     (placed place c.args.target.now (state_of (g.T.NativeTable.state c.args.table.now) c.args.global.now scope held)) c.args.update.at
 
 pub returns-in-Missing-clause-runs : goal.returns-in-Missing-clause-runs
@@ -35,8 +35,8 @@ returns-in-Value-clause-runs g c offer scope held place operand from only k =
     (state_of (g.T.NativeTable.state c.ask_native.new.table) c.ask_native.new.global scope held) in
     let u : Update _ = update_of c.args.update InPlace place c.ask_native.new.target operand in
     let value = sized c.args.limits.now c.in-Value.value c.args.update.at in
-    changed_by rules (at (AskUpdate first) k start) k now u value c.changed.result ((rw c.in-Value.is at asked.answered) k)
-    c.changed.ensures
+    changed_by rules (at (AskUpdate first) k start) k now u value c.measure_changed.result ((rw c.in-Value.is at asked.answered) k)
+    c.measure_changed.ensures
 
 pub returns-in-Some-clause-runs : goal.returns-in-Some-clause-runs
 unfolding Steps
@@ -50,8 +50,8 @@ returns-in-Some-clause-runs g c offer scope held place operand from only k =
     (state_of (g.T.NativeTable.state c.ask_native.new.table) c.ask_native.new.global scope held) in
     let u : Update _ = update_of c.args.update InPlace place c.ask_native.new.target operand in
     let some = ap (λ (name : _). other_fault name c.in-Fault.error) (sym c.in-Ok.ensures) ∙ sym c.unless_missing.ensures ∙ c.in-Some.is in
-    failed_by rules (at (AskUpdate first) k start) k now u _ c.in-Fault.error c.in-Some.error c.placed.result
-    ((rw c.in-Fault.is at asked.answered) k) some c.placed.ensures
+    failed_by rules (at (AskUpdate first) k start) k now u _ c.in-Fault.error c.in-Some.error c.position_if_none.result
+    ((rw c.in-Fault.is at asked.answered) k) some c.position_if_none.ensures
 
 pub returns-in-Fault-clause-runs : goal.returns-in-Fault-clause-runs
 unfolding Steps
@@ -73,4 +73,4 @@ returns-in-Fault-clause-runs g c offer scope held place operand from only k =
 pub returns-clause-runs : goal.returns-clause-runs
 returns-clause-runs g c offer scope held place operand from only =
     let asked = c.in_ok-ask_native.ensures.asked offer scope held place InPlace operand from c.in-Ok.ensures only in
-    asked.starved c.args.update.at
+    asked.out_in_native c.args.update.at

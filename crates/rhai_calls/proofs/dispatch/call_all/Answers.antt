@@ -14,8 +14,8 @@ returns-in-Ended-clause-runs g c offer scope held on_scope offers =
     let operation : Operation = record { name = c.args.name.now; token = c.args.token; at = c.args.pos } in
     let s : State _ _ = state_of (g.T.NativeTable.state c.args.table.now) c.args.global.now scope held in
     let new : State _ _ = state_of (g.T.NativeTable.state c.pass_all.new.table) c.pass_all.new.global scope held in
-    calls_ended rules s new (plainly c.args.natives_alone on_scope) (call_of operation c.args.args.now) c.in-Ended.result c.unmarked.result
-    c.in-Ended.ensures.unmarked c.unmarked.ensures
+    calls_ended rules s new (plainly c.args.natives_alone on_scope) (call_of operation c.args.args.now) c.in-Ended.result c.drop_changed.result
+    c.in-Ended.ensures.untold c.drop_changed.ensures
     (rw c.as_mut_slice-values.ensures.value at (c.in-Ended.ensures.runs offer scope held on_scope offers))
 
 pub returns-in-Found-clause-runs : goal.returns-in-Found-clause-runs

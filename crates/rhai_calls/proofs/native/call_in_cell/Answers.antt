@@ -5,7 +5,7 @@ use Rattle.rhai_values.specs.Cells.{cells_of}
 use Rattle.rhai_machine.specs.language.Frames.{Operation}
 use Rattle.rhai_machine.specs.language.Setting.{Rules, rules_of}
 use Rattle.rhai_calls.proofs.Lent.{cell_plain, comes_back, in_held}
-use Rattle.rhai_calls.proofs.NativeCalls.{calls_barred, calls_in_cell, calls_on, unmarked_by}
+use Rattle.rhai_calls.proofs.NativeCalls.{calls_barred, calls_in_cell, calls_on, untold_by}
 use Rattle.rhai_calls.proofs.native.call_in_cell.Goals as goal
 
 pub returns-in-Err-clause-runs : goal.returns-in-Err-clause-runs
@@ -34,13 +34,13 @@ returns-in-Ok-clause-runs g c offer =
     (rw c.put_back.ensures at (ap option_copied (sym c.unwrap-left.ensures) ∙ c.get.ensures)) in
     calls_in_cell rules operation c.args.id c.args.passing.guarded c.args.passing.marks c.args.cell c.args.rest.now
     (cells_of c.args.cells.now) (cells_of c.take.new.self) (cells_of c.put_back.new.cells) c.in-Some.lent c.ask_native-asked.new.first
-    (g.T.NativeTable.state c.args.table.now) (g.T.NativeTable.state c.ask_native-asked.new.table) c.marked.result
+    (g.T.NativeTable.state c.args.table.now) (g.T.NativeTable.state c.ask_native-asked.new.table) c.tell_changed.result
     there plain c.take.ensures.held c.put_back.ensures
     (calls_on rules (cells_of c.take.new.self) (cells_of c.put_back.new.cells) operation c.args.id c.args.passing.guarded
     c.args.passing.marks c.in-Some.lent c.args.rest.now (g.T.NativeTable.state c.args.table.now) plain (reply_of c.in-Ok.answer)
     c.ask_native-asked.new.first (g.T.NativeTable.state c.ask_native-asked.new.table) c.in-Ok.changed c.is_some-by_number.result
-    c.replied-result.result c.marked.result c.in-Ok.ensures.asked c.is_some-by_number.ensures
-    (rw left at c.replied-result.ensures.told) c.replied-result.ensures.memory c.marked.ensures)
+    c.replied-result.result c.tell_changed.result c.in-Ok.ensures.asked c.is_some-by_number.ensures
+    (rw left at c.replied-result.ensures.told) c.replied-result.ensures.memory c.tell_changed.ensures)
 
-pub returns-in-Ok-clause-unmarked : goal.returns-in-Ok-clause-unmarked
-returns-in-Ok-clause-unmarked g c = unmarked_by _ _ _ _ _ _ c.in-Ok.ensures.asked.2 c.marked.ensures
+pub returns-in-Ok-clause-untold : goal.returns-in-Ok-clause-untold
+returns-in-Ok-clause-untold g c = untold_by _ _ _ _ _ _ c.in-Ok.ensures.asked.2 c.tell_changed.ensures

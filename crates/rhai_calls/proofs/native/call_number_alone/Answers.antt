@@ -7,5 +7,5 @@ use Rattle.rhai_calls.proofs.native.call_number_alone.Goals as goal
 pub returns-clause-runs : goal.returns-clause-runs
 returns-clause-runs g c offer scope held =
     let rules : Rules _ _ = rules_of c.args.limits.now g.H.Host.name_of offer g.T.NativeTable.natives in
-    runs_plainly rules _ _ _ c.call_alone.result c.unmarked.result c.call_alone.ensures.unmarked c.unmarked.ensures
+    runs_plainly rules _ _ _ c.call_alone.result c.drop_changed.result c.call_alone.ensures.untold c.drop_changed.ensures
     (c.call_alone.ensures.runs offer c.args.global.now.num_operations (local_of c.args.global.now scope held) refl)

@@ -4,7 +4,7 @@ use Rattle.rhai_values.specs.Cells.{cells_of}
 use Rattle.rhai_machine.specs.language.Frames.{Operation}
 use Rattle.rhai_machine.specs.language.Setting.{Rules, rules_of}
 use Rattle.rhai_calls.proofs.Lent.{handle_none}
-use Rattle.rhai_calls.proofs.NativeCalls.{calls_barred, calls_on, unmarked_by}
+use Rattle.rhai_calls.proofs.NativeCalls.{calls_barred, calls_on, untold_by}
 use Rattle.rhai_calls.proofs.native.call_value.Goals as goal
 
 pub returns-in-Err-clause-runs : goal.returns-in-Err-clause-runs
@@ -23,8 +23,8 @@ returns-in-Ok-clause-runs g c offer =
     calls_on rules (cells_of c.args.cells.now) (cells_of c.args.cells.now) operation c.args.id c.args.passing.guarded
     c.args.passing.marks c.args.first.now c.args.rest.now (g.T.NativeTable.state c.args.table.now)
     (handle_none c.args.first.now.value c.requires) (reply_of c.in-Ok.answer) c.ask_native.new.first
-    (g.T.NativeTable.state c.ask_native.new.table) c.in-Ok.changed c.is_some-by_number.result c.replied-result.result c.marked.result
-    c.in-Ok.ensures.asked c.is_some-by_number.ensures c.replied-result.ensures.told c.replied-result.ensures.memory c.marked.ensures
+    (g.T.NativeTable.state c.ask_native.new.table) c.in-Ok.changed c.is_some-by_number.result c.replied-result.result c.tell_changed.result
+    c.in-Ok.ensures.asked c.is_some-by_number.ensures c.replied-result.ensures.told c.replied-result.ensures.memory c.tell_changed.ensures
 
-pub returns-in-Ok-clause-unmarked : goal.returns-in-Ok-clause-unmarked
-returns-in-Ok-clause-unmarked g c = unmarked_by _ _ _ _ _ _ c.in-Ok.ensures.asked.2 c.marked.ensures
+pub returns-in-Ok-clause-untold : goal.returns-in-Ok-clause-untold
+returns-in-Ok-clause-untold g c = untold_by _ _ _ _ _ _ c.in-Ok.ensures.asked.2 c.tell_changed.ensures

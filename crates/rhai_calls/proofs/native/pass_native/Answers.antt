@@ -3,7 +3,7 @@ use Rattle.rhai_machine.specs.language.Runs.{Steps}
 use Rattle.rhai_machine.specs.language.Setting.{Rules, rules_of}
 use Rattle.rhai_steps.specs.States.{state_of}
 use Rattle.rhai_calls.proofs.Lent.{back_same}
-use Rattle.rhai_calls.proofs.NativeCalls.{charges_call, exits_marked, refuses_call, still_stands}
+use Rattle.rhai_calls.proofs.NativeCalls.{charges_call, exits_telling, refuses_call, still_stands}
 use Rattle.rhai_calls.proofs.native.pass_native.Goals as goal
 
 pub returns-in_err-track_operation-clause-runs : goal.returns-in_err-track_operation-clause-runs
@@ -13,7 +13,7 @@ returns-in_err-track_operation-clause-runs g c offer scope held lender stands =
     rw (back_same lender c.args.first.now
     (state_of (g.T.NativeTable.state c.args.table.now) c.track_operation.new.global scope held)
     (still_stands lender c.args.first.now c.args.global.now c.track_operation.new.global scope held stands))
-    (exits_marked rules _ _ _ _ _ c.from_residual.ensures (λ k.
+    (exits_telling rules _ _ _ _ _ c.from_residual.ensures (λ k.
     refuses_call rules _ c.args.global.now c.track_operation.new.global scope held _ _
     c.in_err-track_operation.ensures.full c.in_err-track_operation.ensures.refused c.in_err-track_operation.ensures.same k))
 

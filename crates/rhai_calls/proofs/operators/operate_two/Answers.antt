@@ -14,4 +14,5 @@ unfolding Calls
 returns-in-None-clause-runs g c offer scope held offers k =
     rw (← c.builtin_binary.ensures.value (rw c.in-None.is tt), c.in-None.is)
     ((rw (c.as_str-name.ensures, c.get.ensures) at
-    (c.call_listed.ensures.runs offer scope held (c.args.left ∷ c.args.out.now ∷ []) offers (rw c.take_value.ensures.taken at c.two-are_there.ensures))) k)
+    (c.call_listed.ensures.runs offer scope held (c.args.left ∷ c.args.out.now ∷ []) offers (rw c.take_value.ensures.taken at
+    c.push_two-are_there.ensures))) k)

@@ -23,20 +23,20 @@ returns-in-Ok-clause-runs g c offer scope held rest args in_place has =
     let rules : Rules _ _ = rules_of c.args.limits.now g.H.Host.name_of offer g.T.NativeTable.natives in
     let cells = cells_of c.args.global.now.cells in
     let finds = ap (λ (how : Access). found how g.H.Host.name_of cells c.args.source.now c.args.index.now)
-    (ap (λ fails. way_through (link_seen c.args.link) true fails) has.fails ∙ sym c.way_by-how.ensures) ∙ c.in-Ok.ensures.finds in
+    (ap (λ fails. way_through (link_seen c.args.link) true fails) has.fails ∙ sym c.access_for-how.ensures) ∙ c.in-Ok.ensures.finds in
     spot_follows rules (new_value c.args.new) (link_seen c.args.link) c.args.index.now c.args.source.now
     (chain_at c.args.root.now rest args (Some c.args.new) in_place)
     (state_of (g.T.NativeTable.state c.args.table.now) c.args.global.now scope held) c.find_spot.new.source c.assign_spot.new.source
     c.in-Ok.spot (state_of (g.T.NativeTable.state c.assign_spot.new.table) c.assign_spot.new.global scope held) c.assign_spot.result
     (sym c.bars_key.ensures ∙ c.if-bars_key.false) finds
-    (found_stands c.way_by-how.result g.H.Host.name_of cells c.args.source.now c.find_spot.new.source c.in-Ok.spot
-    (ap (λ (how : Access). how.add_if_not_found) c.way_by-how.ensures) c.args.index.now c.in-Ok.ensures.finds c.in-Ok.ensures.there)
+    (found_stands c.access_for-how.result g.H.Host.name_of cells c.args.source.now c.find_spot.new.source c.in-Ok.spot
+    (ap (λ (how : Access). how.add_if_not_found) c.access_for-how.ensures) c.args.index.now c.in-Ok.ensures.finds c.in-Ok.ensures.there)
     (c.assign_spot.ensures.runs offer scope held has.fast)
 
 pub returns-in-Err-clause-runs : goal.returns-in-Err-clause-runs
 returns-in-Err-clause-runs g c offer scope held rest args in_place has =
     let rules : Rules _ _ = rules_of c.args.limits.now g.H.Host.name_of offer g.T.NativeTable.natives in
-    let how = ap (λ fails. way_through (link_seen c.args.link) true fails) has.fails ∙ sym c.way_by-how.ensures in
+    let how = ap (λ fails. way_through (link_seen c.args.link) true fails) has.fails ∙ sym c.access_for-how.ensures in
     rw c.in-Err.ensures.finds.0 (none_found rules (new_value c.args.new) (link_seen c.args.link) c.args.index.now c.args.source.now
     (chain_at c.args.root.now rest args (Some c.args.new) in_place)
     (state_of (g.T.NativeTable.state c.args.table.now) c.args.global.now scope held) c.in-Err.error

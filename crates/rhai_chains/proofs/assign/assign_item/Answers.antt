@@ -10,5 +10,5 @@ returns-clause-runs g c offer scope held fast =
     item_follows rules c.args.root.now (new_value c.args.new) c.args.spot c.args.source.now c.place_mut-place.result.now
     c.assign_to-outcome.new.target (state_of (g.T.NativeTable.state c.args.table.now) c.args.global.now scope held)
     (state_of (g.T.NativeTable.state c.assign_to-outcome.new.table) c.assign_to-outcome.new.global scope held)
-    c.assign_to-outcome.result c.measured.result c.place_mut-place.ensures.value c.measured.ensures.fault c.measured.ensures.fits
+    c.assign_to-outcome.result c.measure_assigned.result c.place_mut-place.ensures.value c.measure_assigned.ensures.fault c.measure_assigned.ensures.fits
     (c.assign_to-outcome.ensures.runs offer scope held fast)

@@ -3,7 +3,7 @@ use Rattle.rhai_machine.specs.language.Frames.{MemberAccess}
 use Rattle.rhai_machine.specs.language.Setting.{Rules, rules_of}
 use Rattle.rhai_machine.specs.language.State.{State}
 use Rattle.rhai_steps.specs.States.{state_of}
-use Rattle.rhai_steps.specs.Marked.{lending, RunsFrom}
+use Rattle.rhai_steps.specs.OnFocus.{lending, RunsFrom}
 use Rattle.rhai_chains.specs.Assigned.{none_got, value_got}
 use Rattle.rhai_chains.specs.Chains.{new_value}
 use Rattle.rhai_chains.specs.Members.{access_of}

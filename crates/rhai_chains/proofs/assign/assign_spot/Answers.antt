@@ -2,7 +2,7 @@ use Rattle.std.proofs.Common.{sym, ◌∙◌}
 use Rattle.rhai_values.specs.Layers.{layer_of}
 use Rattle.rhai_machine.specs.language.Setting.{Rules, rules_of}
 use Rattle.rhai_steps.specs.States.{state_of}
-use Rattle.rhai_steps.specs.Marked.{lending}
+use Rattle.rhai_steps.specs.OnFocus.{lending}
 use Rattle.rhai_chains.specs.Chains.{link_seen, new_value}
 use Rattle.rhai_chains.proofs.AssignLemmas.{at_part, at_place}
 use Rattle.rhai_chains.proofs.SpotLemmas.{is_a_part, is_a_place}

@@ -1,6 +1,6 @@
 use Rattle.rhai_machine.specs.language.Setting.{Rules, rules_of}
 use Rattle.rhai_steps.specs.States.{state_of}
-use Rattle.rhai_steps.specs.Marked.{lending}
+use Rattle.rhai_steps.specs.OnFocus.{lending}
 use Rattle.rhai_chains.specs.Chains.{new_value}
 use Rattle.rhai_chains.specs.Members.{access_of}
 use Rattle.rhai_chains.proofs.SettingLemmas.{got_fails, got_follows}

@@ -1,7 +1,7 @@
 use Rattle.std.proofs.Common.{sym, ◌∙◌}
 use Rattle.rhai_machine.specs.language.Setting.{Rules, rules_of}
 use Rattle.rhai_steps.specs.States.{state_of}
-use Rattle.rhai_steps.specs.Marked.{lending}
+use Rattle.rhai_steps.specs.OnFocus.{lending}
 use Rattle.rhai_chains.specs.Members.{access_of}
 use Rattle.rhai_chains.proofs.SettingLemmas.{item_operated, item_refused, property_operated}
 use Rattle.rhai_chains.proofs.assign.set_operated.Goals as goal

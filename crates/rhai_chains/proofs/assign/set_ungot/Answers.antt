@@ -1,7 +1,7 @@
 use Rattle.std.proofs.Common.{sym, ◌∙◌}
 use Rattle.rhai_machine.specs.language.Setting.{Rules, rules_of}
 use Rattle.rhai_steps.specs.States.{state_of}
-use Rattle.rhai_steps.specs.Marked.{lending}
+use Rattle.rhai_steps.specs.OnFocus.{lending}
 use Rattle.rhai_chains.specs.Chains.{new_value}
 use Rattle.rhai_chains.specs.Members.{access_of}
 use Rattle.rhai_chains.proofs.SettingLemmas.{property_fails, sets_ungot, ungot_fails}

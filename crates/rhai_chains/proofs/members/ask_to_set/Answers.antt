@@ -3,14 +3,14 @@ use Rattle.rhai_machine.specs.language.Frames.{FromFocus}
 use Rattle.rhai_machine.specs.language.Members.{set_item}
 use Rattle.rhai_machine.specs.language.Setting.{Rules, rules_of}
 use Rattle.rhai_steps.specs.States.{state_of}
-use Rattle.rhai_steps.specs.Marked.{lending}
-use Rattle.rhai_chains.proofs.MemberLemmas.{wants_asking}
+use Rattle.rhai_steps.specs.OnFocus.{lending}
+use Rattle.rhai_chains.proofs.MemberLemmas.{member_runs_out_asking}
 use Rattle.rhai_chains.proofs.members.ask_to_set.Goals as goal
 
 pub returns-in_default-clause-runs : goal.returns-in_default-clause-runs
 returns-in_default-clause-runs g c offer scope held =
     let rules : Rules _ _ = rules_of c.args.limits.now g.H.Host.name_of offer g.T.NativeTable.natives in
-    wants_asking rules (set_item c.args.at c.args.guarded c.args.focus.now c.args.index c.args.value)
+    member_runs_out_asking rules (set_item c.args.at c.args.guarded c.args.focus.now c.args.index c.args.value)
     (state_of (g.T.NativeTable.state c.args.table.now) c.args.global.now scope (lending held c.args.focus.now)) c.args.at
 
 pub returns-clause-runs : goal.returns-clause-runs

@@ -2,7 +2,7 @@ use Rattle.rhai_machine.specs.language.Members.{get_item}
 use Rattle.rhai_machine.specs.language.Frames.{Property}
 use Rattle.rhai_machine.specs.language.Setting.{Rules, rules_of}
 use Rattle.rhai_steps.specs.States.{state_of}
-use Rattle.rhai_steps.specs.Marked.{lending}
+use Rattle.rhai_steps.specs.OnFocus.{lending}
 use Rattle.rhai_chains.proofs.MemberLemmas.{asks_from}
 use Rattle.rhai_chains.proofs.members.get_member.Goals as goal
 

@@ -2,8 +2,8 @@ use Rattle.std.proofs.Common.{Err}
 use Rattle.rhai_machine.specs.language.Members.{get_item, named}
 use Rattle.rhai_machine.specs.language.Setting.{Rules, rules_of}
 use Rattle.rhai_steps.specs.States.{state_of}
-use Rattle.rhai_steps.specs.Marked.{lending}
-use Rattle.rhai_chains.proofs.MemberLemmas.{answered_is, tries_from, wants_trying}
+use Rattle.rhai_steps.specs.OnFocus.{lending}
+use Rattle.rhai_chains.proofs.MemberLemmas.{answered_is, tries_from, member_runs_out_trying}
 use Rattle.rhai_chains.proofs.members.get_named.Goals as goal
 
 pub returns-in-Ok-clause-runs : goal.returns-in-Ok-clause-runs
@@ -20,6 +20,6 @@ returns-in-Ok-clause-runs g c offer scope held =
 pub returns-in-Err-clause-runs : goal.returns-in-Err-clause-runs
 returns-in-Err-clause-runs g c offer scope held =
     let rules : Rules _ _ = rules_of c.args.limits.now g.H.Host.name_of offer g.T.NativeTable.natives in
-    wants_trying rules (λ focus. get_item c.args.at focus (named c.args.name.now)) (Err c.args.missing)
+    member_runs_out_trying rules (λ focus. get_item c.args.at focus (named c.args.name.now)) (Err c.args.missing)
     (state_of (g.T.NativeTable.state c.args.table.now) c.args.global.now scope (lending held c.args.focus.now)) c.in-Err.error
     (named c.args.name.now) c.in-Err.ensures

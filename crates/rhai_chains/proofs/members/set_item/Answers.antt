@@ -3,7 +3,7 @@ use Rattle.rhai_machine.specs.language.Members.{set_item}
 use Rattle.rhai_machine.specs.language.Values.{unit_value}
 use Rattle.rhai_machine.specs.language.Setting.{Rules, rules_of}
 use Rattle.rhai_steps.specs.States.{state_of}
-use Rattle.rhai_steps.specs.Marked.{lending}
+use Rattle.rhai_steps.specs.OnFocus.{lending}
 use Rattle.rhai_chains.proofs.MemberLemmas.{asks_from, tries_from}
 use Rattle.rhai_chains.proofs.members.set_item.Goals as goal
 

@@ -1,7 +1,7 @@
 use Rattle.std.proofs.Common.{sym, ◌∙◌}
 use Rattle.rhai_machine.specs.language.Setting.{Rules, rules_of}
 use Rattle.rhai_steps.specs.States.{state_of}
-use Rattle.rhai_steps.specs.Marked.{lending}
+use Rattle.rhai_steps.specs.OnFocus.{lending}
 use Rattle.rhai_chains.proofs.MemberLemmas.{sets, sets_named, sets_none}
 use Rattle.rhai_chains.proofs.members.set_property.Goals as goal
 
@@ -19,11 +19,11 @@ returns-then-lacks_property-clause-runs g c offer scope held member =
     let rules : Rules _ _ = rules_of c.args.limits.now g.H.Host.name_of offer g.T.NativeTable.natives in
     sets_named rules (record { member = member; at = c.args.at; guarded = c.args.guarded }) c.args.name.now c.args.value
     c.args.ignores c.args.pos (state_of (g.T.NativeTable.state c.args.table.now) c.args.global.now scope (lending held c.args.focus.now))
-    c.in-Err.error c.instead-otherwise.result
+    c.in-Err.error c.instead_of_indexer-otherwise.result
     (state_of (g.T.NativeTable.state c.ask_setter.new.table) c.ask_setter.new.global scope (lending held c.ask_setter.new.focus))
     (state_of (g.T.NativeTable.state c.set_named.new.table) c.set_named.new.global scope (lending held c.set_named.new.focus))
     c.set_named.result (c.in-Err.ensures.runs offer scope held) (sym c.lacks_property.ensures ∙ c.if-lacks_property.true)
-    c.instead-otherwise.ensures (rw c.ask_setter.ensures.value at (c.set_named.ensures.runs offer scope held))
+    c.instead_of_indexer-otherwise.ensures (rw c.ask_setter.ensures.value at (c.set_named.ensures.runs offer scope held))
 
 pub returns-else-lacks_property-clause-runs : goal.returns-else-lacks_property-clause-runs
 returns-else-lacks_property-clause-runs g c offer scope held member =

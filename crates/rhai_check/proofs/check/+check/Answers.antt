@@ -3,12 +3,13 @@ use Rattle.rhai_tree.specs.declared.expr.Expr.TheOpen as layer
 use Rattle.rhai_tree.specs.declared.expr.Expr.TheVariants.{outs-Variable, outs-Or, outs-Dot, outs-Index, outs-DynamicConstant}
 use Rattle.rhai_tree.specs.declared.expr.Expr.TheVariants.{outs-BoolConstant, outs-IntegerConstant, outs-CharConstant}
 use Rattle.rhai_tree.specs.declared.expr.Expr.TheVariants.{outs-StringConstant, outs-Unit, outs-ThisPtr}
-use Rattle.rhai_tree.specs.declared.expr.Stmt.TheVariants.{outs-If, outs-Noop, outs-Export, outs-While, outs-Assignment, outs-Switch, outs-For}
+use Rattle.rhai_tree.specs.declared.expr.Stmt.TheVariants.{outs-If, outs-Noop, outs-Export, outs-While, outs-Assignment, outs-Switch}
+use Rattle.rhai_tree.specs.declared.expr.Stmt.TheVariants.{outs-For}
 use Rattle.rhai_tree.specs.declared.expr.Stmt.TheVariants.{outs-TryCatch, outs-Var, outs-Import}
 use Rattle.rhai_check.specs.Around.{above, around, cut}
 use Rattle.rhai_tree.specs.Frame.{tests_of, resolves_expr, dot_resolves, name_resolves, bracket_resolves}
 use Rattle.rhai_tree.specs.Frame.{resolves_block, turns_resolve, catch_resolves, var_resolves}
-use Rattle.rhai_check.specs.Declares.{names_a_catch}
+use Rattle.rhai_check.specs.MemoryNeeds.{names_a_catch}
 use Rattle.rhai_check.specs.Refusals.{Refuses}
 use Rattle.rhai_check.specs.declared.check.place.Place.{Place}
 use Rattle.rhai_tree.specs.Cases.{is_switch}
@@ -177,8 +178,8 @@ expr::check_target-returns-else-is_place-clause-exact t c = tt
 
 pub expr::check_target-returns-else-is_place-clause-refused : goal.expr::check_target-returns-else-is_place-clause-refused
 expr::check_target-returns-else-is_place-clause-refused t c =
-    target_refused (seen_expr c.args.lhs.now) (around c.args.declared.now c.args.place) c.first_token.result
-    (sym c.is_place.ensures.seen ∙ c.if-is_place.false) c.first_token.ensures
+    target_refused (seen_expr c.args.lhs.now) (around c.args.declared.now c.args.place) c.seen_start.result
+    (sym c.is_place.ensures.seen ∙ c.if-is_place.false) c.seen_start.ensures
 
 pub expr::check_expr-returns-in-Or-clause-exact : goal.expr::check_expr-returns-in-Or-clause-exact
 expr::check_expr-returns-in-Or-clause-exact t c =
@@ -327,7 +328,8 @@ expr::check_expr-returns-in_err-check_expr-in-Index-clause-refused t c =
 
 pub expr::check_expr-returns-in-DynamicConstant-clause-resolved : goal.expr::check_expr-returns-in-DynamicConstant-clause-resolved
 expr::check_expr-returns-in-DynamicConstant-clause-resolved t c base =
-    runs_at c.args.expr.now (layer.DynamicConstant c.in-DynamicConstant.field-0 c.in-DynamicConstant.field-1) (above base c.args.declared.now)
+    runs_at c.args.expr.now (layer.DynamicConstant c.in-DynamicConstant.field-0 c.in-DynamicConstant.field-1) (above base
+    c.args.declared.now)
     (rw (c.in-DynamicConstant.is, outs-DynamicConstant) refl) refl
 
 pub expr::check_expr-returns-in-BoolConstant-clause-resolved : goal.expr::check_expr-returns-in-BoolConstant-clause-resolved
@@ -337,7 +339,8 @@ expr::check_expr-returns-in-BoolConstant-clause-resolved t c base =
 
 pub expr::check_expr-returns-in-IntegerConstant-clause-resolved : goal.expr::check_expr-returns-in-IntegerConstant-clause-resolved
 expr::check_expr-returns-in-IntegerConstant-clause-resolved t c base =
-    runs_at c.args.expr.now (layer.IntegerConstant c.in-IntegerConstant.field-0 c.in-IntegerConstant.field-1) (above base c.args.declared.now)
+    runs_at c.args.expr.now (layer.IntegerConstant c.in-IntegerConstant.field-0 c.in-IntegerConstant.field-1) (above base
+    c.args.declared.now)
     (rw (c.in-IntegerConstant.is, outs-IntegerConstant) refl) refl
 
 pub expr::check_expr-returns-in-CharConstant-clause-resolved : goal.expr::check_expr-returns-in-CharConstant-clause-resolved
@@ -478,7 +481,8 @@ chain::check_behind_bracket-returns-in_default-clause-resolved t c =
 
 pub expr::check_expr-returns-in-ThisPtr-clause-resolved : goal.expr::check_expr-returns-in-ThisPtr-clause-resolved
 expr::check_expr-returns-in-ThisPtr-clause-resolved t c base =
-    runs_at c.args.expr.now (layer.ThisPtr c.in-ThisPtr.field-0) (above base c.args.declared.now) (rw (c.in-ThisPtr.is, outs-ThisPtr) refl) refl
+    runs_at c.args.expr.now (layer.ThisPtr c.in-ThisPtr.field-0) (above base c.args.declared.now) (rw
+    (c.in-ThisPtr.is, outs-ThisPtr) refl) refl
 
 pub stmt::check_conditionals-returns-in_err-check_conditional-clause-refused :
     goal.stmt::check_conditionals-returns-in_err-check_conditional-clause-refused
@@ -582,7 +586,8 @@ pub stmt::check_stmt-returns-in_ok-check_expr-in-Switch-clause-refused :
 stmt::check_stmt-returns-in_ok-check_expr-in-Switch-clause-refused t c =
     let good : is_switch (length c.in-Switch.expressions) c.in-Switch.cases c.in-Switch.ranges c.in-Switch.def_case ≡ true =
     sym (rw (c.len-count.ensures, c.as_slice.ensures, c.as_slice-in-Switch.ensures) at c.if-not-is_switch.ensures) in
-    err_then _ (λ e h. parts_refused c.args.stmt.now c.in-Switch.expr c.in-Switch.expressions c.in-Switch.cases c.in-Switch.ranges c.in-Switch.def_case
+    err_then _ (λ e h. parts_refused c.args.stmt.now c.in-Switch.expr c.in-Switch.expressions c.in-Switch.cases c.in-Switch.ranges
+    c.in-Switch.def_case
     c.in-Switch.pos c.args.declared.now c.args.place (rw (c.in-Switch.is, outs-Switch) refl) good
     c.in_ok-check_expr-in-Switch.ensures.exact e h)
     (rw (c.in_ok-check_expr-in-Switch.ensures.same, c.as_slice-in-Switch-2.ensures) at c.check_conditionals.ensures.refused)
@@ -600,7 +605,8 @@ stmt::check_stmt-returns-in_ok-check_expr-in-For-clause-exact t c =
     exact_stmt_at _ c.args.stmt.now (layer.For c.in-For.name c.in-For.counter c.in-For.expr c.in-For.body c.in-For.pos)
     (around c.args.declared.now c.args.place) _ (rw (c.in-For.is, outs-For) refl)
     (loop_passes _ _ _ c.args.place c.args.declared.now _ c.in_ok-check_expr-in-For.ensures.exact
-    (rw c.in_ok-check_expr-in-For.ensures.same at c.check_turns.ensures.exact) (rw c.in_ok-check_expr-in-For.ensures.same at c.check_turns.ensures.same))
+    (rw c.in_ok-check_expr-in-For.ensures.same at c.check_turns.ensures.exact) (rw c.in_ok-check_expr-in-For.ensures.same at
+    c.check_turns.ensures.same))
 
 pub stmt::check_stmt-returns-in_ok-check_expr-in-For-clause-resolved :
     goal.stmt::check_stmt-returns-in_ok-check_expr-in-For-clause-resolved
@@ -634,7 +640,8 @@ stmt::check_stmt-returns-in_ok-check_block-in-TryCatch-clause-exact t c =
     exact_stmt_at _ c.args.stmt.now (layer.TryCatch c.in-TryCatch.body c.in-TryCatch.variable c.in-TryCatch.branch c.in-TryCatch.field-3)
     (around c.args.declared.now c.args.place) _ (rw (c.in-TryCatch.is, outs-TryCatch) refl)
     (loop_passes _ _ _ c.args.place c.args.declared.now _ c.in_ok-check_block-in-TryCatch.ensures.exact
-    (passes_as _ _ _ (catch_same faulty c.in-TryCatch.variable (seen_block c.in-TryCatch.branch).value (around c.args.declared.now c.args.place))
+    (passes_as _ _ _ (catch_same faulty c.in-TryCatch.variable (seen_block c.in-TryCatch.branch).value (around
+    c.args.declared.now c.args.place))
     (rw c.in_ok-check_block-in-TryCatch.ensures.same at c.check_branch.ensures.exact))
     (rw c.in_ok-check_block-in-TryCatch.ensures.same at c.check_branch.ensures.same))
 
@@ -656,7 +663,8 @@ stmt::check_stmt-returns-in_ok-check_block-in-TryCatch-clause-resolved t c =
 pub stmt::check_stmt-returns-in_ok-check_block-in-TryCatch-clause-refused :
     goal.stmt::check_stmt-returns-in_ok-check_block-in-TryCatch-clause-refused
 stmt::check_stmt-returns-in_ok-check_block-in-TryCatch-clause-refused t c =
-    err_then _ (λ e h. refuses_stmt_at c.args.stmt.now (layer.TryCatch c.in-TryCatch.body c.in-TryCatch.variable c.in-TryCatch.branch c.in-TryCatch.field-3)
+    err_then _ (λ e h. refuses_stmt_at c.args.stmt.now (layer.TryCatch c.in-TryCatch.body c.in-TryCatch.variable c.in-TryCatch.branch
+    c.in-TryCatch.field-3)
     (around c.args.declared.now c.args.place) e (rw (c.in-TryCatch.is, outs-TryCatch) refl)
     (refuses_later _ _ _ _ e c.in_ok-check_block-in-TryCatch.ensures.exact
     (catch_refused c.in-TryCatch.variable c.in-TryCatch.branch (around c.args.declared.now c.args.place) e h)))
@@ -760,7 +768,8 @@ stmt::check_stmt-returns-in-Return-clause-begins t c =
 pub stmt::check_stmt-returns-in_ok-check_target-in-Assignment-clause-begins :
     goal.stmt::check_stmt-returns-in_ok-check_target-in-Assignment-clause-begins
 stmt::check_stmt-returns-in_ok-check_target-in-Assignment-clause-begins t c =
-    ok_then _ (continues_same c.args.declared.now _) (rw c.in_ok-check_target-in-Assignment.ensures.same at c.check_expr-in-Assignment.ensures.same)
+    ok_then _ (continues_same c.args.declared.now _) (rw c.in_ok-check_target-in-Assignment.ensures.same at
+    c.check_expr-in-Assignment.ensures.same)
 
 pub stmt::check_stmt-returns-in_ok-check_expr-in-While-clause-begins : goal.stmt::check_stmt-returns-in_ok-check_expr-in-While-clause-begins
 stmt::check_stmt-returns-in_ok-check_expr-in-While-clause-begins t c =

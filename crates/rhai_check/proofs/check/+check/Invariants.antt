@@ -1,7 +1,7 @@
 use Rattle.std.specs.Prelude.{◌≡◌, map, drop, IsTrue}
 use Rattle.rhai_check.specs.Around.{Continues, above, around}
 use Rattle.rhai_tree.specs.Forms.{any_of}
-use Rattle.rhai_check.specs.Declares.{any_need, needs_of, declares_stmt, declares_conditional}
+use Rattle.rhai_check.specs.MemoryNeeds.{any_need, needs_of, stmt_needs_memory, conditional_needs_memory}
 use Rattle.rhai_tree.specs.Frame.{tests_of, resolves_stmt, all_resolve_exprs, all_resolve, entries_resolve, tests_of_entry}
 use Rattle.rhai_tree.specs.Frame.{resolves_conditional, conditionals_resolve}
 use Rattle.rhai_tree.specs.Names.{Frame}
@@ -26,7 +26,7 @@ invariant-stmt::check_statements-each l = record {
       (map seen_stmt (drop l.statement-index l.statements)) (around l.declared l.place);
   resolved : (base : Frame) → all_resolve (map resolves_stmt l.statements) (above base l.fn.declared) ≡ all_resolve
       (map resolves_stmt (drop l.statement-index l.statements)) (above base l.declared);
-  declares : IsTrue (any_of (map declares_stmt (drop l.statement-index l.statements))) → IsTrue (any_of (map declares_stmt l.statements));
+  declares : IsTrue (any_of (map stmt_needs_memory (drop l.statement-index l.statements))) → IsTrue (any_of (map stmt_needs_memory l.statements));
 }
 
 abbrev pub invariant-expr::check_entries-each : goal.invariant-expr::check_entries-each
@@ -45,6 +45,6 @@ invariant-stmt::check_conditionals-each l = record {
       (map seen_conditional (drop l.conditional-index l.conditionals)) (around l.fn.declared l.place);
   resolved : (base : Frame) → conditionals_resolve (map resolves_conditional l.conditionals) (above base l.fn.declared)
       ≡ conditionals_resolve (map resolves_conditional (drop l.conditional-index l.conditionals)) (above base l.fn.declared);
-  declares : IsTrue (any_of (map declares_conditional (drop l.conditional-index l.conditionals)))
-      → IsTrue (any_of (map declares_conditional l.conditionals));
+  declares : IsTrue (any_of (map conditional_needs_memory (drop l.conditional-index l.conditionals)))
+      → IsTrue (any_of (map conditional_needs_memory l.conditionals));
 }

@@ -1,5 +1,5 @@
 use Rattle.std.specs.Option.{option_copied}
-use Rattle.rhai_pointers.specs.Leading.{all_args}
+use Rattle.rhai_call_forms.specs.Leading.{all_args}
 use Rattle.rhai_eval.specs.States.{under}
 use Rattle.rhai_constants_eval.proofs.Staying.{called_stays}
 use Rattle.rhai_constants_eval.proofs.parts.make_function_call.Goals as goal

@@ -1,7 +1,7 @@
 use Rattle.std.proofs.Common.{◌∙◌}
 use Rattle.std.specs.String.{string_bytes}
 use Rattle.rhai_machine.specs.language.Setting.{rules_of}
-use Rattle.rhai_data.proofs.TextSteps.{joins_wants}
+use Rattle.rhai_data.proofs.TextSteps.{joins_run_out}
 use Rattle.rhai_data.proofs.text.join_handle.Goals as goal
 
 pub join_typed-requires : goal.join_typed-requires
@@ -10,4 +10,4 @@ join_typed-requires g c = c.as_str-name.ensures ∙ c.get.ensures ∙ c.in-Ok.en
 pub returns-in-Err-clause-runs : goal.returns-in-Err-clause-runs
 returns-in-Err-clause-runs g c offer scope held =
     let rules = rules_of c.args.limits.now g.H.Host.name_of offer g.T.NativeTable.natives in
-    joins_wants rules _ (string_bytes c.args.text.now) c.args.value.now c.args.pos c.args.pos _ (string_bytes c.args.text.now)
+    joins_run_out rules _ (string_bytes c.args.text.now) c.args.value.now c.args.pos c.args.pos _ (string_bytes c.args.text.now)

@@ -2,14 +2,14 @@ use Rattle.std.proofs.Common.{◌≡◌, None}
 use Rattle.rhai_values.specs.Copy.{copy_of}
 use Rattle.rhai_machine.specs.language.Setting.{rules_of}
 use Rattle.rhai_steps.proofs.Pieces.{passed}
-use Rattle.rhai_data.proofs.TextSteps.{failed_wants, print_wants, print_called}
+use Rattle.rhai_data.proofs.TextSteps.{failed_out_of_memory, print_runs_out, print_called}
 use Rattle.rhai_data.proofs.text.print.Goals as goal
 
 pub returns-in_err-first-clause-runs : goal.returns-in_err-first-clause-runs
 returns-in_err-first-clause-runs g c offer scope held =
     let rules = rules_of c.args.limits.now g.H.Host.name_of offer g.T.NativeTable.natives in
     rw (passed _ c.from_residual.ensures)
-    (print_wants rules c.args.value.now c.args.pos _ _ (failed_wants _ _ c.in_err-first.ensures))
+    (print_runs_out rules c.args.value.now c.args.pos _ _ (failed_out_of_memory _ _ c.in_err-first.ensures))
 
 pub returns-clause-runs : goal.returns-clause-runs
 returns-clause-runs g c offer scope held =

@@ -1,5 +1,5 @@
 use Rattle.rhai_places.specs.Targets.{shown}
-use Rattle.rhai_methods.specs.Targets.{stands}
+use Rattle.rhai_methods.specs.Targets.{value_walked_on}
 use Rattle.rhai_eval.specs.States.{under}
 use Rattle.rhai_fits_eval.proofs.Targets.{assignment_again, assignment_shows}
 use Rattle.rhai_fits_eval.proofs.calls.eval_op_assignment.Goals as goal
@@ -8,7 +8,7 @@ pub returns-clause-fits : goal.returns-clause-fits
 returns-clause-fits g c scope this = let a = c.args in
     let after = c.eval_op_assignment.new.target in
     assignment_again (under g.H.Host.name_of a.engine.now g.T.NativeTable.natives) _ _ _ g.met.T.NativeTable.lawful c.requires.sealed
-    a.target.now.part a.target.now.at.now (stands after.part after.at.now) a.root.now
+    a.target.now.part a.target.now.at.now (value_walked_on after.part after.at.now) a.root.now
     (record { op = a.op_info.now; value = a.new_val }) c.requires.value c.eval_op_assignment.result
     (c.eval_op_assignment.ensures.ends scope this)
 

@@ -1,6 +1,6 @@
 use Rattle.std.proofs.Common.{Some, length}
 use Rattle.rhai_places.specs.Targets.{is_shared, shown}
-use Rattle.rhai_methods.specs.Targets.{stands}
+use Rattle.rhai_methods.specs.Targets.{value_walked_on}
 use Rattle.rhai_eval.specs.States.{under}
 use Rattle.rhai_fits_eval.proofs.Targets.{method_again, method_shows}
 use Rattle.rhai_fits_eval.proofs.calls.make_method_call.Goals as goal
@@ -9,7 +9,7 @@ pub returns-clause-fits : goal.returns-clause-fits
 returns-clause-fits g c scope this = let a = c.args in
     let after = c.make_method_call.new.target in
     method_again (under g.H.Host.name_of a.engine.now g.T.NativeTable.natives) _ _ _ g.met.T.NativeTable.lawful c.requires.sealed
-    a.target.now.part a.target.now.at.now (stands after.part after.at.now)
+    a.target.now.part a.target.now.at.now (value_walked_on after.part after.at.now)
     (record {
       name = a.fn_name.now;
       at = a.pos;

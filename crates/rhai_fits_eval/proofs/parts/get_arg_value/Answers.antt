@@ -1,5 +1,5 @@
 use Rattle.rhai_machine.specs.language.Frames.{Argument}
-use Rattle.rhai_eval.specs.Calls.{value_with}
+use Rattle.rhai_eval.specs.ArgumentValues.{value_with}
 use Rattle.rhai_eval.specs.States.{under}
 use Rattle.rhai_fits_eval.proofs.Ends.{control_again}
 use Rattle.rhai_fits_eval.proofs.parts.get_arg_value.Goals as goal

@@ -1,5 +1,5 @@
 use Rattle.rhai_machine.specs.language.Setting.{over}
-use Rattle.rhai_laws.proofs.WantLaws.{runs_up_to_memory}
+use Rattle.rhai_laws.proofs.ScriptMemory.{runs_up_to_memory}
 use Rattle.rhai_laws.proofs.script.script_goes_up_to_memory.Goals as goal
 
 pub returns : goal.returns

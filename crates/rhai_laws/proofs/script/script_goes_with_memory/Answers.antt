@@ -1,5 +1,5 @@
 use Rattle.rhai_machine.specs.language.Setting.{over}
-use Rattle.rhai_laws.proofs.WantLaws.{with_memory}
+use Rattle.rhai_laws.proofs.ScriptMemory.{with_memory}
 use Rattle.rhai_laws.proofs.script.script_goes_with_memory.Goals as goal
 
 pub returns : goal.returns

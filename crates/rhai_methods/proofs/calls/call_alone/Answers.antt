@@ -2,7 +2,7 @@ use Rattle.std.proofs.Common.{◌++◌}
 use Rattle.rhai_machine.specs.language.Setting.{Rules, rules_of}
 use Rattle.rhai_steps.specs.States.{local_of, state_of}
 use Rattle.rhai_methods.specs.Calls.{alone_by}
-use Rattle.rhai_methods.proofs.Going.{wants_from}
+use Rattle.rhai_methods.proofs.Going.{runs_out_from}
 use Rattle.rhai_methods.proofs.Levels.{alone_by_level}
 use Rattle.rhai_methods.proofs.calls.call_alone.Goals as goal
 
@@ -17,7 +17,7 @@ returns-in-Ok-clause-runs g c offer scope held offers =
 pub returns-in-Err-clause-runs : goal.returns-in-Err-clause-runs
 returns-in-Err-clause-runs g c offer scope held offers =
     let rules : Rules _ _ = rules_of c.args.limits.now g.H.Host.name_of offer g.T.NativeTable.natives in
-    wants_from rules c.args.pos
+    runs_out_from rules c.args.pos
     (alone_by rules.setting c.args.number c.args.name.now c.args.pos (c.args.curried ++ c.args.args.now))
     (state_of (g.T.NativeTable.state c.args.table.now) c.args.global.now scope held) c.in-Err.error
     (λ k. alone_by_level k (local_of c.args.global.now scope held) rules.setting

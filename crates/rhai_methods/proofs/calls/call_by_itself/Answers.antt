@@ -2,8 +2,8 @@ use Rattle.rhai_methods.proofs.calls.call_by_itself.Goals as goal
 
 pub returns-in-Some-clause-runs : goal.returns-in-Some-clause-runs
 returns-in-Some-clause-runs g c offer scope held offers =
-    rw (c.in-Some.is, c.marked.ensures) (c.number_by_itself-result.ensures.runs offer scope held)
+    rw (c.in-Some.is, c.tell_changed.ensures) (c.call_number_by_itself-result.ensures.runs offer scope held)
 
 pub returns-in-None-clause-runs : goal.returns-in-None-clause-runs
 returns-in-None-clause-runs g c offer scope held offers =
-    rw c.in-None.is (c.named_by_itself.ensures.runs offer scope held offers)
+    rw c.in-None.is (c.call_named_by_itself.ensures.runs offer scope held offers)

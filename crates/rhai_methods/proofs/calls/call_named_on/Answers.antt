@@ -4,7 +4,7 @@ use Rattle.rhai_machine.specs.language.Frames.{FromFocus}
 use Rattle.rhai_machine.specs.language.Arguments.{operation_named}
 use Rattle.rhai_machine.specs.language.Methods.{as_method, on_focus}
 use Rattle.rhai_steps.specs.States.{state_of}
-use Rattle.rhai_steps.specs.Marked.{lending}
+use Rattle.rhai_steps.specs.OnFocus.{lending}
 use Rattle.rhai_methods.proofs.Going.{dispatched_ends, named_enters_on}
 use Rattle.rhai_methods.proofs.calls.call_named_on.Goals as goal
 

@@ -2,8 +2,8 @@ use Rattle.std.proofs.Common.{◌++◌}
 use Rattle.rhai_machine.specs.language.Setting.{Rules, rules_of}
 use Rattle.rhai_steps.specs.States.{local_of, state_of}
 use Rattle.rhai_methods.specs.Calls.{on_by}
-use Rattle.rhai_steps.specs.Marked.{lending}
-use Rattle.rhai_methods.proofs.Going.{wants_from}
+use Rattle.rhai_steps.specs.OnFocus.{lending}
+use Rattle.rhai_methods.proofs.Going.{runs_out_from}
 use Rattle.rhai_methods.proofs.Levels.{on_by_level}
 use Rattle.rhai_methods.proofs.calls.call_on.Goals as goal
 
@@ -18,7 +18,7 @@ returns-in-Ok-clause-runs g c offer scope held offers =
 pub returns-in-Err-clause-runs : goal.returns-in-Err-clause-runs
 returns-in-Err-clause-runs g c offer scope held offers =
     let rules : Rules _ _ = rules_of c.args.limits.now g.H.Host.name_of offer g.T.NativeTable.natives in
-    wants_from rules c.args.pos
+    runs_out_from rules c.args.pos
     (on_by rules.setting c.args.number c.args.called.now c.args.name.now c.args.pos (c.args.curried ++ c.args.args.now) c.args.target.now)
     (state_of (g.T.NativeTable.state c.args.table.now) c.args.global.now scope (lending held c.args.target.now)) c.in-Err.error
     (λ k. on_by_level k (local_of c.args.global.now scope (lending held c.args.target.now)) rules.setting

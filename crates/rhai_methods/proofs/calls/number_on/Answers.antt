@@ -3,7 +3,7 @@ use Rattle.rhai_machine.specs.language.Setting.{Rules, rules_of}
 use Rattle.rhai_machine.specs.language.Frames.{FromFocus}
 use Rattle.rhai_machine.specs.language.Arguments.{operation_named}
 use Rattle.rhai_steps.specs.States.{state_of}
-use Rattle.rhai_steps.specs.Marked.{lending}
+use Rattle.rhai_steps.specs.OnFocus.{lending}
 use Rattle.rhai_methods.proofs.Going.{number_asks_on, number_races_on}
 use Rattle.rhai_methods.proofs.calls.number_on.Goals as goal
 

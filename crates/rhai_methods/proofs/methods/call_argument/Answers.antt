@@ -3,7 +3,7 @@ use Rattle.rhai_machine.specs.language.Setting.{Rules, rules_of}
 use Rattle.rhai_machine.specs.language.Methods.{Method}
 use Rattle.rhai_steps.specs.States.{state_of}
 use Rattle.rhai_calls.proofs.Taking.{first_and_others, none_below, others}
-use Rattle.rhai_steps.specs.Marked.{lending}
+use Rattle.rhai_steps.specs.OnFocus.{lending}
 use Rattle.rhai_methods.proofs.Meanings.{argument_errs, argument_goes, argument_misses}
 use Rattle.rhai_methods.proofs.methods.call_argument.Goals as goal
 

@@ -2,7 +2,7 @@ use Rattle.std.proofs.Common.{false, Ok}
 use Rattle.rhai_machine.specs.language.Setting.{Rules, rules_of}
 use Rattle.rhai_machine.specs.language.Methods.{Method, CallWord, CurryWord, SharedWord, PlainWord}
 use Rattle.rhai_steps.specs.States.{state_of}
-use Rattle.rhai_steps.specs.Marked.{lending}
+use Rattle.rhai_steps.specs.OnFocus.{lending}
 use Rattle.rhai_methods.specs.declared.calls.MethodCall.TheVariants.{Ended}
 use Rattle.rhai_methods.proofs.Meanings.{by_word, curry_goes, shared_goes}
 use Rattle.rhai_methods.proofs.methods.call_method.Goals as goal
@@ -10,7 +10,12 @@ use Rattle.rhai_methods.proofs.methods.call_method.Goals as goal
 pub returns-in-Call-clause-runs : goal.returns-in-Call-clause-runs
 returns-in-Call-clause-runs g c offer scope held offers =
     let rules : Rules _ _ = rules_of c.args.limits.now g.H.Host.name_of offer g.T.NativeTable.natives in
-    let method : Method = record { name = c.args.name.now; at = c.args.pos; first_at = c.args.first_arg_pos; was_handle = c.args.was_handle } in
+    let method : Method = record {
+      name = c.args.name.now;
+      at = c.args.pos;
+      first_at = c.args.first_arg_pos;
+      was_handle = c.args.was_handle;
+    } in
     by_word rules method c.args.args.now c.args.target.now
     (state_of (g.T.NativeTable.state c.args.table.now) c.args.global.now scope (lending held c.args.target.now))
     CallWord c.in-Call.ensures c.call_word.result
@@ -20,16 +25,26 @@ returns-in-Call-clause-runs g c offer scope held offers =
 pub returns-in-Curry-clause-runs : goal.returns-in-Curry-clause-runs
 returns-in-Curry-clause-runs g c offer scope held offers =
     let rules : Rules _ _ = rules_of c.args.limits.now g.H.Host.name_of offer g.T.NativeTable.natives in
-    let method : Method = record { name = c.args.name.now; at = c.args.pos; first_at = c.args.first_arg_pos; was_handle = c.args.was_handle } in
+    let method : Method = record {
+      name = c.args.name.now;
+      at = c.args.pos;
+      first_at = c.args.first_arg_pos;
+      was_handle = c.args.was_handle;
+    } in
     let old = state_of (g.T.NativeTable.state c.args.table.now) c.args.global.now scope (lending held c.args.target.now) in
-    by_word rules method c.args.args.now c.args.target.now old CurryWord c.in-Curry.ensures (Ended c.marked.result) old
-    (curry_goes rules method c.args.args.now c.args.target.now old c.curried-result.result c.marked.result c.marked.ensures
+    by_word rules method c.args.args.now c.args.target.now old CurryWord c.in-Curry.ensures (Ended c.tell_changed.result) old
+    (curry_goes rules method c.args.args.now c.args.target.now old c.curried-result.result c.tell_changed.result c.tell_changed.ensures
     c.curried-result.ensures)
 
 pub returns-in-Shared-clause-runs : goal.returns-in-Shared-clause-runs
 returns-in-Shared-clause-runs g c offer scope held offers =
     let rules : Rules _ _ = rules_of c.args.limits.now g.H.Host.name_of offer g.T.NativeTable.natives in
-    let method : Method = record { name = c.args.name.now; at = c.args.pos; first_at = c.args.first_arg_pos; was_handle = c.args.was_handle } in
+    let method : Method = record {
+      name = c.args.name.now;
+      at = c.args.pos;
+      first_at = c.args.first_arg_pos;
+      was_handle = c.args.was_handle;
+    } in
     let old = state_of (g.T.NativeTable.state c.args.table.now) c.args.global.now scope (lending held c.args.target.now) in
     by_word rules method c.args.args.now c.args.target.now old SharedWord c.in-Shared.ensures (Ended (Ok (c.bool_value.result, false))) old
     (shared_goes rules method c.args.args.now c.args.target.now old c.bool_value.result c.bool_value.ensures)
@@ -37,7 +52,12 @@ returns-in-Shared-clause-runs g c offer scope held offers =
 pub returns-in-Plain-clause-runs : goal.returns-in-Plain-clause-runs
 returns-in-Plain-clause-runs g c offer scope held offers =
     let rules : Rules _ _ = rules_of c.args.limits.now g.H.Host.name_of offer g.T.NativeTable.natives in
-    let method : Method = record { name = c.args.name.now; at = c.args.pos; first_at = c.args.first_arg_pos; was_handle = c.args.was_handle } in
+    let method : Method = record {
+      name = c.args.name.now;
+      at = c.args.pos;
+      first_at = c.args.first_arg_pos;
+      was_handle = c.args.was_handle;
+    } in
     by_word rules method c.args.args.now c.args.target.now
     (state_of (g.T.NativeTable.state c.args.table.now) c.args.global.now scope (lending held c.args.target.now))
     PlainWord c.in-Plain.ensures c.call_plain.result

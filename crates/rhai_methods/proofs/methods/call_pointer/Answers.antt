@@ -3,7 +3,7 @@ use Rattle.rhai_machine.specs.language.Setting.{Rules, rules_of}
 use Rattle.rhai_machine.specs.language.State.{State}
 use Rattle.rhai_steps.specs.States.{local_of, state_of}
 use Rattle.rhai_methods.specs.Parts.{alone_with}
-use Rattle.rhai_methods.proofs.Going.{wants_from}
+use Rattle.rhai_methods.proofs.Going.{runs_out_from}
 use Rattle.rhai_methods.proofs.Levels.{alone_with_level}
 use Rattle.rhai_methods.proofs.Pointed.{alone_found, linked_alone_goes}
 use Rattle.rhai_methods.proofs.methods.call_pointer.Goals as goal
@@ -12,10 +12,10 @@ pub returns-in-Ok-Some-clause-runs : goal.returns-in-Ok-Some-clause-runs
 returns-in-Ok-Some-clause-runs g c offer scope held offers =
     let rules : Rules _ _ = rules_of c.args.limits.now g.H.Host.name_of offer g.T.NativeTable.natives in
     let s : State _ _ = state_of (g.T.NativeTable.state c.args.table.now) c.args.global.now scope held in
-    alone_found rules c.args.pointer c.args.pos c.args.args.now s s c.linked_alone.result (Some c.in-Ok-Some.function)
+    alone_found rules c.args.pointer c.args.pos c.args.args.now s s c.enter_linked_alone.result (Some c.in-Ok-Some.function)
     (sym c.in-Ok-Some.field-0-is ∙ rw c.as_slice.ensures at c.in-Ok-Some.ensures)
-    (linked_alone_goes rules c.args.pointer c.args.pos c.args.args.now s c.linked_alone.result c.in-Ok-Some.function
-    c.linked_alone.ensures)
+    (linked_alone_goes rules c.args.pointer c.args.pos c.args.args.now s c.enter_linked_alone.result c.in-Ok-Some.function
+    c.enter_linked_alone.ensures)
 
 pub returns-in-Ok-None-clause-runs : goal.returns-in-Ok-None-clause-runs
 returns-in-Ok-None-clause-runs g c offer scope held offers =
@@ -30,6 +30,6 @@ returns-in-Ok-None-clause-runs g c offer scope held offers =
 pub returns-in-Err-clause-runs : goal.returns-in-Err-clause-runs
 returns-in-Err-clause-runs g c offer scope held offers =
     let rules : Rules _ _ = rules_of c.args.limits.now g.H.Host.name_of offer g.T.NativeTable.natives in
-    wants_from rules c.args.pos (alone_with rules.setting c.args.pointer c.args.pos c.args.args.now)
+    runs_out_from rules c.args.pos (alone_with rules.setting c.args.pointer c.args.pos c.args.args.now)
     (state_of (g.T.NativeTable.state c.args.table.now) c.args.global.now scope held) _
     (λ k. alone_with_level k (local_of c.args.global.now scope held) rules.setting c.args.pointer c.args.pos c.args.args.now) refl

@@ -4,9 +4,9 @@ use Rattle.std.specs.Option.{option_copied}
 use Rattle.rhai_machine.specs.language.Setting.{Rules, rules_of}
 use Rattle.rhai_machine.specs.language.State.{State}
 use Rattle.rhai_steps.specs.States.{local_of, state_of}
-use Rattle.rhai_steps.specs.Marked.{lending}
+use Rattle.rhai_steps.specs.OnFocus.{lending}
 use Rattle.rhai_methods.specs.Parts.{name_called, on_with}
-use Rattle.rhai_methods.proofs.Going.{wants_from}
+use Rattle.rhai_methods.proofs.Going.{runs_out_from}
 use Rattle.rhai_methods.proofs.Levels.{on_with_level}
 use Rattle.rhai_methods.proofs.Pointed.{linked_on_goes, on_found}
 use Rattle.rhai_methods.proofs.methods.call_pointer_on.Goals as goal
@@ -16,10 +16,10 @@ returns-in-Ok-Some-clause-runs g c offer scope held offers =
     let rules : Rules _ _ = rules_of c.args.limits.now g.H.Host.name_of offer g.T.NativeTable.natives in
     let s : State _ _ = state_of (g.T.NativeTable.state c.args.table.now) c.args.global.now scope (lending held c.args.target.now) in
     let called : List ℕ = name_called c.args.pointer (option_copied c.args.called) in
-    on_found rules c.args.pointer c.args.pos c.args.args.now s s c.linked_on.result (Some c.in-Ok-Some.function)
+    on_found rules c.args.pointer c.args.pos c.args.args.now s s c.enter_linked_on.result (Some c.in-Ok-Some.function)
     (sym c.in-Ok-Some.field-0-is ∙ rw c.as_slice.ensures at c.in-Ok-Some.ensures) called c.args.target.now
-    (linked_on_goes rules c.args.pointer c.args.pos c.args.args.now s c.linked_on.result c.in-Ok-Some.function
-    c.linked_on.ensures called c.args.target.now)
+    (linked_on_goes rules c.args.pointer c.args.pos c.args.args.now s c.enter_linked_on.result c.in-Ok-Some.function
+    c.enter_linked_on.ensures called c.args.target.now)
 
 pub returns-in-Ok-None-clause-runs : goal.returns-in-Ok-None-clause-runs
 returns-in-Ok-None-clause-runs g c offer scope held offers =
@@ -35,7 +35,7 @@ pub returns-in-Err-clause-runs : goal.returns-in-Err-clause-runs
 returns-in-Err-clause-runs g c offer scope held offers =
     let rules : Rules _ _ = rules_of c.args.limits.now g.H.Host.name_of offer g.T.NativeTable.natives in
     let called : List ℕ = name_called c.args.pointer (option_copied c.args.called) in
-    wants_from rules c.args.pos (on_with rules.setting c.args.pointer called c.args.pos c.args.args.now c.args.target.now)
+    runs_out_from rules c.args.pos (on_with rules.setting c.args.pointer called c.args.pos c.args.args.now c.args.target.now)
     (state_of (g.T.NativeTable.state c.args.table.now) c.args.global.now scope (lending held c.args.target.now)) _
     (λ k. on_with_level k (local_of c.args.global.now scope (lending held c.args.target.now)) rules.setting c.args.pointer called
     c.args.pos c.args.args.now c.args.target.now) refl

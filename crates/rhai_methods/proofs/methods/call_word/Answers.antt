@@ -2,7 +2,7 @@ use Rattle.std.proofs.Common.{Ok, sym, ap, ◌∙◌}
 use Rattle.rhai_machine.specs.language.Setting.{Rules, rules_of}
 use Rattle.rhai_machine.specs.language.Methods.{Method}
 use Rattle.rhai_steps.specs.States.{state_of}
-use Rattle.rhai_steps.specs.Marked.{lending}
+use Rattle.rhai_steps.specs.OnFocus.{lending}
 use Rattle.rhai_methods.proofs.Meanings.{call_alone_goes, call_argument_goes, call_errs}
 use Rattle.rhai_methods.proofs.methods.call_word.Goals as goal
 

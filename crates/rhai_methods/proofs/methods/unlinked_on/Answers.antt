@@ -3,7 +3,7 @@ use Rattle.std.specs.Option.{option_copied}
 use Rattle.rhai_values.specs.declared.base.value.FnPtr.{out-FnPtr}
 use Rattle.rhai_machine.specs.language.Setting.{Rules, rules_of}
 use Rattle.rhai_steps.specs.States.{state_of}
-use Rattle.rhai_steps.specs.Marked.{lending}
+use Rattle.rhai_steps.specs.OnFocus.{lending}
 use Rattle.rhai_methods.specs.Parts.{name_called}
 use Rattle.rhai_methods.proofs.Pointed.{by_parts_on, called_is}
 use Rattle.rhai_methods.proofs.methods.unlinked_on.Goals as goal

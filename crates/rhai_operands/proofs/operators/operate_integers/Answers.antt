@@ -11,4 +11,4 @@ returns-clause-known g c done =
     (c.is_none.ensures ∙ ap not c.if-is_none.false) c.integer_in_place-first.ensures in
     let right = is_there c.integer_in_place-second.result (integer_of (standing (out-Expr c.args.right.now) (entries_of c.args.scope.now)))
     (c.is_none-2.ensures ∙ ap not c.if-is_none-2.false) c.integer_in_place-second.ensures in
-    rw (left, right, c.put_number.ensures) (sym c.assign_known.ensures ∙ c.in-Some.is)
+    rw (left, right, c.put_number.ensures) (sym c.compute_known.ensures ∙ c.in-Some.is)

@@ -11,5 +11,5 @@ pub returns : goal.returns
 returns c =
     c.from_string.ensures ∙ c.in_ok-push_str.ensures.bytes
     ∙ (λ i. (c.in_ok-push.ensures.bytes ∙ ap (λ front. front ++ encode_utf8 c.args.c)
-    (c.in_ok-joined.ensures.ok ∙ c.around.ensures.front)) i ++ c.around.ensures.back i)
+    (c.in_ok-joined.ensures.ok ∙ c.split_around.ensures.front)) i ++ c.split_around.ensures.back i)
     ∙ char_put c.args.text.now c.utf8.text c.args.at c.args.c c.requires

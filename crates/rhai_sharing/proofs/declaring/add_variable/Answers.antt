@@ -21,7 +21,8 @@ returns-clause-declares g c held k =
     let mode = mode_of c.args.options in
     let more = old ++ new_entry name mode c.args.value ∷ [] in
     let pushed : entries_of c.define_variable.new.scope ≡ more = rw (← c.mode_of.ensures) c.in_ok-define_variable.ensures.pushed in
-    let there : option_map value_of (slice_get (entries_of c.define_variable.new.scope) c.len-at.result) ≡ Some (with_mode mode c.args.value) =
+    let there : option_map value_of (slice_get (entries_of c.define_variable.new.scope) c.len-at.result) ≡ Some (with_mode
+    mode c.args.value) =
     rw (pushed, c.len-at.ensures) (added_there mode old name c.args.value) in
     let entered : constant_core (enters c.args.options c.args.restoring before) name c.args.value before ≡ after =
     sym (entered_as_given mode (enters c.args.options c.args.restoring before) name c.args.value before)

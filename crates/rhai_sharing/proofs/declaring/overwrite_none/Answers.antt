@@ -11,7 +11,7 @@ returns-then-not-is_exported-clause-declares g c offset scope held none =
 
 pub returns-then-not-is_exported-clause-misses : goal.returns-then-not-is_exported-clause-misses
 returns-then-not-is_exported-clause-misses g c offset scope held none =
-    then_err c.enter_constant.result (λ e wants told k. let never : true ≡ false = sym wants ∙ told in cc) c.enter_constant.ensures.refused
+    then_err c.enter_constant.result (λ e is_out told k. let never : true ≡ false = sym is_out ∙ told in cc) c.enter_constant.ensures.refused
 
 pub returns-in-Err-clause-misses : goal.returns-in-Err-clause-misses
 returns-in-Err-clause-misses g c offset scope held none told k = let never : true ≡ false = sym c.in-Err.ensures.refused ∙ told in cc

@@ -14,11 +14,11 @@ use Rattle.rhai_sharing.proofs.declaring.overwrite_variable.Goals as goal
 
 pub returns-in_default-clause-declares : goal.returns-in_default-clause-declares
 returns-in_default-clause-declares g c held = c.overwrite_none.ensures.declares c.args.offset c.args.scope.now held
-    (sym c.place_of_variable.ensures.exact ∙ c.in_default.is)
+    (sym c.index_of_variable.ensures.exact ∙ c.in_default.is)
 
 pub returns-in_default-clause-misses : goal.returns-in_default-clause-misses
 returns-in_default-clause-misses g c held = c.overwrite_none.ensures.misses c.args.offset c.args.scope.now held
-    (sym c.place_of_variable.ensures.exact ∙ c.in_default.is)
+    (sym c.index_of_variable.ensures.exact ∙ c.in_default.is)
 
 pub returns-in-Err-clause-misses : goal.returns-in-Err-clause-misses
 returns-in-Err-clause-misses g c held told k = let never : true ≡ false = sym c.in-Err.ensures.refused ∙ told in cc
@@ -44,7 +44,7 @@ returns-clause-declares g c held k =
     let entered : constant_core (enters c.args.options c.args.restoring before) name c.args.value before ≡ after =
     sym (entered_as_given (mode_of c.args.options) (enters c.args.options c.args.restoring before) name c.args.value before)
     ∙ sym (c.in_default-published.ensures.entered v c.args.scope.now held there) in
-    let here : index_of name old ≡ Some at = sym c.place_of_variable.ensures.exact ∙ c.in-Some.is in
+    let here : index_of name old ≡ Some at = sym c.index_of_variable.ensures.exact ∙ c.in-Some.is in
     let found : index_of name more ≡ Some at = same_place name more old (revalued_names old at v) ∙ here in
     let aliased : own_alias (is_exported c.args.options) more at name ≡ entries_of c.publish-published.new.scope =
     sym (c.in_default-published.ensures.aliased ∙ ap (λ entries. own_alias (is_exported c.args.options) entries at name) written) in

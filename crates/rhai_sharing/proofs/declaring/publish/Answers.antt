@@ -13,7 +13,8 @@ returns-in-Err-clause-same_scope g c =
     let entry = c.index-entries-at.result in
     let there : slice_get old c.args.at ≡ Some entry = slice_get-get_or old c.args.at entry c.requires
     ∙ ap Some (sym (rw c.entries.ensures at c.index-entries-at.is)) in
-    let counted : c.len-count.result ≡ length entry.aliases = c.len-count.ensures ∙ ap (λ e. length e.aliases) (sym c.index-entries-at.is) in
+    let counted : c.len-count.result ≡ length entry.aliases = c.len-count.ensures ∙ ap (λ e. length e.aliases) (sym
+    c.index-entries-at.is) in
     c.truncate_aliases.ensures ∙ rw c.in_ok-add_own_alias.ensures.aliased (first_own (is_exported c.args.options) old c.args.at entry
     c.args.name.now c.len-count.result there counted)
 

@@ -132,7 +132,7 @@ fn int_in(item: &Dynamic<Pair>) -> Option<i64>
     }
 }
 
-/// The number at an index. The index 3 is one that the native refuses.
+/// Reads the number at an index. The index 3 is one that the native refuses.
 fn at(pair: Pair, index: i64) -> Option<Response<Pair>>
     ensures { result ≡ counting.number_at pair index }
 {

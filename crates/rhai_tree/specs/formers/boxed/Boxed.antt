@@ -1,4 +1,4 @@
--- How `Boxed` stores its value, so that a type may hold itself behind a pointer: the shape says nothing, and the one place is the value.
+-- How `Boxed` stores its value, so that a type may contain itself behind a pointer: the shape says nothing, and its one hole is the value.
 use mathlib.Core.Path.{refl}
 use mathlib.Core.Former.{Former, this, const, pair, via}
 use base.Stored.{gnil}
@@ -22,13 +22,15 @@ use Rattle.rhai_tree.specs.declared.boxed.Boxed.TheView.{view, invariant}
 use Rattle.rhai_tree.specs.contracts.boxed.Boxed as C
 use Rattle.rhai_tree.specs.contracts.boxed.Boxed.TheInside as I
 
+-- the shape of a `Boxed` over a shape: that of its value
 abbrev pub the_former : Former {0} → Former {0}
 the_former g = g
 
+-- the measure of a `Boxed`: that of its value
 abbrev pub the_weighed : {g : Former {0}} → Weighed g → Weighed (the_former g)
 the_weighed w = w
 
--- the fields, as that shape and its places
+-- the fields, as that shape and its hole
 abbrev stored : Former {0}
 stored = via (pair (const (Ptr × Global)) this) Inside (λ X a. ((a.inner.ptr, a.inner.alloc), a.inner.value))
     (λ X v. record { inner = record { ptr = v.0.0; alloc = v.0.1; value = v.1 } }) (λ X a. refl) (λ X v. refl)
@@ -37,6 +39,7 @@ stored = via (pair (const (Ptr × Global)) this) Inside (λ X a. ((a.inner.ptr, 
 abbrev holding : {X Y : Type 0} → Box X Global → Y → Box Y Global
 holding b y = record { ptr = b.ptr; alloc = b.alloc; value = y }
 
+-- the type of a `Box` in the heap, over the type of its value
 abbrev box_of : RattleType → RattleType
 box_of R = box.the_row R heap.the_row ghosts
 

@@ -1,4 +1,4 @@
--- How `Items` stores its items, so that a type may hold lists of itself: the shape is a list, each of whose places holds one item.
+-- How `Items` stores its items, so that a type may contain lists of itself: the shape is a list, with a hole for each item.
 use mathlib.Core.Path.{◌≡◌, refl, sym}
 use mathlib.Core.List.{List, []}
 use mathlib.Core.Former.{Former, this, list, via, children}
@@ -19,22 +19,25 @@ use Rattle.rhai_tree.specs.declared.items.Items.TheView.{view, invariant}
 use Rattle.rhai_tree.specs.contracts.items.Items as C
 use Rattle.rhai_tree.specs.contracts.items.Items.TheInside as I
 
+-- the shape of an `Items` over a shape: a list of it
 abbrev pub the_former : Former {0} → Former {0}
 the_former g = list g
 
+-- the measure of an `Items`: the largest of its items
 abbrev pub the_weighed : {g : Former {0}} → Weighed g → Weighed (the_former g)
 the_weighed w = w_list w
 
 pub the_empty : List ⊥
 the_empty = []
 
+-- the items of an `Items`, as a list
 abbrev pub the_items : (X : Type 0) → List X → List X
 the_items X d = d
 
 pub the_items_listed : (X : Type 0) (d : List X) → listed _ (children (the_former this) X d) ≡ the_items X d
 the_items_listed X d = list-listed X d
 
--- the fields, as that shape and its places
+-- the fields, as that shape and its holes
 abbrev stored : Former {0}
 stored = via (vec.the_former this Global) Inside (λ X a. a.items) (λ X v. record { items = v }) (λ X a. refl) (λ X v. refl)
 

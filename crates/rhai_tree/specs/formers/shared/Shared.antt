@@ -1,5 +1,5 @@
--- How `Shared` stores its value, so that a type may hold itself behind a counted pointer: the shape says nothing, and the one place is
--- the value.
+-- How `Shared` stores its value, so that a type may contain itself behind a counted pointer: the shape says nothing, and its one hole
+-- is the value.
 use mathlib.Core.Path.{refl}
 use mathlib.Core.Former.{Former, this, const, pair, via}
 use base.Stored.{gnil}
@@ -23,13 +23,15 @@ use Rattle.rhai_tree.specs.declared.shared.Shared.TheView.{view, invariant}
 use Rattle.rhai_tree.specs.contracts.shared.Shared as C
 use Rattle.rhai_tree.specs.contracts.shared.Shared.TheInside as I
 
+-- the shape of a `Shared` over a shape: that of its value
 abbrev pub the_former : Former {0} → Former {0}
 the_former g = g
 
+-- the measure of a `Shared`: that of its value
 abbrev pub the_weighed : {g : Former {0}} → Weighed g → Weighed (the_former g)
 the_weighed w = w
 
--- the fields, as that shape and its places
+-- the fields, as that shape and its hole
 abbrev stored : Former {0}
 stored = via (pair (const Ptr) this) Inside (λ X a. (a.inner.ptr, a.inner.value))
     (λ X v. record { inner = record { ptr = v.0; value = v.1 } }) (λ X a. refl) (λ X v. refl)
@@ -38,6 +40,7 @@ stored = via (pair (const Ptr) this) Inside (λ X a. (a.inner.ptr, a.inner.value
 abbrev holding : {X Y : Type 0} → Rc X Global → Y → Rc Y Global
 holding b y = record { ptr = b.ptr; value = y }
 
+-- the type of an `Rc` in the heap, over the type of its value
 abbrev rc_of : RattleType → RattleType
 rc_of R = rc.the_row R heap.the_row ghosts
 

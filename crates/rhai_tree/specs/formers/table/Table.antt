@@ -1,5 +1,4 @@
--- How `Table` stores its values, so that a type may hold maps of itself: the shape is the keys and a list, each of whose places holds
--- one value.
+-- How `Table` stores its values, so that a type may contain maps of itself: the shape is the keys and a list, with a hole for each value.
 use mathlib.Core.Path.{◌≡◌, refl, sym, ap, ◌∙◌}
 use mathlib.Core.HLevel.{×_prop}
 use mathlib.Core.Bool.{Bool-set}
@@ -25,16 +24,18 @@ use Rattle.rhai_tree.specs.declared.table.Table.TheView.{view, invariant}
 use Rattle.rhai_tree.specs.contracts.table.Table as C
 use Rattle.rhai_tree.specs.contracts.table.Table.TheInside as I
 
+-- the shape of a `Table` over a shape: the keys, and a list of it
 abbrev pub the_former : Former {0} → Former {0}
 the_former g = pair (const (List (List ℕ))) (former_list g)
 
+-- the measure of a `Table`: the largest of its values
 abbrev pub the_weighed : {g : Former {0}} → Weighed g → Weighed (the_former g)
 the_weighed w = w_pair (w_const (List (List ℕ))) (w_list w)
 
 pub the_empty : List (List ℕ) × List ⊥
 the_empty = ([], [])
 
--- the fields, as that shape and its places
+-- the fields, as that shape and its holes
 abbrev stored : Former {0}
 stored = via (the_former this) Inside (λ X a. (a.keys, a.values)) (λ X v. record { keys = v.0; values = v.1 }) (λ X a. refl) (λ X v. refl)
 
@@ -54,6 +55,7 @@ module _ (R S : RattleType) (h : R.Denot → S.Denot) where
   the_codes_placed e d = ap (gcons ((coded_list (coded_list coded_ℕ)).code d.0))
       (sym (code_map R.coded.code S.coded.code h (λ x. sym (e x)) d.1))
 
+-- the values of a `Table`, as a list
 abbrev pub the_items : (X : Type 0) → List (List ℕ) × List X → List X
 the_items X d = d.1
 

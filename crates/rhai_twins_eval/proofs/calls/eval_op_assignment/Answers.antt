@@ -2,7 +2,7 @@ use Rattle.std.proofs.Common.{[], Some, None, ap, refl, ◌∙◌}
 use Rattle.rhai_state.specs.declared.scope.Scope.{Scope}
 use Rattle.rhai_places.specs.Targets.{shown}
 use Rattle.rhai_machine.specs.language.Setting.{Rules}
-use Rattle.rhai_methods.specs.Targets.{stands}
+use Rattle.rhai_methods.specs.Targets.{value_walked_on}
 use Rattle.rhai_eval.specs.Assigned.{target_assigned, value_assigned}
 use Rattle.rhai_eval.specs.Places.{with_place}
 use Rattle.rhai_eval.specs.States.{under}
@@ -21,8 +21,8 @@ returns-clause-run g c = let one = c.eval_op_assignment in let other = c.eval_op
     ∙ ap (λ x. target_assigned rules.setting a.root.now (record { op = a.op_info.now; value = a.also_new_val }) a.also_target.now.part x)
     c.requires.place)
     (same_start c.requires.table c.requires.global refl
-    (ap (λ x. with_place this (Some (stands x a.target.now.at.now))) c.requires.part
-    ∙ ap (λ x. with_place this (Some (stands a.also_target.now.part x))) c.requires.place))
+    (ap (λ x. with_place this (Some (value_walked_on x a.target.now.at.now))) c.requires.part
+    ∙ ap (λ x. with_place this (Some (value_walked_on a.also_target.now.part x))) c.requires.place))
     (one.ensures.ends scope this) (other.ensures.ends scope this)
 
 pub returns-clause-shown : goal.returns-clause-shown

@@ -6,7 +6,7 @@ use Rattle.rhai_machine.specs.language.Frames.{Operation}
 use Rattle.rhai_machine.specs.language.Setting.{Rules}
 use Rattle.rhai_eval.specs.Places.{by_name, on_place, with_place}
 use Rattle.rhai_eval.specs.States.{under}
-use Rattle.rhai_twins_eval.proofs.Once.{mark_once}
+use Rattle.rhai_twins_eval.proofs.Once.{changed_once}
 use Rattle.rhai_twins_eval.proofs.Starts.{same_start}
 use Rattle.rhai_twins_eval.proofs.calls.exec_fn_call.Goals as goal
 
@@ -14,9 +14,10 @@ pub returns-clause-run : goal.returns-clause-run
 returns-clause-run g c = let one = c.exec_fn_call in let other = c.exec_fn_call-2 in let a = c.args in
     let rules : Rules _ _ = under g.H.Host.name_of a.engine.now g.T.NativeTable.natives in
     let operation : Operation = record { name = a.name.now; token = option_copied a.op_token; at = a.position } in
-    λ this. mark_once rules _ _ _ _ _ _ one.result other.result
+    λ this. changed_once rules _ _ _ _ _ _ one.result other.result
     (ap (λ x. dispatch_core rules.setting (by_name a.is_method_call true) (on_place operation true (Some x) a.rest.now)) c.requires.first
-    ∙ ap (λ x. dispatch_core rules.setting (by_name a.is_method_call true) (on_place operation true (Some a.also_first.now) x)) c.requires.rest)
+    ∙ ap (λ x. dispatch_core rules.setting (by_name a.is_method_call true) (on_place operation true (Some a.also_first.now) x))
+    c.requires.rest)
     (same_start c.requires.table c.requires.global c.requires.scope (ap (λ x. with_place this (Some x)) c.requires.first))
     (one.ensures.lent a.scope.now this refl) (other.ensures.lent a.scope.now this refl)
 

@@ -9,7 +9,7 @@ use Rattle.rhai_values.specs.declared.base.value.Dynamic.{Dynamic}
 use Rattle.rhai_methods.specs.Targets.{on_target}
 use Rattle.rhai_eval.specs.Places.{with_place}
 use Rattle.rhai_eval.specs.States.{under}
-use Rattle.rhai_twins_eval.proofs.Once.{alone_once, mark_once}
+use Rattle.rhai_twins_eval.proofs.Once.{alone_once, changed_once}
 use Rattle.rhai_twins_eval.proofs.Starts.{same_start}
 use Rattle.rhai_twins_eval.proofs.calls.make_method_call.Goals as goal
 
@@ -18,7 +18,7 @@ returns-clause-run g c = let one = c.make_method_call in let other = c.make_meth
     let rules : Rules _ _ = under g.H.Host.name_of a.engine.now g.T.NativeTable.natives in
     let method : Part _ → Dynamic _ → Method = λ part place.
     record { name = a.fn_name.now; at = a.pos; first_at = Some a.first_arg_pos; was_handle = is_shared part place } in
-    λ scope this. mark_once rules _ _ _ _ _ _ one.result other.result
+    λ scope this. changed_once rules _ _ _ _ _ _ one.result other.result
     (ap (λ x. on_target rules.setting (method a.target.now.part a.target.now.at.now) x a.target.now.part a.target.now.at.now)
     c.requires.call_args
     ∙ ap (λ x. on_target rules.setting (method x a.target.now.at.now) a.also_call_args.now x a.target.now.at.now) c.requires.part

@@ -3,7 +3,7 @@ use Rattle.rhai_values.specs.Cells.{cells_of}
 use Rattle.rhai_places.specs.Found.{found}
 use Rattle.rhai_machine.specs.language.Setting.{Rules, rules_of}
 use Rattle.rhai_steps.specs.States.{state_of}
-use Rattle.rhai_steps.specs.Marked.{lending}
+use Rattle.rhai_steps.specs.OnFocus.{lending}
 use Rattle.rhai_chains.specs.Chains.{chain_at, link_seen}
 use Rattle.rhai_chains.specs.Spots.{way_through}
 use Rattle.rhai_walk.proofs.Descending.{taken_none, taken_there}
@@ -11,7 +11,7 @@ use Rattle.rhai_walk.proofs.ends.end_at.Goals as goal
 
 pub returns-in-Some-clause-runs : goal.returns-in-Some-clause-runs
 returns-in-Some-clause-runs g c offer scope held rest all in_place switches =
-    rw (c.in-Some.is, c.settle_marked.ensures) (c.assign_at-assigned.ensures.runs offer scope held rest all in_place switches)
+    rw (c.in-Some.is, c.settle_changed.ensures) (c.assign_at-assigned.ensures.runs offer scope held rest all in_place switches)
 
 pub returns-in-Ok-clause-runs : goal.returns-in-Ok-clause-runs
 returns-in-Ok-clause-runs g c offer scope held rest all in_place switches =

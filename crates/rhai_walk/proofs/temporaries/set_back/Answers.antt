@@ -1,6 +1,6 @@
 use Rattle.rhai_machine.specs.language.Setting.{Rules, rules_of}
 use Rattle.rhai_steps.specs.States.{state_of}
-use Rattle.rhai_steps.specs.Marked.{lending}
+use Rattle.rhai_steps.specs.OnFocus.{lending}
 use Rattle.rhai_chains.specs.Members.{access_of}
 use Rattle.rhai_walk.proofs.OnTemporaries.{set_ends, set_fails}
 use Rattle.rhai_walk.proofs.temporaries.set_back.Goals as goal
@@ -10,7 +10,8 @@ returns-in-Ok-clause-runs g c offer scope held =
     let rules : Rules _ _ = rules_of c.args.walker.now.limits.now g.H.Host.name_of offer g.T.NativeTable.natives in
     set_ends rules (access_of c.args.access) c.args.temporary c.args.out.now
     (state_of (g.T.NativeTable.state c.args.table.now) c.args.global.now scope (lending held c.args.source.now))
-    (state_of (g.T.NativeTable.state c.set_member-set.new.table) c.set_member-set.new.global scope (lending held c.set_member-set.new.focus))
+    (state_of (g.T.NativeTable.state c.set_member-set.new.table) c.set_member-set.new.global scope (lending held
+    c.set_member-set.new.focus))
     c.in-Ok.answer c.in-Ok.field-0-1 (c.in-Ok.ensures.runs offer scope held)
 
 pub returns-in-Err-clause-runs : goal.returns-in-Err-clause-runs
@@ -18,5 +19,6 @@ returns-in-Err-clause-runs g c offer scope held =
     let rules : Rules _ _ = rules_of c.args.walker.now.limits.now g.H.Host.name_of offer g.T.NativeTable.natives in
     rw (c.fail.ensures.failed, c.fail.ensures.told) (set_fails rules (access_of c.args.access) c.args.temporary c.args.out.now
     (state_of (g.T.NativeTable.state c.args.table.now) c.args.global.now scope (lending held c.args.source.now))
-    (state_of (g.T.NativeTable.state c.set_member-set.new.table) c.set_member-set.new.global scope (lending held c.set_member-set.new.focus))
+    (state_of (g.T.NativeTable.state c.set_member-set.new.table) c.set_member-set.new.global scope (lending held
+    c.set_member-set.new.focus))
     c.in-Err.error (c.in-Err.ensures.runs offer scope held))

@@ -1,6 +1,6 @@
 use Rattle.rhai_machine.specs.language.Setting.{Rules, rules_of}
 use Rattle.rhai_steps.specs.States.{state_of}
-use Rattle.rhai_steps.specs.Marked.{lending}
+use Rattle.rhai_steps.specs.OnFocus.{lending}
 use Rattle.rhai_chains.specs.Chains.{link_seen}
 use Rattle.rhai_values.specs.Cells.{cells_of}
 use Rattle.rhai_walk.specs.Walking.{IsFree}

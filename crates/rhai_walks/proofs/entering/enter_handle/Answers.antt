@@ -9,7 +9,8 @@ use Rattle.rhai_walks.proofs.entering.enter_handle.Goals as goal
 pub returns-clause-names : goal.returns-clause-names
 returns-clause-names g c =
     let l = local_of c.args.global.now c.args.scope.now (holding None) in
-    names_kept _ l _ _ c.write_variable.result c.write_variable.new.place _ (c.write_variable.ensures.wrote l refl) c.write_variable.ensures.scope
+    names_kept _ l _ _ c.write_variable.result c.write_variable.new.place _ (c.write_variable.ensures.wrote l refl)
+    c.write_variable.ensures.scope
 
 pub returns-clause-refused : goal.returns-clause-refused
 returns-clause-refused g c rest turn k l same =

@@ -9,13 +9,15 @@ use Rattle.rhai_walks.proofs.entering.enter_item.Goals as goal
 pub returns-clause-names : goal.returns-clause-names
 returns-clause-names g c =
     let l = local_of c.args.global.now c.args.scope.now (holding None) in
-    names_kept _ l _ _ c.write_variable.result c.write_variable.new.place _ (c.write_variable.ensures.wrote l refl) c.write_variable.ensures.scope
+    names_kept _ l _ _ c.write_variable.result c.write_variable.new.place _ (c.write_variable.ensures.wrote l refl)
+    c.write_variable.ensures.scope
 
 pub returns-clause-entered : goal.returns-clause-entered
 returns-clause-entered g c rest turn k l same =
     let there : c.len-index.result - 1 ≡ c.args.base + counters c.args.parts.counter.now =
     omega (arith, c.len-index.ensures, c.requires) in
-    item_written c.args.item l _ _ c.write_variable.result c.write_variable.new.place (loop_in c.args.parts) c.args.item rest turn c.args.base _ k
+    item_written c.args.item l _ _ c.write_variable.result c.write_variable.new.place (loop_in c.args.parts) c.args.item rest
+    turn c.args.base _ k
     (stays l.around.cells c.args.item _ (sym c.is_bare_handle.ensures ∙ c.if-is_bare_handle.false)) there
     (c.write_variable.ensures.wrote l same)
 
@@ -23,6 +25,7 @@ pub returns-clause-refused : goal.returns-clause-refused
 returns-clause-refused g c rest turn k l same =
     let there : c.len-index.result - 1 ≡ c.args.base + counters c.args.parts.counter.now =
     omega (arith, c.len-index.ensures, c.requires) in
-    item_not c.args.item l _ _ c.write_variable.result c.write_variable.new.place (loop_in c.args.parts) c.args.item rest turn c.args.base _ k
+    item_not c.args.item l _ _ c.write_variable.result c.write_variable.new.place (loop_in c.args.parts) c.args.item rest
+    turn c.args.base _ k
     (stays l.around.cells c.args.item _ (sym c.is_bare_handle.ensures ∙ c.if-is_bare_handle.false)) there
     (c.write_variable.ensures.wrote l same)

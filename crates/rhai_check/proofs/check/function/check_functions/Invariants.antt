@@ -1,6 +1,6 @@
 use Rattle.std.specs.Prelude.{◌≡◌, ◌++◌, IsTrue}
 use Rattle.std.specs.Vec.Iter.{into_iter_items}
-use Rattle.rhai_check.specs.Declares.{has_functions}
+use Rattle.rhai_check.specs.MemoryNeeds.{has_functions}
 use Rattle.rhai_tree.specs.WellFormed.{faults_in_functions}
 use Rattle.rhai_check.proofs.check.function.check_functions.Given as goal
 

@@ -5,7 +5,7 @@ use Rattle.rhai_machine.specs.language.Frames.{Operation, FromFocus}
 use Rattle.rhai_machine.specs.language.Setting.{Offer, Rules}
 use Rattle.rhai_machine.specs.language.State.{State}
 use Rattle.rhai_steps.specs.Offers.{Offers}
-use Rattle.rhai_steps.specs.Marked.{lending}
+use Rattle.rhai_steps.specs.OnFocus.{lending}
 use Rattle.rhai_steps.specs.States.{state_of}
 use Rattle.rhai_methods.specs.declared.calls.MethodCall.TheVariants.{Ended}
 use Rattle.rhai_eval.specs.Entering.{ComesTo}
@@ -24,7 +24,8 @@ returns-in-Ended-clause-lent g c scope held on_scope lent =
     (on_place operation true (Some c.args.first.now) c.args.rest.now)) old (Ended c.in-Ended.result)
     (state_of (g.T.NativeTable.state c.pass_call-dispatched.new.table) c.pass_call-dispatched.new.global scope (lending held v)))
     (sym (c.empty_all.ensures.lent (c.is_guarded-is_lent.ensures ∙ lent)))
-    (lent_ended rules operation c.args.first.now c.args.rest.now on_scope c.args.is_ref_mut c.args.is_method_call c.is_guarded-is_lent.result
+    (lent_ended rules operation c.args.first.now c.args.rest.now on_scope c.args.is_ref_mut c.args.is_method_call
+    c.is_guarded-is_lent.result
     c.pass_call-dispatched.result
     (state_of (g.T.NativeTable.state c.args.table.now) c.args.global.now scope (lending held c.args.first.now))
     (state_of (g.T.NativeTable.state c.pass_call-dispatched.new.table) c.pass_call-dispatched.new.global scope
@@ -38,7 +39,8 @@ returns-in-Ended-clause-by_value g c scope held on_scope none =
     let rules : Rules _ _ = under g.H.Host.name_of c.args.self.now g.T.NativeTable.natives in
     let operation : Operation = record { name = c.args.name.now; token = c.args.token; at = c.args.pos } in
     let offers = subst (λ (o : Offer _). Offers o c.evaluator-evaluator.result.offered) c.evaluator-evaluator.ensures.offer (refl, refl) in
-    value_ended rules operation c.args.first.now c.args.rest.now on_scope c.args.is_ref_mut c.args.is_method_call c.is_guarded-is_lent.result
+    value_ended rules operation c.args.first.now c.args.rest.now on_scope c.args.is_ref_mut c.args.is_method_call
+    c.is_guarded-is_lent.result
     c.pass_call-dispatched.result (state_of (g.T.NativeTable.state c.args.table.now) c.args.global.now scope held)
     (state_of (g.T.NativeTable.state c.pass_call-dispatched.new.table) c.pass_call-dispatched.new.global scope held)
     c.is_guarded-is_lent.ensures c.in-Ended.result c.in-Ended.is none
@@ -51,15 +53,16 @@ returns-in-Found-clause-lent g c scope held on_scope lent =
     let offers = subst (λ (o : Offer _). Offers o c.evaluator-evaluator.result.offered) c.evaluator-evaluator.ensures.offer (refl, refl) in
     let old : State _ _ = state_of (g.T.NativeTable.state c.args.table.now) c.args.global.now scope (lending held c.args.first.now) in
     subst (λ (v : Dynamic _). ComesTo (not on_scope) c.args.pos rules (dispatch_core rules.setting (by_name c.args.is_method_call on_scope)
-    (on_place operation true (Some c.args.first.now) c.args.rest.now)) old c.to_enter-call.result
+    (on_place operation true (Some c.args.first.now) c.args.rest.now)) old c.choose_entry-call.result
     (state_of (g.T.NativeTable.state c.pass_call-dispatched.new.table) c.pass_call-dispatched.new.global scope (lending held v)))
-    (sym (c.empty_all-in-Found.ensures.lent (c.is_guarded-is_lent.ensures ∙ lent) ∙ c.to_enter-call.ensures.same lent))
-    (lent_found rules operation c.args.first.now c.args.rest.now on_scope c.args.is_ref_mut c.args.is_method_call c.is_guarded-is_lent.result
+    (sym (c.empty_all-in-Found.ensures.lent (c.is_guarded-is_lent.ensures ∙ lent) ∙ c.choose_entry-call.ensures.same lent))
+    (lent_found rules operation c.args.first.now c.args.rest.now on_scope c.args.is_ref_mut c.args.is_method_call
+    c.is_guarded-is_lent.result
     c.pass_call-dispatched.result old
     (state_of (g.T.NativeTable.state c.pass_call-dispatched.new.table) c.pass_call-dispatched.new.global scope
     (lending held c.pass_call-dispatched.new.first))
-    c.is_guarded-is_lent.ensures c.in-Found.function c.to_enter-call.result c.in-Found.is lent c.to_enter-call.ensures.method
-    (λ none. rw c.in-Found.ensures.same at (c.to_enter-call.ensures.by_itself none))
+    c.is_guarded-is_lent.ensures c.in-Found.function c.choose_entry-call.result c.in-Found.is lent c.choose_entry-call.ensures.method
+    (λ none. rw c.in-Found.ensures.same at (c.choose_entry-call.ensures.by_itself none))
     (rw c.limits.ensures at (c.pass_call-dispatched.ensures.runs (offer_of c.args.self.now) scope (lending held c.args.first.now)
     (Some FromFocus) on_scope offers refl)))
 
@@ -68,11 +71,12 @@ returns-in-Found-clause-by_value g c scope held on_scope none =
     let rules : Rules _ _ = under g.H.Host.name_of c.args.self.now g.T.NativeTable.natives in
     let operation : Operation = record { name = c.args.name.now; token = c.args.token; at = c.args.pos } in
     let offers = subst (λ (o : Offer _). Offers o c.evaluator-evaluator.result.offered) c.evaluator-evaluator.ensures.offer (refl, refl) in
-    value_found rules operation c.args.first.now c.args.rest.now on_scope c.args.is_ref_mut c.args.is_method_call c.is_guarded-is_lent.result
+    value_found rules operation c.args.first.now c.args.rest.now on_scope c.args.is_ref_mut c.args.is_method_call
+    c.is_guarded-is_lent.result
     c.pass_call-dispatched.result (state_of (g.T.NativeTable.state c.args.table.now) c.args.global.now scope held)
     (state_of (g.T.NativeTable.state c.pass_call-dispatched.new.table) c.pass_call-dispatched.new.global scope held)
-    c.is_guarded-is_lent.ensures c.in-Found.function c.to_enter-call.result c.in-Found.is none
-    (λ alone. rw c.in-Found.ensures.same at (c.to_enter-call.ensures.by_itself alone))
+    c.is_guarded-is_lent.ensures c.in-Found.function c.choose_entry-call.result c.in-Found.is none
+    (λ alone. rw c.in-Found.ensures.same at (c.choose_entry-call.ensures.by_itself alone))
     (rw c.limits.ensures at (c.pass_call-dispatched.ensures.runs (offer_of c.args.self.now) scope held None on_scope offers tt))
 
 pub returns-in-Ended-clause-taken : goal.returns-in-Ended-clause-taken

@@ -2,7 +2,7 @@ use Rattle.std.proofs.Common.{Some, false, true}
 use Rattle.rhai_machine.specs.language.Calls.{dispatch_core}
 use Rattle.rhai_machine.specs.language.Frames.{Operation}
 use Rattle.rhai_machine.specs.language.Setting.{Rules}
-use Rattle.rhai_steps.specs.Marked.{lending}
+use Rattle.rhai_steps.specs.OnFocus.{lending}
 use Rattle.rhai_steps.specs.States.{state_of}
 use Rattle.rhai_eval.specs.Places.{by_name, by_value, on_place}
 use Rattle.rhai_eval.specs.States.{under}
@@ -17,8 +17,10 @@ returns-in-Ended-clause-lent g c held lent =
     (on_place operation true (Some c.args.first.now) c.args.rest.now))
     c.call_first-call.result
     (state_of (g.T.NativeTable.state c.args.table.now) c.args.global.now c.args.scope.now (lending held c.args.first.now))
-    (state_of (g.T.NativeTable.state c.call_first-call.new.table) c.call_first-call.new.global c.args.scope.now (lending held c.call_first-call.new.first))
-    (state_of (g.T.NativeTable.state c.call_first-call.new.table) c.call_first-call.new.global c.args.scope.now (lending held c.call_first-call.new.first))
+    (state_of (g.T.NativeTable.state c.call_first-call.new.table) c.call_first-call.new.global c.args.scope.now (lending held
+    c.call_first-call.new.first))
+    (state_of (g.T.NativeTable.state c.call_first-call.new.table) c.call_first-call.new.global c.args.scope.now (lending held
+    c.call_first-call.new.first))
     c.in-Ended.result c.in-Ended.is (c.call_first-call.ensures.lent c.args.scope.now held true lent)
 
 pub returns-in-OnTarget-clause-lent : goal.returns-in-OnTarget-clause-lent
@@ -29,8 +31,10 @@ returns-in-OnTarget-clause-lent g c held lent =
     (on_place operation true (Some c.args.first.now) c.args.rest.now))
     c.call_first-call.result
     (state_of (g.T.NativeTable.state c.args.table.now) c.args.global.now c.args.scope.now (lending held c.args.first.now))
-    (state_of (g.T.NativeTable.state c.call_first-call.new.table) c.call_first-call.new.global c.args.scope.now (lending held c.call_first-call.new.first))
-    (state_of (g.T.NativeTable.state c.enter_on_scope.new.table) c.enter_on_scope.new.global c.enter_on_scope.new.scope (lending held c.enter_on_scope.new.place))
+    (state_of (g.T.NativeTable.state c.call_first-call.new.table) c.call_first-call.new.global c.args.scope.now (lending held
+    c.call_first-call.new.first))
+    (state_of (g.T.NativeTable.state c.enter_on_scope.new.table) c.enter_on_scope.new.global c.enter_on_scope.new.scope (lending held
+    c.enter_on_scope.new.place))
     c.in-OnTarget.function c.in-OnTarget.args c.enter_on_scope.result c.in-OnTarget.is
     (c.call_first-call.ensures.lent c.args.scope.now held true lent) (c.enter_on_scope.ensures.runs held)
 
@@ -42,8 +46,10 @@ returns-in-Alone-clause-lent g c held lent =
     (on_place operation true (Some c.args.first.now) c.args.rest.now))
     c.call_first-call.result
     (state_of (g.T.NativeTable.state c.args.table.now) c.args.global.now c.args.scope.now (lending held c.args.first.now))
-    (state_of (g.T.NativeTable.state c.call_first-call.new.table) c.call_first-call.new.global c.args.scope.now (lending held c.call_first-call.new.first))
-    (state_of (g.T.NativeTable.state c.call_first-call.new.table) c.call_first-call.new.global c.args.scope.now (lending held c.call_first-call.new.first))
+    (state_of (g.T.NativeTable.state c.call_first-call.new.table) c.call_first-call.new.global c.args.scope.now (lending held
+    c.call_first-call.new.first))
+    (state_of (g.T.NativeTable.state c.call_first-call.new.table) c.call_first-call.new.global c.args.scope.now (lending held
+    c.call_first-call.new.first))
     c.in-Alone.function c.in-Alone.args c.in-Alone.is (c.call_first-call.ensures.lent c.args.scope.now held true lent)
 
 pub returns-in-Ended-clause-by_value : goal.returns-in-Ended-clause-by_value

@@ -1,24 +1,25 @@
 use Rattle.std.proofs.Common.{None, false}
 use Rattle.rhai_machine.specs.language.Frames.{EnterOnFocus}
-use Rattle.rhai_calls.specs.Marks.{MarkedRuns}
-use Rattle.rhai_steps.specs.Marked.{lending}
+use Rattle.rhai_calls.specs.ToldChanges.{MarkedRuns}
+use Rattle.rhai_steps.specs.OnFocus.{lending}
 use Rattle.rhai_steps.specs.States.{state_of}
-use Rattle.rhai_eval.proofs.Dispatching.{runs_unmarked}
+use Rattle.rhai_eval.proofs.Dispatching.{runs_unchanged}
 use Rattle.rhai_eval.proofs.Public.{handed_held, same_rules}
 use Rattle.rhai_eval.proofs.engine.Engine.enter_on_scope.Goals as goal
-use Rattle.rhai_cycle.specs.States.{under as under_what_is_read}
+use Rattle.rhai_eval_core.specs.States.{under as under_what_is_read}
 
 pub returns-clause-runs : goal.returns-clause-runs
 returns-clause-runs g c held =
     let reads = same_rules g.H.Host.name_of g.T.NativeTable.natives c.args.self.now c.evaluator-evaluator.result
     c.evaluator-evaluator.ensures.limits c.evaluator-evaluator.ensures.offer in
-    let runs = runs_unmarked (under_what_is_read g.H.Host.name_of c.evaluator-evaluator.result g.T.NativeTable.natives)
+    let runs = runs_unchanged (under_what_is_read g.H.Host.name_of c.evaluator-evaluator.result g.T.NativeTable.natives)
     (EnterOnFocus c.args.function false c.args.args c.args.pos)
     (state_of (g.T.NativeTable.state c.args.table.now) c.take-run.result.global c.take-run.result.scope (lending held c.args.place.now))
     (state_of (g.T.NativeTable.state c.enter_with_this-result.new.table) c.enter_with_this-result.new.run.global
     c.enter_with_this-result.new.run.scope (lending held c.enter_with_this-result.new.focus))
-    c.enter_with_this-result.result c.marked.result c.marked.ensures (c.enter_with_this-result.ensures.runs held) in
-    handed_held reads (λ rules old new. MarkedRuns rules (EnterOnFocus c.args.function false c.args.args c.args.pos) old c.marked.result new)
+    c.enter_with_this-result.result c.tell_changed.result c.tell_changed.ensures (c.enter_with_this-result.ensures.runs held) in
+    handed_held reads (λ rules old new. MarkedRuns rules (EnterOnFocus c.args.function false c.args.args c.args.pos) old
+    c.tell_changed.result new)
     (g.T.NativeTable.state c.args.table.now) (g.T.NativeTable.state c.enter_with_this-result.new.table) c.take-run.result
     c.enter_with_this-result.new.run c.args.global.now c.give_back.new.global c.give_back.ensures.global c.args.scope.now
     c.give_back.new.scope c.give_back.ensures.scope None (lending held c.args.place.now)

@@ -4,19 +4,19 @@ use Rattle.rhai_machine.specs.language.Frames.{ended, Enter}
 use Rattle.rhai_machine.specs.language.Runs.{Runs, Goes}
 use Rattle.rhai_machine.specs.language.Script.{start_of_script, end_of_script}
 use Rattle.rhai_laws.proofs.KeptLaws.{grown, names_begin, variables_stay}
-use Rattle.rhai_laws.proofs.WantLaws.{runs_up_to_memory}
+use Rattle.rhai_laws.proofs.ScriptMemory.{runs_up_to_memory}
 use Rattle.rhai_steps.specs.States.{holding, state_of}
-use Rattle.rhai_cycle.specs.Agreement.{SuitsNames}
-use Rattle.rhai_cycle.proofs.NameLemmas.{suits_now}
+use Rattle.rhai_eval_core.specs.Agreement.{SuitsNames}
+use Rattle.rhai_eval_core.proofs.NameLemmas.{suits_now}
 use Rattle.rhai_eval.specs.States.{under}
 use Rattle.rhai_eval.proofs.Public.{handed_free, same_rules}
 use Rattle.rhai_eval.proofs.Scripts.{script_agrees, script_ends, script_goes, script_memory}
 use Rattle.rhai_eval.proofs.engine.Engine.eval_global_statements.Given.{Over}
 use Rattle.rhai_eval.proofs.engine.Engine.eval_global_statements.Goals as goal
-use Rattle.rhai_cycle.specs.States.{under as under_what_is_read}
+use Rattle.rhai_eval_core.specs.States.{under as under_what_is_read}
 
 -- the statements run, over what the caller handed in
-statements_run : (g : Over) (c : goal.After-top g) →
+statements_run : (g : Over) (c : goal.After-end_script g) →
     Runs (under g.H.Host.name_of c.args.self.now g.T.NativeTable.natives) (Enter c.args.tree.now.0 false)
     (state_of (g.T.NativeTable.state c.args.table.now) c.args.global.now c.args.scope.now (holding None))
     c.finish-outcome.result
@@ -33,25 +33,25 @@ statements_run g c =
     (ended c.finish-outcome.result) _ _ tt runs).bound None None refl refl c.take-run.ensures.run runs
 
 -- and then the script
-script_runs : (g : Over) (c : goal.After-top g) →
+script_runs : (g : Over) (c : goal.After-end_script g) →
     Goes (under g.H.Host.name_of c.args.self.now g.T.NativeTable.natives)
     (start_of_script c.args.tree.now.0 c.args.map_exit_to_return_value
     (state_of (g.T.NativeTable.state c.args.table.now) c.args.global.now c.args.scope.now (holding None)))
-    (end_of_script c.top.result
+    (end_of_script c.end_script.result
     (state_of (g.T.NativeTable.state c.run_stmt_block-done.new.table) c.give_back.new.global c.give_back.new.scope (holding None)))
 script_runs g c = script_goes (under g.H.Host.name_of c.args.self.now g.T.NativeTable.natives) c.args.tree.now.0
-    c.args.map_exit_to_return_value _ _ c.finish-outcome.result c.top.result (statements_run g c) c.top.ensures.value
-    c.top.ensures.error
+    c.args.map_exit_to_return_value _ _ c.finish-outcome.result c.end_script.result (statements_run g c) c.end_script.ensures.value
+    c.end_script.ensures.error
 
 pub returns-clause-ends : goal.returns-clause-ends
 returns-clause-ends g c = script_ends (under g.H.Host.name_of c.args.self.now g.T.NativeTable.natives) c.args.tree.now.0
-    c.args.map_exit_to_return_value _ _ c.top.result (script_runs g c)
+    c.args.map_exit_to_return_value _ _ c.end_script.result (script_runs g c)
 
 pub returns-clause-two_limits : goal.returns-clause-two_limits
 returns-clause-two_limits g c = script_agrees (under g.H.Host.name_of c.args.self.now g.T.NativeTable.natives) c.args.tree.now.0
-    c.args.map_exit_to_return_value _ _ c.top.result
+    c.args.map_exit_to_return_value _ _ c.end_script.result
     (script_ends (under g.H.Host.name_of c.args.self.now g.T.NativeTable.natives) c.args.tree.now.0 c.args.map_exit_to_return_value _ _
-    c.top.result (script_runs g c))
+    c.end_script.result (script_runs g c))
 
 pub returns-clause-up_to : goal.returns-clause-up_to
 returns-clause-up_to g c = runs_up_to_memory (under g.H.Host.name_of c.args.self.now g.T.NativeTable.natives) (script_runs g c)
@@ -73,9 +73,9 @@ returns-clause-search g c = ap (λ (global : GlobalRuntimeState _). global.alway
     ∙ c.take-run.ensures.search
 
 pub returns-clause-memory : goal.returns-clause-memory
-returns-clause-memory g c = script_memory _ c.args.map_exit_to_return_value c.finish-outcome.result c.top.result
-    (rw (c.statements.ensures.value, ← c.finish-outcome.ensures.came) at c.run_stmt_block-done.ensures.memory) c.top.ensures.value
-    c.top.ensures.error
+returns-clause-memory g c = script_memory _ c.args.map_exit_to_return_value c.finish-outcome.result c.end_script.result
+    (rw (c.statements.ensures.value, ← c.finish-outcome.ensures.came) at c.run_stmt_block-done.ensures.memory) c.end_script.ensures.value
+    c.end_script.ensures.error
 
 pub run_stmt_block-done-requires : goal.run_stmt_block-done-requires
 unfolding SuitsNames

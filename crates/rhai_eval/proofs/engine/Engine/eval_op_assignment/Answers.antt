@@ -3,7 +3,7 @@ use Rattle.rhai_machine.specs.language.Frames.{NewValue}
 use Rattle.rhai_machine.specs.language.Setting.{Rules}
 use Rattle.rhai_machine.specs.language.State.{State}
 use Rattle.rhai_steps.specs.States.{state_of}
-use Rattle.rhai_methods.specs.Targets.{stands}
+use Rattle.rhai_methods.specs.Targets.{value_walked_on}
 use Rattle.rhai_eval.specs.Assigned.{target_assigned}
 use Rattle.rhai_eval.specs.Places.{with_place}
 use Rattle.rhai_eval.specs.States.{offer_of, under}
@@ -15,9 +15,9 @@ returns-clause-ends g c scope this =
     let rules : Rules _ _ = under g.H.Host.name_of c.args.self.now g.T.NativeTable.natives in
     let new_value : NewValue _ = record { op = c.args.op_info.now; value = c.args.new_val } in
     let old : State _ _ = state_of (g.T.NativeTable.state c.args.table.now) c.args.global.now scope
-    (with_place this (Some (stands c.args.target.now.part c.args.target.now.at.now))) in
+    (with_place this (Some (value_walked_on c.args.target.now.part c.args.target.now.at.now))) in
     let new : State _ _ = state_of (g.T.NativeTable.state c.assign_target-result.new.table) c.assign_target-result.new.global scope
-    (with_place this (Some (stands c.assign_target-result.new.target.part c.assign_target-result.new.target.at.now))) in
+    (with_place this (Some (value_walked_on c.assign_target-result.new.target.part c.assign_target-result.new.target.at.now))) in
     assigned_ends rules
     (target_assigned rules.setting c.args.root.now new_value c.args.target.now.part c.args.target.now.at.now) old new
     c.assign_target-result.result (rw c.limits.ensures at
@@ -28,9 +28,9 @@ returns-clause-kept g c scope this =
     let rules : Rules _ _ = under g.H.Host.name_of c.args.self.now g.T.NativeTable.natives in
     let new_value : NewValue _ = record { op = c.args.op_info.now; value = c.args.new_val } in
     let old : State _ _ = state_of (g.T.NativeTable.state c.args.table.now) c.args.global.now scope
-    (with_place this (Some (stands c.args.target.now.part c.args.target.now.at.now))) in
+    (with_place this (Some (value_walked_on c.args.target.now.part c.args.target.now.at.now))) in
     let new : State _ _ = state_of (g.T.NativeTable.state c.assign_target-result.new.table) c.assign_target-result.new.global scope
-    (with_place this (Some (stands c.assign_target-result.new.target.part c.assign_target-result.new.target.at.now))) in
+    (with_place this (Some (value_walked_on c.assign_target-result.new.target.part c.assign_target-result.new.target.at.now))) in
     assigned_kept rules c.args.root.now new_value c.args.target.now.part c.args.target.now.at.now old new
     c.assign_target-result.result (rw c.limits.ensures at
     (c.assign_target-result.ensures.follows (offer_of c.args.self.now) scope (with_place this None) refl))

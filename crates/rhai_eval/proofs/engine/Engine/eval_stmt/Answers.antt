@@ -1,12 +1,12 @@
 use Rattle.std.proofs.Common.{◌≡◌, Option, Some, None, MutBor, ap, refl, subst, sym}
 use Rattle.rhai_tree.specs.declared.expr.Stmt.{out-Stmt}
 use Rattle.rhai_values.specs.declared.base.value.Dynamic.{Dynamic}
-use Rattle.rhai_state.specs.Native.{left_by, was}
+use Rattle.rhai_state.specs.Native.{left_by, lent_value}
 use Rattle.rhai_state.specs.Scope.{names_in}
 use Rattle.rhai_steps.specs.States.{holding, state_of}
-use Rattle.rhai_cycle.specs.Agreement.{SuitsNames}
-use Rattle.rhai_cycle.proofs.Chain.{on_done}
-use Rattle.rhai_cycle.proofs.NameLemmas.{stmt_names}
+use Rattle.rhai_eval_core.specs.Agreement.{SuitsNames}
+use Rattle.rhai_eval_core.proofs.Chain.{on_done}
+use Rattle.rhai_eval_core.proofs.NameLemmas.{stmt_names}
 use Rattle.rhai_eval.specs.States.{under}
 use Rattle.rhai_machine.specs.language.Runs.{Runs}
 use Rattle.rhai_laws.proofs.KeptLaws.{grown, kept, names_begin, names_stay, variables_stay}
@@ -20,37 +20,62 @@ use borrow.Fn.Enter.{lasts_p}
 use borrow.Fn.Kinds.{ended_of}
 use Rattle.rhai_eval.proofs.engine.Engine.eval_stmt.Goals as goal
 use Rattle.rhai_steps.specs.Agreement.{frame_of}
-use Rattle.rhai_cycle.specs.States.{under as under_what_is_read}
+use Rattle.rhai_eval_core.specs.States.{under as under_what_is_read}
 
 -- what stands in the place of `this` as its loan ends, were this the place
-abbrev left_on : (g : Over) → goal.After-give_back_with g → Option (MutBor (Dynamic g.row.H.Denot)) → Option (Dynamic g.row.H.Denot)
+abbrev left_on : (g : Over) → goal.After-give_back_with_this g → Option (MutBor (Dynamic g.row.H.Denot)) → Option (Dynamic g.row.H.Denot)
 left_on g c place =
     let kinds = ps g.row.H g.row.T g.H.laws g.T.laws g.H.Host-dict g.H.Destruct-dict g.T.NativeTable-dict in
     let answer = r g.row.H g.row.T g.H.laws g.T.laws g.H.Host-dict g.H.Destruct-dict g.T.NativeTable-dict in
     let types = xs g.row.H g.row.T g.H.laws g.T.laws g.H.Host-dict g.H.Destruct-dict g.T.NativeTable-dict in
-    let given : Args (ended_of 9 kinds answer).signature c.lifetimes = (c.args.self, (c.args.alloc, (c.args.global, (c.args._caches, (c.args.table, (c.args.scope, (place, (c.args.stmt, (c.args.rewind_scope, tt))))))))) in
-    left_by (at_exit (ended_of 9 kinds answer) c.lifetimes given (lasts_p c.lifetimes 4 kinds types given (c.args.self, (tt, (c.args.global, (c.args._caches, (c.args.table, (c.args.scope, (Some (record c.in-Some.place { now = c.give_back_with.new.this }), (c.args.stmt, five (five (five (five (five (five (five (tt, (tt, (tt, (tt, (tt, tt))))))))))))))))))))).1.1.1.1.1.1.0
+    let given : Args (ended_of 9 kinds answer).signature c.lifetimes = (
+      c.args.self,
+      (c.args.alloc, (c.args.global, (c.args._caches, (c.args.table, (c.args.scope, (place, (c.args.stmt, (c.args.rewind_scope, tt)))))))),
+    ) in
+    left_by (at_exit (ended_of 9 kinds answer) c.lifetimes given (lasts_p c.lifetimes 4 kinds types given (
+      c.args.self,
+      (
+        tt,
+        (
+          c.args.global,
+          (
+            c.args._caches,
+            (
+              c.args.table,
+              (
+                c.args.scope,
+                (
+                  Some (record c.in-Some.place { now = c.give_back_with_this.new.this }),
+                  (c.args.stmt, five (five (five (five (five (five (five (tt, (tt, (tt, (tt, (tt, tt)))))))))))),
+                ),
+              ),
+            ),
+          ),
+        ),
+      ),
+    ))).1.1.1.1.1.1.0
 
-this_on : (g : Over) (c : goal.After-give_back_with g) → left_on g c c.args.this ≡ Some c.give_back_with.new.this
-this_on g c = subst (λ place. left_on g c place ≡ Some c.give_back_with.new.this) (sym c.in-Some.is) refl
+this_on : (g : Over) (c : goal.After-give_back_with_this g) → left_on g c c.args.this ≡ Some c.give_back_with_this.new.this
+this_on g c = subst (λ place. left_on g c place ≡ Some c.give_back_with_this.new.this) (sym c.in-Some.is) refl
 
 -- the run, where the caller has a `this`
-runs_on : (g : Over) (c : goal.After-give_back_with g) → Runs (under g.H.Host.name_of c.args.self.now g.T.NativeTable.natives)
+runs_on : (g : Over) (c : goal.After-give_back_with_this g) → Runs (under g.H.Host.name_of c.args.self.now g.T.NativeTable.natives)
     (Exec c.args.stmt.now c.args.rewind_scope) (state_of (g.T.NativeTable.state c.args.table.now) c.args.global.now c.args.scope.now
-    (holding (was c.args.this))) c.finish-result.result (state_of (g.T.NativeTable.state c.run_stmt-done.new.table)
-    c.give_back_with.new.global c.give_back_with.new.scope (holding (left_on g c c.args.this)))
+    (holding (lent_value c.args.this))) c.finish-result.result (state_of (g.T.NativeTable.state c.run_stmt-done.new.table)
+    c.give_back_with_this.new.global c.give_back_with_this.new.scope (holding (left_on g c c.args.this)))
 runs_on g c =
     let reads = same_rules g.H.Host.name_of g.T.NativeTable.natives c.args.self.now c.evaluator-evaluator.result
     c.evaluator-evaluator.ensures.limits c.evaluator-evaluator.ensures.offer in
     let runs = rw (← c.finish-result.ensures.came) at c.run_stmt-done.ensures.runs in
     handed_on reads (λ r old new. Runs r (Exec c.args.stmt.now c.args.rewind_scope) old c.finish-result.result new)
-    (g.T.NativeTable.state c.args.table.now) (g.T.NativeTable.state c.run_stmt-done.new.table) c.take_with-run.result
-    c.run_stmt-done.new.run c.args.global.now c.give_back_with.new.global c.give_back_with.ensures.global c.args.scope.now
-    c.give_back_with.new.scope c.give_back_with.ensures.scope
+    (g.T.NativeTable.state c.args.table.now) (g.T.NativeTable.state c.run_stmt-done.new.table) c.take_with_this-run.result
+    c.run_stmt-done.new.run c.args.global.now c.give_back_with_this.new.global c.give_back_with_this.ensures.global c.args.scope.now
+    c.give_back_with_this.new.scope c.give_back_with_this.ensures.scope
     (grown (under_what_is_read g.H.Host.name_of c.evaluator-evaluator.result g.T.NativeTable.natives)
-    (Exec c.args.stmt.now c.args.rewind_scope) (ended c.finish-result.result) _ _ tt (rw (← c.finish-result.ensures.came) at c.run_stmt-done.ensures.runs)).bound
-    (was c.args.this) (left_on g c c.args.this) c.in-Some.place.now c.give_back_with.new.this (ap was c.in-Some.is) (this_on g c)
-    c.take_with-run.ensures.run c.give_back_with.ensures.this runs
+    (Exec c.args.stmt.now c.args.rewind_scope) (ended c.finish-result.result) _ _ tt (rw (← c.finish-result.ensures.came) at
+    c.run_stmt-done.ensures.runs)).bound
+    (lent_value c.args.this) (left_on g c c.args.this) c.in-Some.place.now c.give_back_with_this.new.this (ap lent_value c.in-Some.is) (this_on g c)
+    c.take_with_this-run.ensures.run c.give_back_with_this.ensures.this runs
 
 pub returns-in-Some-clause-ends : goal.returns-in-Some-clause-ends
 returns-in-Some-clause-ends g c = ends_as (under g.H.Host.name_of c.args.self.now g.T.NativeTable.natives)
@@ -74,8 +99,29 @@ left_free g c place =
     let kinds = ps g.row.H g.row.T g.H.laws g.T.laws g.H.Host-dict g.H.Destruct-dict g.T.NativeTable-dict in
     let answer = r g.row.H g.row.T g.H.laws g.T.laws g.H.Host-dict g.H.Destruct-dict g.T.NativeTable-dict in
     let types = xs g.row.H g.row.T g.H.laws g.T.laws g.H.Host-dict g.H.Destruct-dict g.T.NativeTable-dict in
-    let given : Args (ended_of 9 kinds answer).signature c.lifetimes = (c.args.self, (c.args.alloc, (c.args.global, (c.args._caches, (c.args.table, (c.args.scope, (place, (c.args.stmt, (c.args.rewind_scope, tt))))))))) in
-    left_by (at_exit (ended_of 9 kinds answer) c.lifetimes given (lasts_p c.lifetimes 4 kinds types given (c.args.self, (tt, (c.args.global, (c.args._caches, (c.args.table, (c.args.scope, (place, (c.args.stmt, five (five (five (five (five (five (five (tt, (tt, (tt, (tt, (tt, tt))))))))))))))))))))).1.1.1.1.1.1.0
+    let given : Args (ended_of 9 kinds answer).signature c.lifetimes = (
+      c.args.self,
+      (c.args.alloc, (c.args.global, (c.args._caches, (c.args.table, (c.args.scope, (place, (c.args.stmt, (c.args.rewind_scope, tt)))))))),
+    ) in
+    left_by (at_exit (ended_of 9 kinds answer) c.lifetimes given (lasts_p c.lifetimes 4 kinds types given (
+      c.args.self,
+      (
+        tt,
+        (
+          c.args.global,
+          (
+            c.args._caches,
+            (
+              c.args.table,
+              (
+                c.args.scope,
+                (place, (c.args.stmt, five (five (five (five (five (five (five (tt, (tt, (tt, (tt, (tt, tt))))))))))))),
+              ),
+            ),
+          ),
+        ),
+      ),
+    ))).1.1.1.1.1.1.0
 
 this_free : (g : Over) (c : goal.After-give_back g) → left_free g c c.args.this ≡ None
 this_free g c = subst (λ place. left_free g c place ≡ None) (sym c.in-None.is) refl
@@ -83,7 +129,7 @@ this_free g c = subst (λ place. left_free g c place ≡ None) (sym c.in-None.is
 -- and where he has none
 runs_free : (g : Over) (c : goal.After-give_back g) → Runs (under g.H.Host.name_of c.args.self.now g.T.NativeTable.natives)
     (Exec c.args.stmt.now c.args.rewind_scope) (state_of (g.T.NativeTable.state c.args.table.now) c.args.global.now c.args.scope.now
-    (holding (was c.args.this))) c.finish-result-in-None.result
+    (holding (lent_value c.args.this))) c.finish-result-in-None.result
     (state_of (g.T.NativeTable.state c.run_stmt-done-in-None.new.table) c.give_back.new.global c.give_back.new.scope
     (holding (left_free g c c.args.this)))
 runs_free g c =
@@ -95,7 +141,8 @@ runs_free g c =
     c.run_stmt-done-in-None.new.run c.args.global.now c.give_back.new.global c.give_back.ensures.global c.args.scope.now
     c.give_back.new.scope c.give_back.ensures.scope (grown (under_what_is_read g.H.Host.name_of c.evaluator-evaluator.result
     g.T.NativeTable.natives) (Exec c.args.stmt.now c.args.rewind_scope) (ended c.finish-result-in-None.result) _ _ tt
-    (rw (← c.finish-result-in-None.ensures.came) at c.run_stmt-done-in-None.ensures.runs)).bound (was c.args.this) (left_free g c c.args.this) (ap was c.in-None.is) (this_free g c)
+    (rw (← c.finish-result-in-None.ensures.came) at c.run_stmt-done-in-None.ensures.runs)).bound (lent_value c.args.this) (left_free g c
+    c.args.this) (ap lent_value c.in-None.is) (this_free g c)
     c.take-run.ensures.run runs
 
 pub returns-in-None-clause-ends : goal.returns-in-None-clause-ends
@@ -124,8 +171,8 @@ returns-in-None-clause-stays g c = λ none. names_stay (under g.H.Host.name_of c
 
 pub returns-in-Some-clause-names : goal.returns-in-Some-clause-names
 returns-in-Some-clause-names g c = on_done _ _ c.finish-result.ensures.done (λ done. stmt_names c.args.stmt.now (out-Stmt c.args.stmt.now)
-    (frame_of c.args.global.now c.args.scope.now) (names_in c.give_back_with.new.scope) refl
-    (rw c.give_back_with.ensures.scope (rw c.take_with-run.ensures.run at (c.run_stmt-done.ensures.declared done)))
+    (frame_of c.args.global.now c.args.scope.now) (names_in c.give_back_with_this.new.scope) refl
+    (rw c.give_back_with_this.ensures.scope (rw c.take_with_this-run.ensures.run at (c.run_stmt-done.ensures.declared done)))
     (returns-in-Some-clause-stays g c))
 
 pub returns-in-None-clause-names : goal.returns-in-None-clause-names
@@ -144,7 +191,7 @@ returns-in-None-clause-imports g c = λ none. (kept (under g.H.Host.name_of c.ar
 
 pub run_stmt-done-requires : goal.run_stmt-done-requires
 unfolding SuitsNames
-run_stmt-done-requires g c = record { resolves = rw c.take_with-run.ensures.run c.requires.resolves }
+run_stmt-done-requires g c = record { resolves = rw c.take_with_this-run.ensures.run c.requires.resolves }
 
 pub run_stmt-done-requires-in-None : goal.run_stmt-done-requires-in-None
 unfolding SuitsNames

@@ -1,5 +1,5 @@
 use Rattle.std.proofs.Common.{ap, true}
-use Rattle.rhai_machine.specs.language.Activations.{NoObject}
+use Rattle.rhai_machine.specs.language.Activations.{NoThis}
 use Rattle.rhai_machine.specs.language.Calls.{entry_of}
 use Rattle.rhai_machine.specs.language.Frames.{EnterFunction}
 use Rattle.rhai_machine.specs.language.Runs.{Runs}
@@ -19,7 +19,7 @@ returns-in-Enters-clause-runs g c scope held =
     let reads = same_rules g.H.Host.name_of g.T.NativeTable.natives c.args.self.now c.evaluator-evaluator.result
     c.evaluator-evaluator.ensures.limits c.evaluator-evaluator.ensures.offer in
     let runs = handed_apart reads (λ rules old new. Runs rules
-    (EnterFunction (entry_of c.in-Enters.function NoObject true c.in-Enters.args c.args.pos old.local)) old c.finish-result.result new)
+    (EnterFunction (entry_of c.in-Enters.function NoThis true c.in-Enters.args c.args.pos old.local)) old c.finish-result.result new)
     (g.T.NativeTable.state c.args.table.now) (g.T.NativeTable.state c.enter_fresh-done.new.table) c.take-run.result
     c.enter_fresh-done.new.run c.args.global.now c.give_back.new.global c.give_back.ensures.global scope scope held held
     (ap (λ (run : Context _). run.global) c.take-run.ensures.run) (
@@ -27,4 +27,4 @@ returns-in-Enters-clause-runs g c scope held =
     entered_runs (under g.H.Host.name_of c.args.self.now g.T.NativeTable.natives) true c.args.pos c.args.outcome c.in-Enters.function
     c.in-Enters.args (state_of (g.T.NativeTable.state c.args.table.now) c.args.global.now scope held)
     (state_of (g.T.NativeTable.state c.enter_fresh-done.new.table) c.give_back.new.global scope held)
-    c.finish-result.result c.marked.result c.in-Enters.is c.marked.ensures runs
+    c.finish-result.result c.tell_changed.result c.in-Enters.is c.tell_changed.ensures runs

@@ -1,6 +1,6 @@
 use Rattle.std.proofs.Common.{◌≡◌, ℕ, Bool, true, false, List, Option, Some, None, MutBor, ap, refl, subst, sym}
 use Rattle.rhai_values.specs.declared.base.value.Dynamic.{Dynamic}
-use Rattle.rhai_state.specs.Native.{left_by, was}
+use Rattle.rhai_state.specs.Native.{left_by, lent_value}
 use Rattle.rhai_steps.specs.States.{holding, state_of}
 use Rattle.rhai_eval.specs.States.{under}
 use Rattle.rhai_machine.specs.language.Runs.{Runs}
@@ -11,8 +11,8 @@ use Rattle.rhai_tree.specs.declared.expr.Expr.{Expr}
 use Rattle.rhai_tree.specs.declared.expr.Expr.TheOpen as layer
 use Rattle.rhai_tree.specs.declared.expr.Namespace.{Namespace}
 use Rattle.rhai_tree.specs.declared.position.Position.{Position}
-use Rattle.rhai_pointers.specs.Forms.{is_operator_form}
-use Rattle.rhai_cycle.specs.Calls.{in_parts}
+use Rattle.rhai_call_forms.specs.Forms.{is_operator_form}
+use Rattle.rhai_eval_core.specs.Calls.{in_parts}
 use Rattle.rhai_eval.proofs.engine.Engine.make_qualified_function_call.Given.{Over}
 use Rattle.rhai_eval.proofs.engine.Engine.make_qualified_function_call.Lts.{ps, r, xs}
 use denote.Triple.Clauses.{at_exit}
@@ -20,8 +20,8 @@ use denote.Triple.Entry.{Args}
 use borrow.Fn.Enter.{lasts_p}
 use borrow.Fn.Kinds.{ended_of}
 use Rattle.rhai_eval.proofs.engine.Engine.make_qualified_function_call.Goals as goal
-use Rattle.rhai_cycle.specs.Agreement.{SuitsNames}
-use Rattle.rhai_cycle.specs.States.{under as under_what_is_read}
+use Rattle.rhai_eval_core.specs.Agreement.{SuitsNames}
+use Rattle.rhai_eval_core.specs.States.{under as under_what_is_read}
 
 -- a call behind a path
 abbrev behind : {H : Type 0} → Namespace → (name : List ℕ) → (args : List Expr) → Position → Control H
@@ -33,36 +33,88 @@ no_operator true args = refl
 no_operator false args = refl
 
 -- what stands in the place of `this` as its loan ends, were this the place
-abbrev left_on : (g : Over) → goal.After-give_back_with g → Option (MutBor (Dynamic g.row.H.Denot)) → Option (Dynamic g.row.H.Denot)
+abbrev left_on : (g : Over) → goal.After-give_back_with_this g → Option (MutBor (Dynamic g.row.H.Denot)) → Option (Dynamic g.row.H.Denot)
 left_on g c place =
     let kinds = ps g.row.H g.row.T g.H.laws g.T.laws g.H.Host-dict g.H.Destruct-dict g.T.NativeTable-dict in
     let answer = r g.row.H g.row.T g.H.laws g.T.laws g.H.Host-dict g.H.Destruct-dict g.T.NativeTable-dict in
     let types = xs g.row.H g.row.T g.H.laws g.T.laws g.H.Host-dict g.H.Destruct-dict g.T.NativeTable-dict in
-    let given : Args (ended_of 11 kinds answer).signature c.lifetimes = (c.args.self, (c.args.alloc, (c.args.global, (c.args._caches, (c.args.table, (c.args.scope, (place, (c.args.namespace, (c.args.fn_name, (c.args.args_expr, (c.args.pos, tt))))))))))) in
-    left_by (at_exit (ended_of 11 kinds answer) c.lifetimes given (lasts_p c.lifetimes 4 kinds types given (c.args.self, (tt, (c.args.global, (c.args._caches, (c.args.table, (c.args.scope, (Some (record c.in-Some.place { now = c.give_back_with.new.this }), (c.args.namespace, (c.args.fn_name, (c.args.args_expr, five (five (five (five (five (five (five (five (tt)))))))))))))))))))).1.1.1.1.1.1.0
+    let given : Args (ended_of 11 kinds answer).signature c.lifetimes = (
+      c.args.self,
+      (
+        c.args.alloc,
+        (
+          c.args.global,
+          (
+            c.args._caches,
+            (
+              c.args.table,
+              (
+                c.args.scope,
+                (place, (c.args.namespace, (c.args.fn_name, (c.args.args_expr, (c.args.pos, tt))))),
+              ),
+            ),
+          ),
+        ),
+      ),
+    ) in
+    left_by (at_exit (ended_of 11 kinds answer) c.lifetimes given (lasts_p c.lifetimes 4 kinds types given (
+      c.args.self,
+      (
+        tt,
+        (
+          c.args.global,
+          (
+            c.args._caches,
+            (
+              c.args.table,
+              (
+                c.args.scope,
+                (
+                  Some (record c.in-Some.place { now = c.give_back_with_this.new.this }),
+                  (
+                    c.args.namespace,
+                    (
+                      c.args.fn_name,
+                      (
+                        c.args.args_expr,
+                        five (five (five
+                            (five (five (five (five (five (tt)))))))),
+                      ),
+                    ),
+                  ),
+                ),
+              ),
+            ),
+          ),
+        ),
+      ),
+    ))).1.1.1.1.1.1.0
 
-this_on : (g : Over) (c : goal.After-give_back_with g) → left_on g c c.args.this ≡ Some c.give_back_with.new.this
-this_on g c = subst (λ place. left_on g c place ≡ Some c.give_back_with.new.this) (sym c.in-Some.is) refl
+this_on : (g : Over) (c : goal.After-give_back_with_this g) → left_on g c c.args.this ≡ Some c.give_back_with_this.new.this
+this_on g c = subst (λ place. left_on g c place ≡ Some c.give_back_with_this.new.this) (sym c.in-Some.is) refl
 
 -- the run, where the caller has a `this`
-runs_on : (g : Over) (c : goal.After-give_back_with g) → Runs (under g.H.Host.name_of c.args.self.now g.T.NativeTable.natives)
+runs_on : (g : Over) (c : goal.After-give_back_with_this g) → Runs (under g.H.Host.name_of c.args.self.now g.T.NativeTable.natives)
     (behind c.args.namespace.now c.args.fn_name.now c.args.args_expr.now c.args.pos)
-    (state_of (g.T.NativeTable.state c.args.table.now) c.args.global.now c.args.scope.now (holding (was c.args.this)))
-    c.finish-result.result (state_of (g.T.NativeTable.state c.run_qualified_call-done.new.table) c.give_back_with.new.global
-    c.give_back_with.new.scope (holding (left_on g c c.args.this)))
+    (state_of (g.T.NativeTable.state c.args.table.now) c.args.global.now c.args.scope.now (holding (lent_value c.args.this)))
+    c.finish-result.result (state_of (g.T.NativeTable.state c.run_qualified_call-done.new.table) c.give_back_with_this.new.global
+    c.give_back_with_this.new.scope (holding (left_on g c c.args.this)))
 runs_on g c =
     let reads = same_rules g.H.Host.name_of g.T.NativeTable.natives c.args.self.now c.evaluator-evaluator.result
     c.evaluator-evaluator.ensures.limits c.evaluator-evaluator.ensures.offer in
-    let runs = (rw (← c.finish-result.ensures.came) at (c.run_qualified_call-done.ensures.runs None false (no_operator c.evaluator-evaluator.result.fast_operators c.args.args_expr.now))) in
-    handed_on reads (λ r old new. Runs r (behind c.args.namespace.now c.args.fn_name.now c.args.args_expr.now c.args.pos) old c.finish-result.result
-    new) (g.T.NativeTable.state c.args.table.now) (g.T.NativeTable.state c.run_qualified_call-done.new.table) c.take_with-run.result
-    c.run_qualified_call-done.new.run c.args.global.now c.give_back_with.new.global c.give_back_with.ensures.global c.args.scope.now
-    c.give_back_with.new.scope c.give_back_with.ensures.scope
+    let runs = (rw (← c.finish-result.ensures.came) at (c.run_qualified_call-done.ensures.runs None false (no_operator
+    c.evaluator-evaluator.result.fast_operators c.args.args_expr.now))) in
+    handed_on reads (λ r old new. Runs r (behind c.args.namespace.now c.args.fn_name.now c.args.args_expr.now c.args.pos) old
+    c.finish-result.result
+    new) (g.T.NativeTable.state c.args.table.now) (g.T.NativeTable.state c.run_qualified_call-done.new.table) c.take_with_this-run.result
+    c.run_qualified_call-done.new.run c.args.global.now c.give_back_with_this.new.global c.give_back_with_this.ensures.global c.args.scope.now
+    c.give_back_with_this.new.scope c.give_back_with_this.ensures.scope
     (kept (under_what_is_read g.H.Host.name_of c.evaluator-evaluator.result g.T.NativeTable.natives)
     (behind c.args.namespace.now c.args.fn_name.now c.args.args_expr.now c.args.pos) (ended c.finish-result.result) _ _ tt
-    (rw (← c.finish-result.ensures.came) at (c.run_qualified_call-done.ensures.runs None false (no_operator c.evaluator-evaluator.result.fast_operators c.args.args_expr.now)))).bound (was c.args.this) (left_on g c c.args.this)
+    (rw (← c.finish-result.ensures.came) at (c.run_qualified_call-done.ensures.runs None false (no_operator
+    c.evaluator-evaluator.result.fast_operators c.args.args_expr.now)))).bound (lent_value c.args.this) (left_on g c c.args.this)
     c.in-Some.place.now
-    c.give_back_with.new.this (ap was c.in-Some.is) (this_on g c) c.take_with-run.ensures.run c.give_back_with.ensures.this runs
+    c.give_back_with_this.new.this (ap lent_value c.in-Some.is) (this_on g c) c.take_with_this-run.ensures.run c.give_back_with_this.ensures.this runs
 
 pub returns-in-Some-clause-ends : goal.returns-in-Some-clause-ends
 returns-in-Some-clause-ends g c = ends_as (under g.H.Host.name_of c.args.self.now g.T.NativeTable.natives)
@@ -82,8 +134,57 @@ left_free g c place =
     let kinds = ps g.row.H g.row.T g.H.laws g.T.laws g.H.Host-dict g.H.Destruct-dict g.T.NativeTable-dict in
     let answer = r g.row.H g.row.T g.H.laws g.T.laws g.H.Host-dict g.H.Destruct-dict g.T.NativeTable-dict in
     let types = xs g.row.H g.row.T g.H.laws g.T.laws g.H.Host-dict g.H.Destruct-dict g.T.NativeTable-dict in
-    let given : Args (ended_of 11 kinds answer).signature c.lifetimes = (c.args.self, (c.args.alloc, (c.args.global, (c.args._caches, (c.args.table, (c.args.scope, (place, (c.args.namespace, (c.args.fn_name, (c.args.args_expr, (c.args.pos, tt))))))))))) in
-    left_by (at_exit (ended_of 11 kinds answer) c.lifetimes given (lasts_p c.lifetimes 4 kinds types given (c.args.self, (tt, (c.args.global, (c.args._caches, (c.args.table, (c.args.scope, (place, (c.args.namespace, (c.args.fn_name, (c.args.args_expr, five (five (five (five (five (five (five (five (tt)))))))))))))))))))).1.1.1.1.1.1.0
+    let given : Args (ended_of 11 kinds answer).signature c.lifetimes = (
+      c.args.self,
+      (
+        c.args.alloc,
+        (
+          c.args.global,
+          (
+            c.args._caches,
+            (
+              c.args.table,
+              (
+                c.args.scope,
+                (place, (c.args.namespace, (c.args.fn_name, (c.args.args_expr, (c.args.pos, tt))))),
+              ),
+            ),
+          ),
+        ),
+      ),
+    ) in
+    left_by (at_exit (ended_of 11 kinds answer) c.lifetimes given (lasts_p c.lifetimes 4 kinds types given (
+      c.args.self,
+      (
+        tt,
+        (
+          c.args.global,
+          (
+            c.args._caches,
+            (
+              c.args.table,
+              (
+                c.args.scope,
+                (
+                  place,
+                  (
+                    c.args.namespace,
+                    (
+                      c.args.fn_name,
+                      (
+                        c.args.args_expr,
+                        five (five
+                            (five (five (five (five (five (five (tt)))))))),
+                      ),
+                    ),
+                  ),
+                ),
+              ),
+            ),
+          ),
+        ),
+      ),
+    ))).1.1.1.1.1.1.0
 
 this_free : (g : Over) (c : goal.After-give_back g) → left_free g c c.args.this ≡ None
 this_free g c = subst (λ place. left_free g c place ≡ None) (sym c.in-None.is) refl
@@ -91,20 +192,22 @@ this_free g c = subst (λ place. left_free g c place ≡ None) (sym c.in-None.is
 -- and where he has none
 runs_free : (g : Over) (c : goal.After-give_back g) → Runs (under g.H.Host.name_of c.args.self.now g.T.NativeTable.natives)
     (behind c.args.namespace.now c.args.fn_name.now c.args.args_expr.now c.args.pos)
-    (state_of (g.T.NativeTable.state c.args.table.now) c.args.global.now c.args.scope.now (holding (was c.args.this)))
+    (state_of (g.T.NativeTable.state c.args.table.now) c.args.global.now c.args.scope.now (holding (lent_value c.args.this)))
     c.finish-result-in-None.result (state_of (g.T.NativeTable.state c.run_qualified_call-done-in-None.new.table)
     c.give_back.new.global c.give_back.new.scope (holding (left_free g c c.args.this)))
 runs_free g c =
     let reads = same_rules g.H.Host.name_of g.T.NativeTable.natives c.args.self.now c.evaluator-evaluator.result
     c.evaluator-evaluator.ensures.limits c.evaluator-evaluator.ensures.offer in
-    let runs = (rw (← c.finish-result-in-None.ensures.came) at (c.run_qualified_call-done-in-None.ensures.runs None false (no_operator c.evaluator-evaluator.result.fast_operators c.args.args_expr.now))) in
+    let runs = (rw (← c.finish-result-in-None.ensures.came) at (c.run_qualified_call-done-in-None.ensures.runs None false (no_operator
+    c.evaluator-evaluator.result.fast_operators c.args.args_expr.now))) in
     handed_free reads (λ r old new. Runs r (behind c.args.namespace.now c.args.fn_name.now c.args.args_expr.now c.args.pos) old
     c.finish-result-in-None.result new) (g.T.NativeTable.state c.args.table.now)
     (g.T.NativeTable.state c.run_qualified_call-done-in-None.new.table) c.take-run.result c.run_qualified_call-done-in-None.new.run
     c.args.global.now c.give_back.new.global c.give_back.ensures.global c.args.scope.now c.give_back.new.scope c.give_back.ensures.scope
     (kept (under_what_is_read g.H.Host.name_of c.evaluator-evaluator.result g.T.NativeTable.natives)
     (behind c.args.namespace.now c.args.fn_name.now c.args.args_expr.now c.args.pos) (ended c.finish-result-in-None.result) _ _ tt
-    (rw (← c.finish-result-in-None.ensures.came) at (c.run_qualified_call-done-in-None.ensures.runs None false (no_operator c.evaluator-evaluator.result.fast_operators c.args.args_expr.now)))).bound (was c.args.this) (left_free g c c.args.this) (ap was
+    (rw (← c.finish-result-in-None.ensures.came) at (c.run_qualified_call-done-in-None.ensures.runs None false (no_operator
+    c.evaluator-evaluator.result.fast_operators c.args.args_expr.now)))).bound (lent_value c.args.this) (left_free g c c.args.this) (ap lent_value
     c.in-None.is)
     (this_free g c) c.take-run.ensures.run runs
 
@@ -114,15 +217,17 @@ returns-in-None-clause-ends g c = ends_as (under g.H.Host.name_of c.args.self.no
 
 pub returns-in-None-clause-kept : goal.returns-in-None-clause-kept
 returns-in-None-clause-kept g c = kept (under g.H.Host.name_of c.args.self.now g.T.NativeTable.natives)
-    (behind c.args.namespace.now c.args.fn_name.now c.args.args_expr.now c.args.pos) (ended c.finish-result-in-None.result) _ _ tt (runs_free g c)
+    (behind c.args.namespace.now c.args.fn_name.now c.args.args_expr.now c.args.pos) (ended c.finish-result-in-None.result)
+    _ _ tt (runs_free g c)
 
 pub returns-in-None-clause-names : goal.returns-in-None-clause-names
 returns-in-None-clause-names g c = names_stay (under g.H.Host.name_of c.args.self.now g.T.NativeTable.natives)
-    (behind c.args.namespace.now c.args.fn_name.now c.args.args_expr.now c.args.pos) (ended c.finish-result-in-None.result) _ _ tt tt (runs_free g c)
+    (behind c.args.namespace.now c.args.fn_name.now c.args.args_expr.now c.args.pos) (ended c.finish-result-in-None.result)
+    _ _ tt tt (runs_free g c)
 
 pub run_qualified_call-done-requires-clause-resolves : goal.run_qualified_call-done-requires-clause-resolves
 unfolding SuitsNames
-run_qualified_call-done-requires-clause-resolves g c = rw c.take_with-run.ensures.run c.requires.resolves
+run_qualified_call-done-requires-clause-resolves g c = rw c.take_with_this-run.ensures.run c.requires.resolves
 
 pub run_qualified_call-done-requires-in-None-clause-resolves : goal.run_qualified_call-done-requires-in-None-clause-resolves
 unfolding SuitsNames

@@ -10,14 +10,16 @@ use Rattle.rhai_eval.proofs.engine.Engine.search_namespace.Goals as goal
 pub returns-then-is_behind_path-clause-found : goal.returns-then-is_behind_path-clause-found
 returns-then-is_behind_path-clause-found g c =
     let global = c.args.global.now in
-    rw c.spare_mut.ensures.value (found_in_module global.always_search_scope (globals_of (offer_of c.args.self.now)) (surroundings_of global)
+    rw c.spare_mut.ensures.value (found_in_module global.always_search_scope (globals_of (offer_of c.args.self.now))
+    (surroundings_of global)
     (entries_of c.args.scope.now) (out-Expr c.args.expr.now) _ (c.is_behind_path.ensures.behind c.if-is_behind_path.true)
     (rw c.offered.ensures at c.in_ok-value.ensures))
 
 pub returns-in_err-value-clause-missed : goal.returns-in_err-value-clause-missed
 returns-in_err-value-clause-missed g c =
     let global = c.args.global.now in
-    missed_in_module global.always_search_scope (globals_of (offer_of c.args.self.now)) (surroundings_of global) (entries_of c.args.scope.now)
+    missed_in_module global.always_search_scope (globals_of (offer_of c.args.self.now)) (surroundings_of global) (entries_of
+    c.args.scope.now)
     (out-Expr c.args.expr.now) c.from_residual.result _ (c.is_behind_path.ensures.behind c.if-is_behind_path.true)
     (passed c.from_residual.result c.from_residual.ensures) (rw c.offered.ensures at c.in_err-value.ensures)
 
@@ -30,13 +32,15 @@ search_scope_only-requires g c = record {
 pub returns-clause-found : goal.returns-clause-found
 returns-clause-found g c =
     let global = c.args.global.now in
-    rw (found_in_scope global.always_search_scope (globals_of (offer_of c.args.self.now)) (surroundings_of global) (entries_of c.args.scope.now)
+    rw (found_in_scope global.always_search_scope (globals_of (offer_of c.args.self.now)) (surroundings_of global) (entries_of
+    c.args.scope.now)
     (out-Expr c.args.expr.now) (c.is_behind_path.ensures.alone c.if-is_behind_path.false c.requires.variable))
     c.search_scope_only.ensures.found
 
 pub returns-clause-missed : goal.returns-clause-missed
 returns-clause-missed g c =
     let global = c.args.global.now in
-    rw (found_in_scope global.always_search_scope (globals_of (offer_of c.args.self.now)) (surroundings_of global) (entries_of c.args.scope.now)
+    rw (found_in_scope global.always_search_scope (globals_of (offer_of c.args.self.now)) (surroundings_of global) (entries_of
+    c.args.scope.now)
     (out-Expr c.args.expr.now) (c.is_behind_path.ensures.alone c.if-is_behind_path.false c.requires.variable))
     c.search_scope_only.ensures.missed

@@ -3,8 +3,8 @@ use Rattle.rhai_machine.specs.language.Frames.{FromFocus}
 use Rattle.rhai_machine.specs.language.Members.{get_item}
 use Rattle.rhai_machine.specs.language.Setting.{Rules, rules_of}
 use Rattle.rhai_steps.specs.States.{state_of}
-use Rattle.rhai_steps.specs.Marked.{lending}
-use Rattle.rhai_eval.proofs.Indexed.{wants_asking}
+use Rattle.rhai_steps.specs.OnFocus.{lending}
+use Rattle.rhai_eval.proofs.Indexed.{asking_runs_out}
 use Rattle.rhai_eval.proofs.eval.indexing.ask_get.Goals as goal
 
 pub returns-in-Ok-clause-runs : goal.returns-in-Ok-clause-runs
@@ -15,5 +15,5 @@ returns-in-Ok-clause-runs g c offer scope held =
 pub returns-in-Err-clause-runs : goal.returns-in-Err-clause-runs
 returns-in-Err-clause-runs g c offer scope held =
     let rules : Rules _ _ = rules_of c.args.limits.now g.H.Host.name_of offer g.T.NativeTable.natives in
-    wants_asking rules (get_item c.args.pos c.args.object.now c.args.index.now)
+    asking_runs_out rules (get_item c.args.pos c.args.object.now c.args.index.now)
     (state_of (g.T.NativeTable.state c.args.table.now) c.args.global.now scope (lending held c.args.object.now)) c.args.pos

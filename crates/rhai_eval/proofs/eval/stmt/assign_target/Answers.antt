@@ -1,10 +1,10 @@
 use Rattle.rhai_machine.specs.language.Frames.{NewValue}
 use Rattle.rhai_machine.specs.language.Setting.{Rules, rules_of}
 use Rattle.rhai_steps.specs.States.{state_of}
-use Rattle.rhai_steps.specs.Marked.{lending}
+use Rattle.rhai_steps.specs.OnFocus.{lending}
 use Rattle.rhai_places.specs.declared.target.Part.TheVariants as part
 use Rattle.rhai_eval.specs.Assigned.{assigned}
-use Rattle.rhai_eval.proofs.Assigned.{assigned_alone, marked_memory, part_follows}
+use Rattle.rhai_eval.proofs.Assigned.{assigned_alone, assigned_memory, part_follows}
 use Rattle.rhai_eval.proofs.OnTargets.{answer_memory}
 use Rattle.rhai_eval.proofs.eval.stmt.assign_target.Goals as goal
 
@@ -30,13 +30,13 @@ returns-in-Of-clause-follows g c offer scope held fast =
 pub returns-in-Whole-clause-shows : goal.returns-in-Whole-clause-shows
 returns-in-Whole-clause-shows g c offer scope held fast memory = rw c.in-Whole.is
     (assigned_alone (rules_of c.args.limits.now g.H.Host.name_of offer g.T.NativeTable.natives) _ _ _ (assigned c.assign_value.result)
-    (c.assign_value.ensures.follows offer scope held fast) (marked_memory c.assign_value.result memory))
+    (c.assign_value.ensures.follows offer scope held fast) (assigned_memory c.assign_value.result memory))
 
 pub returns-in-Temporary-clause-shows : goal.returns-in-Temporary-clause-shows
 returns-in-Temporary-clause-shows g c offer scope held fast memory = rw c.in-Temporary.is
     (assigned_alone (rules_of c.args.limits.now g.H.Host.name_of offer g.T.NativeTable.natives) _ _ _
     (assigned c.assign_value-in-Temporary.result) (c.assign_value-in-Temporary.ensures.follows offer scope held fast)
-    (marked_memory c.assign_value-in-Temporary.result memory))
+    (assigned_memory c.assign_value-in-Temporary.result memory))
 
 pub returns-in-Of-clause-shows : goal.returns-in-Of-clause-shows
 returns-in-Of-clause-shows g c offer scope held fast memory = rw (c.in-Of.is, c.put_assigned.ensures.part)
@@ -44,4 +44,4 @@ returns-in-Of-clause-shows g c offer scope held fast memory = rw (c.in-Of.is, c.
     (assigned c.assign_value-outcome.result) (c.assign_value-outcome.ensures.follows offer scope held fast)
     (answer_memory g.H.Host.name_of (part.Of c.in-Of.field-0 c.assign_value-outcome.new.place) c.args.target.now.at.now c.args.op.position
     (assigned c.assign_value-outcome.result) (assigned c.put_assigned.result) c.put_assigned.new.target.at.now
-    c.put_assigned.ensures.comes (marked_memory c.put_assigned.result memory)))
+    c.put_assigned.ensures.comes (assigned_memory c.put_assigned.result memory)))

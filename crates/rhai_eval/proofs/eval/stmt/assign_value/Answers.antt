@@ -1,7 +1,7 @@
 use Rattle.rhai_machine.specs.language.Frames.{NewValue}
 use Rattle.rhai_machine.specs.language.Setting.{Rules, rules_of}
 use Rattle.rhai_steps.specs.States.{state_of}
-use Rattle.rhai_steps.specs.Marked.{lending}
+use Rattle.rhai_steps.specs.OnFocus.{lending}
 use Rattle.rhai_eval.proofs.Assigned.{value_follows}
 use Rattle.rhai_eval.proofs.eval.stmt.assign_value.Goals as goal
 

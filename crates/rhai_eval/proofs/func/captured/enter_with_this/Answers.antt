@@ -6,13 +6,13 @@ use Rattle.rhai_machine.specs.language.Activations.{OwnThis, TheFocus}
 use Rattle.rhai_machine.specs.language.Calls.{entry_of}
 use Rattle.rhai_machine.specs.language.Frames.{EnterFunction, ended}
 use Rattle.rhai_machine.specs.language.State.{Held}
-use Rattle.rhai_steps.specs.Marked.{lending}
+use Rattle.rhai_steps.specs.OnFocus.{lending}
 use Rattle.rhai_steps.specs.States.{local_of, state_of}
 use Rattle.rhai_laws.proofs.KeptLaws.{kept}
-use Rattle.rhai_cycle.specs.States.{under}
-use Rattle.rhai_cycle.proofs.BodyLemmas.{captured_ends}
+use Rattle.rhai_eval_core.specs.States.{under}
+use Rattle.rhai_eval_core.proofs.BodyLemmas.{captured_ends}
 use Rattle.rhai_walk.proofs.FreeFocus.{may_be_entered}
-use Rattle.rhai_cycle.proofs.FocusSteps.{enters_focus, focus_held, inside_races, inside_runs}
+use Rattle.rhai_eval_core.proofs.FocusSteps.{enters_focus, focus_held, inside_races, inside_runs}
 use Rattle.rhai_eval.proofs.func.captured.enter_with_this.Goals as goal
 
 pub returns-then-is_held : goal.returns-then-is_held

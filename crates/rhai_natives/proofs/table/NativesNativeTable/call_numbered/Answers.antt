@@ -1,7 +1,7 @@
 use Rattle.std.proofs.Common.{◌≡◌, Option, Some, MutBor, ap, refl, sym, subst, ◌∙◌}
 use Rattle.rhai_values.specs.declared.base.value.Dynamic.{Dynamic}
 use Rattle.rhai_values.specs.Cells.{cells_of}
-use Rattle.rhai_state.specs.Native.{Numbered, left_by, request, was}
+use Rattle.rhai_state.specs.Native.{Numbered, left_by, request, lent_value}
 use Rattle.rhai_natives.specs.Found.{found}
 use Rattle.rhai_natives.proofs.Left.{leaves_left, no_handle_left, obeys_found}
 use Rattle.rhai_natives.proofs.table.NativesNativeTable.call_numbered.Given.{Over}
@@ -45,18 +45,18 @@ first_is g c = subst (λ place. after g c place ≡ Some c.call_with.new.first) 
 
 pub returns-in-Some-clause-obeys : goal.returns-in-Some-clause-obeys
 returns-in-Some-clause-obeys g c =
-    let q = request (cells_of c.args._cells.now) (Numbered c.args.id.number) (was c.args.first) c.args.rest.now c.args._position in
+    let q = request (cells_of c.args._cells.now) (Numbered c.args.id.number) (lent_value c.args.first) c.args.rest.now c.args._position in
     let is_found = c.find_numbered-found.ensures ∙ ap (λ list. found list (Numbered c.args.id.number)) c.listed.ensures in
     obeys_found g.N.ListedNatives.list g.N.ListedNatives.does (g.N.ListedNatives.state c.args.self.now.natives) q _ is_found _
-    (ap was c.in-Some.is) (first_is g c) _ _ c.call_with.ensures.obeys
+    (ap lent_value c.in-Some.is) (first_is g c) _ _ c.call_with.ensures.obeys
 
 pub returns-in-Some-clause-no_handle : goal.returns-in-Some-clause-no_handle
 returns-in-Some-clause-no_handle g c =
-    no_handle_left (ap was c.in-Some.is) (first_is g c) _ c.call_with.ensures.left c.requires
+    no_handle_left (ap lent_value c.in-Some.is) (first_is g c) _ c.call_with.ensures.left c.requires
 
 pub returns-in-Some-clause-leaves : goal.returns-in-Some-clause-leaves
 returns-in-Some-clause-leaves g c =
-    let q = request (cells_of c.args._cells.now) (Numbered c.args.id.number) (was c.args.first) c.args.rest.now c.args._position in
+    let q = request (cells_of c.args._cells.now) (Numbered c.args.id.number) (lent_value c.args.first) c.args.rest.now c.args._position in
     let is_found = c.find_numbered-found.ensures ∙ ap (λ list. found list (Numbered c.args.id.number)) c.listed.ensures in
     leaves_left g.N.ListedNatives.list g.N.ListedNatives.does (g.N.ListedNatives.state c.args.self.now.natives) q _ is_found _
-    (ap was c.in-Some.is) (first_is g c) (g.N.ListedNatives.state c.call_with.new.natives) _ c.call_with.ensures.left
+    (ap lent_value c.in-Some.is) (first_is g c) (g.N.ListedNatives.state c.call_with.new.natives) _ c.call_with.ensures.left

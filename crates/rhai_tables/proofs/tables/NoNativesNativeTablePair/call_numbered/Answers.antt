@@ -3,10 +3,10 @@ use Rattle.rhai_tables.specs.Tables.{none_leaves}
 use Rattle.rhai_tables.proofs.tables.NoNativesNativeTablePair.call_numbered.Goals as goal
 
 pub returns-in-Some-clause-obeys : goal.returns-in-Some-clause-obeys
-returns-in-Some-clause-obeys c = rw (c.in-Some.is, c.missing_at.ensures.first, c.missing_at.ensures.reply) refl
+returns-in-Some-clause-obeys c = rw (c.in-Some.is, c.answer_no_native.ensures.first, c.answer_no_native.ensures.reply) refl
 
 pub returns-in-Some-clause-no_handle : goal.returns-in-Some-clause-no_handle
-returns-in-Some-clause-no_handle c = rw (c.in-Some.is, c.missing_at.ensures.first) (rw c.in-Some.is at c.requires)
+returns-in-Some-clause-no_handle c = rw (c.in-Some.is, c.answer_no_native.ensures.first) (rw c.in-Some.is at c.requires)
 
 pub returns-in-Some-clause-leaves : goal.returns-in-Some-clause-leaves
-returns-in-Some-clause-leaves c = rw (c.in-Some.is, c.missing_at.ensures.first) (none_leaves _ _)
+returns-in-Some-clause-leaves c = rw (c.in-Some.is, c.answer_no_native.ensures.first) (none_leaves _ _)

@@ -6,7 +6,7 @@ use Rattle.rhai_tree.specs.Lookup.{place_of, rank}
 use Rattle.rhai_tree.proofs.LookupLemmas.{rank-le, insert_ascends, remove-insert}
 use Rattle.rhai_tree.proofs.table.Table.add.Goals as goal
 
--- the place stands within the keys, and so within the values
+-- the index lies within the keys, and so within the values
 within : (key : List ℕ) (keys old : List (List ℕ)) (at : ℕ) → keys ≡ old → at ≡ rank key old → at ≤ length keys
 within key keys old at e place = rw (place, sym e) (rank-le key keys)
 

@@ -1,0 +1,73 @@
+-- The focus of a chain and `this`, as they are assigned to.
+use Rattle.std.specs.Prelude.{◌≡◌, false, List, Option, Some, None, Result, Ok, Err}
+use Rattle.rhai_tree.specs.declared.expr.Expr.{Expr}
+use Rattle.rhai_tree.specs.declared.expr.OpAssignment.{OpAssignment}
+use Rattle.rhai_tree.specs.declared.position.Position.{Position}
+use Rattle.rhai_values.specs.declared.base.value.CellId.{CellId}
+use Rattle.rhai_values.specs.declared.base.value.Dynamic.{Dynamic}
+use Rattle.rhai_values.specs.Cells.{value_of_cell}
+use Rattle.rhai_state.specs.declared.error.EvalAltResult.{EvalAltResult}
+use Rattle.rhai_state.specs.Errors.{is_out_of_memory}
+use Rattle.rhai_machine.specs.language.Setting.{Rules}
+use Rattle.rhai_machine.specs.language.State.{State}
+use Rattle.rhai_machine.specs.language.Values.{Cells, is_handle}
+use Rattle.rhai_machine.specs.language.Places.{InCell, InThis, InFocus, Target, is_constant, target}
+use Rattle.rhai_machine.specs.language.Assignment.{store_this}
+use Rattle.rhai_machine.specs.language.Chains.{assign_focus}
+use Rattle.rhai_machine.specs.language.Frames.{Frame, ended}
+use Rattle.rhai_machine.specs.language.Runs.{at, with_core, Goes}
+use Rattle.rhai_assign.specs.Follows.{Follows}
+
+module _ {H : Type 0} where
+  -- a value that is there and may be changed
+  abbrev pub IsWritable : Option (Dynamic H) → Type 0
+  IsWritable (Some v) = is_constant v.mode ≡ false
+  IsWritable None = ⊥
+
+  -- the target is a value that may be changed, in a cell that is not held
+  pub record InOwnCell (id : CellId) (cells : Cells H) (wanted : Result (Target H) (EvalAltResult H)) : Type 0 where
+    pub value : Dynamic H
+    pub there : value_of_cell cells id.number ≡ Some value
+    pub is : wanted ≡ Ok (target (InCell id.number) value)
+    pub writable : is_constant value.mode ≡ false
+
+  -- the target is the focus itself, which may be changed and is no handle
+  pub record InItself (focus : Dynamic H) (wanted : Result (Target H) (EvalAltResult H)) : Type 0 where
+    pub plain : is_handle focus.value ≡ false
+    pub is : wanted ≡ Ok (target InFocus focus)
+
+  -- where the target of a focus is: in a cell, or the focus itself; else the error is the machine's, unless memory ran out
+  abbrev pub FindsFocus : Result (Option CellId) (EvalAltResult H) → Cells H → (focus : Dynamic H) → Result (Target H) (EvalAltResult H) →
+      Type 0
+  FindsFocus (Ok (Some id)) cells focus wanted = InOwnCell id cells wanted
+  FindsFocus (Ok None) cells focus wanted = InItself focus wanted
+  FindsFocus (Err e) cells focus wanted = is_out_of_memory e ≡ false → wanted ≡ Err e
+
+module _ {H : Type 0} where
+  -- the target is `this` itself, which may be changed and is no handle
+  pub record IsThis (this : Dynamic H) (wanted : Result (Target H) (EvalAltResult H)) : Type 0 where
+    pub plain : is_handle this.value ≡ false
+    pub is : wanted ≡ Ok (target InThis this)
+
+  -- where the target of an assignment to `this` is: in a cell, or `this` itself; else the error is the machine's, unless memory ran out
+  abbrev pub FindsThis : Result (Option CellId) (EvalAltResult H) → Cells H → (this : Dynamic H) → Result (Target H) (EvalAltResult H) →
+      Type 0
+  FindsThis (Ok (Some id)) cells this wanted = InOwnCell id cells wanted
+  FindsThis (Ok None) cells this wanted = IsThis this wanted
+  FindsThis (Err e) cells this wanted = is_out_of_memory e ≡ false → wanted ≡ Err e
+
+-- an assignment to `this`, once it is charged
+abbrev pub FollowsThis : {S H : Type 0} → Rules S H → OpAssignment → Position → Dynamic H → State S H →
+    Result (Dynamic H) (EvalAltResult H) → State S H → Type 0
+FollowsThis rules op at v = Follows rules (store_this rules.setting op at v)
+
+-- an assignment to the focus, by an operator or as it is
+abbrev pub FollowsFocus : {S H : Type 0} → Rules S H → (root : Expr) → OpAssignment → Dynamic H → State S H →
+    Result (Dynamic H) (EvalAltResult H) → State S H → Type 0
+FollowsFocus rules root op v = Follows rules (assign_focus rules.setting root (record { op = op; value = v }))
+
+-- an assignment to the focus that begins where the machine does: memory runs out in it only where it may in the machine too
+abbrev pub AssignsAtOnce : {S H : Type 0} → Rules S H → (root : Expr) → OpAssignment → Dynamic H → State S H →
+    Result (Dynamic H) (EvalAltResult H) → State S H → Type 0
+AssignsAtOnce {H = H} rules root op v old result new = (k : List (Frame H)) →
+    Goes rules (with_core (assign_focus rules.setting root (record { op = op; value = v }) k old.local) old) (at (ended result) k new)

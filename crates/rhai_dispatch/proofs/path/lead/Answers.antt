@@ -1,5 +1,0 @@
-use Rattle.rhai_steps.proofs.Agreeing.{brings}
-use Rattle.rhai_dispatch.proofs.path.lead.Goals as goal
-
-pub read_last_value-requires : goal.read_last_value-requires
-read_last_value-requires g c = brings (λ frame h. rw c.in-Some.is at h) c.requires

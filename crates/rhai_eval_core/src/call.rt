@@ -1,0 +1,432 @@
+//! Calls: operators, plain calls, natives at once, and calls by name. Ports upstream's `func/call.rs`; the
+//! contracts speak of the machine's runs and of specs/Calls.antt.
+
+ghost use Rattle.std.specs.Prelude.{◌≡◌, ◌≤◌, [], IsTrue, map, true, false, not};
+ghost use Rattle.std.specs.Option.{option_copied};
+ghost use Rattle.rhai_tree.specs.Frame.{all_resolve_exprs, resolves_call, tests_of};
+ghost use Rattle.rhai_tree.specs.declared.expr.Expr.TheOpen as layer;
+ghost use Rattle.rhai_machine.specs.language.Frames.{OpenExpr, CallNamed, ToCall, ToCallOn, ToCallOnThis};
+ghost use Rattle.rhai_machine.specs.language.Arguments.{arguments_core, is_captured};
+ghost use Rattle.rhai_machine.specs.language.Runs.{Runs};
+ghost use Rattle.rhai_steps.specs.Agreement.{KeepsSight, variable_is_good};
+ghost use Rattle.rhai_calls.specs.Called.{with_args};
+ghost use Rattle.rhai_call_forms.specs.Forms.{IsForm};
+ghost use Rattle.rhai_call_forms.specs.declared.forms.CallForm.TheVariants as form;
+ghost use Rattle.rhai_call_forms.specs.Leading.{all_args, leading_seen, variable_read};
+ghost use Rattle.rhai_callees.specs.Going.{GoesOut};
+ghost use Rattle.rhai_context.specs.Ends.{came};
+ghost use Rattle.rhai_eval_core.specs.Agreement.{KeepsNames, SuitsNames};
+ghost use Rattle.rhai_eval_core.specs.Calls.{StartsAs, called};
+ghost use Rattle.rhai_eval_core.specs.States.{state_in, under};
+ghost use Rattle.rhai_state.specs.Scope.{entries_of};
+ghost use Rattle.rhai_machine.specs.language.Calls.{plainly};
+
+mod arguments;
+mod keywords;
+mod operators;
+mod plain;
+mod qualified;
+
+use crate::evaluator::Evaluator;
+use rhai_at_once::call_at_once;
+use rhai_call_forms::arguments::{FirstVariable, first_variable, this_first};
+use rhai_call_forms::forms::may_operate;
+use rhai_call_forms::keywords::keyword_of;
+use rhai_callees::arguments::parts_of_call;
+use rhai_callees::call_values;
+use rhai_callees::this::call_on_this;
+use rhai_callees::variable::call_on_variable;
+use rhai_calls::dispatch::Called;
+use rhai_context::Context;
+use rhai_context::outcomes::charge;
+use rhai_few::Few;
+use rhai_plain::callee::plain_callee;
+use rhai_state::scope::Scope;
+use rhai_state::table::NativeTable;
+use rhai_steps::variables::is_plain;
+use rhai_tree::Items;
+use rhai_tree::expr::{Expr, FnCallExpr};
+use rhai_tree::position::Position;
+use rhai_tree::token::Token;
+use rhai_values::base::value::{Dynamic, Host};
+
+/// Tells whether a call that captures its caller's variables runs on them: there are some.
+fn is_on_scope<H>(scope: &Scope<H>, captures: bool) -> bool
+    ensures { result ≡ is_captured captures (entries_of scope.now) }
+{
+    captures && scope.len() != 0
+}
+
+impl<'e, H: Host> Evaluator<'e, H> {
+    /// Evaluates a call: an operator on its operands, or of a function. How it ended stands in the run.
+    #[inline(always)]
+    #[cycle(eval)]
+    pub fn run_fn_call_expr<T: NativeTable<H>>(
+        &self,
+        run: &mut Context<H>,
+        table: &mut T,
+        call: &FnCallExpr,
+        pos: Position,
+    ) -> bool
+        requires resolves { SuitsNames run.old (resolves_call call.now pos) }
+        ensures counts { IsTrue result → run.old.global.num_operations ≤ run.new.global.num_operations }
+        ensures names { IsTrue result → KeepsNames run.old run.new }
+        ensures runs { Runs (under H.name_of self.now T.natives) (OpenExpr (layer.Expr::FnCall call.now pos))
+            (state_in (T.state table.old) run.old)
+            (came result run.new.value run.new.error) (state_in (T.state table.new) run.new) }
+    {
+        if may_operate(self.fast_operators, call) {
+            return self.run_operation(run, table, call, pos);
+        }
+        self.run_function(run, table, call, pos)
+    }
+
+    /// Evaluates a call that is no operator on operands. How it ended stands in the run.
+    #[inline(never)]
+    #[cycle(eval)]
+    fn run_function<T: NativeTable<H>>(
+        &self,
+        run: &mut Context<H>,
+        table: &mut T,
+        call: &FnCallExpr,
+        pos: Position,
+    ) -> bool
+        requires resolves { SuitsNames run.old (resolves_call call.now pos) }
+        requires form { IsForm form.Function self.now.fast_operators call.now.op_token call.now.args }
+        ensures counts { IsTrue result → run.old.global.num_operations ≤ run.new.global.num_operations }
+        ensures names { IsTrue result → KeepsNames run.old run.new }
+        ensures runs { Runs (under H.name_of self.now T.natives) (OpenExpr (layer.Expr::FnCall call.now pos))
+            (state_in (T.state table.old) run.old)
+            (came result run.new.value run.new.error) (state_in (T.state table.new) run.new) }
+    {
+        if let Some(function) = plain_callee(&run.global, call) {
+            return self.run_plain_call(run, table, call, function, pos);
+        }
+        if !is_plain(&call.namespace) {
+            let (path, name) = (&call.namespace, call.name.get().as_str());
+            return self.run_qualified_call(run, table, path, name, call.args.as_slice(), pos);
+        }
+        let at_once = call_at_once(
+            self.limits,
+            self.alloc,
+            &self.offered,
+            &mut run.global,
+            table,
+            &mut run.scope,
+            &mut run.value,
+            &mut run.error,
+            call,
+            pos,
+        );
+        if let Some(done) = at_once {
+            return done;
+        }
+        let (name, first, rest) = parts_of_call(call);
+        let captures = call.capture_parent_scope;
+        self.run_call(run, table, name, call.op_token, first, rest, captures, pos)
+    }
+
+    /// Evaluates a call of a keyword, or of a function by its name. How it ended stands in the run.
+    #[inline(never)]
+    #[cycle(eval)]
+    pub fn run_call<T: NativeTable<H>>(
+        &self,
+        run: &mut Context<H>,
+        table: &mut T,
+        name: &str,
+        token: Option<Token>,
+        first: Option<&Expr>,
+        rest: &[Expr],
+        captures: bool,
+        pos: Position,
+    ) -> bool
+        requires { SuitsNames run.old
+            (all_resolve_exprs (map tests_of (all_args (option_copied first) rest.now))) }
+        ensures counts { IsTrue result → run.old.global.num_operations ≤ run.new.global.num_operations }
+        ensures names { IsTrue result → KeepsNames run.old run.new }
+        ensures runs { StartsAs (under H.name_of self.now T.natives)
+            (called (record { name = name.now; token = token; at = pos })
+            (all_args (option_copied first.entry) rest.now) captures)
+            (state_in (T.state table.old) run.old)
+            (came result run.new.value run.new.error) (state_in (T.state table.new) run.new) }
+    {
+        match first {
+            None => {
+                let curried = Items::new(self.alloc);
+                self.run_named(
+                    run, table, name, token, curried, first, rest, captures, false, pos,
+                )
+            }
+            Some(arg) => match keyword_of(name, token, 1 + rest.len()) {
+                Some(word) => self.run_keyword(run, table, word, arg, rest, captures, pos),
+                None => {
+                    let curried = Items::new(self.alloc);
+                    self.run_named(
+                        run, table, name, token, curried, first, rest, captures, false, pos,
+                    )
+                }
+            },
+        }
+    }
+
+    /// Makes a call by name. A variable that comes first, or `this`, is charged first and read last, and is
+    /// lent to a native where it may be written; any other argument is passed by its value. A call that
+    /// captures a scope which is not empty takes each argument by its value, and a function of a script runs
+    /// on that scope. How it ended stands in the run.
+    #[cycle(eval)]
+    pub(crate) fn run_named<T: NativeTable<H>>(
+        &self,
+        run: &mut Context<H>,
+        table: &mut T,
+        name: &str,
+        token: Option<Token>,
+        curried: Items<Dynamic<H>>,
+        first: Option<&Expr>,
+        rest: &[Expr],
+        captures: bool,
+        natives_alone: bool,
+        pos: Position,
+    ) -> bool
+        requires { SuitsNames run.old
+            (all_resolve_exprs (map tests_of (all_args (option_copied first) rest.now))) }
+        ensures counts { IsTrue result → run.old.global.num_operations ≤ run.new.global.num_operations }
+        ensures names { IsTrue result → KeepsNames run.old run.new }
+        ensures runs { Runs (under H.name_of self.now T.natives)
+            (CallNamed (record { name = name.now; token = token; at = pos }) curried
+            (all_args (option_copied first.entry) rest.now) captures natives_alone)
+            (state_in (T.state table.old) run.old)
+            (came result run.new.value run.new.error) (state_in (T.state table.new) run.new) }
+    {
+        if let Some(this_at) = this_first(
+            &run.scope,
+            curried.as_slice(),
+            first,
+            &run.this,
+            captures,
+        ) {
+            drop(curried);
+            if !charge(self.limits, &mut run.global, &mut run.error, this_at) {
+                return false;
+            }
+            let mut values = Few::new(self.alloc);
+            if !self.run_more_args(run, table, &mut values, rest, true) {
+                drop(values);
+                return false;
+            }
+            let called = self.call_with_this(
+                run,
+                table,
+                name,
+                token,
+                this_at,
+                &mut values,
+                natives_alone,
+                pos,
+            );
+            let done = self.finish_call(run, table, called, &mut values, true, pos);
+            drop(values);
+            return done;
+        }
+        match first_variable(&run.scope, curried.as_slice(), first, rest, captures) {
+            Some(variable) => {
+                drop(curried);
+                if !charge(self.limits, &mut run.global, &mut run.error, variable.pos) {
+                    return false;
+                }
+                let mut values = Few::new(self.alloc);
+                if !self.run_more_args(run, table, &mut values, variable.rest, true) {
+                    drop(values);
+                    return false;
+                }
+                let called = self.call_with_variable(
+                    run,
+                    table,
+                    name,
+                    token,
+                    variable,
+                    &mut values,
+                    natives_alone,
+                    pos,
+                );
+                let done = self.finish_call(run, table, called, &mut values, true, pos);
+                drop(values);
+                done
+            }
+            None => self.run_on_values(
+                run,
+                table,
+                name,
+                token,
+                curried,
+                first,
+                rest,
+                captures,
+                natives_alone,
+                pos,
+            ),
+        }
+    }
+
+    /// Makes a call by name of a variable and of values behind it.
+    fn call_with_variable<T: NativeTable<H>>(
+        &self,
+        run: &mut Context<H>,
+        table: &mut T,
+        name: &str,
+        token: Option<Token>,
+        variable: FirstVariable<'_>,
+        values: &mut Few<Dynamic<H>>,
+        natives_alone: bool,
+        pos: Position,
+    ) -> Called<H>
+        requires { SuitsNames run.old (variable_is_good variable.offset variable.name.now
+            variable.namespace.now.path) }
+        ensures counts { run.old.global.num_operations ≤ run.new.global.num_operations }
+        ensures names { KeepsNames run.old run.new }
+        ensures runs { GoesOut (under H.name_of self.now T.natives)
+            (ToCallOn (record { name = name.now; token = token; at = pos })
+            (variable_read (leading_seen variable.entry))
+            (plainly natives_alone false)) values.old true pos (state_in (T.state table.old) run.old)
+            (with_args result values.new) (state_in (T.state table.new) run.new) }
+    {
+        call_on_variable(
+            self.limits,
+            self.alloc,
+            &self.offered,
+            &mut run.global,
+            table,
+            &mut run.scope,
+            natives_alone,
+            name,
+            token,
+            variable.offset,
+            variable.name,
+            variable.namespace,
+            variable.pos,
+            values,
+            pos,
+        )
+    }
+
+    /// Makes a call by name of `this` and of values behind it.
+    fn call_with_this<T: NativeTable<H>>(
+        &self,
+        run: &mut Context<H>,
+        table: &mut T,
+        name: &str,
+        token: Option<Token>,
+        this_at: Position,
+        values: &mut Few<Dynamic<H>>,
+        natives_alone: bool,
+        pos: Position,
+    ) -> Called<H>
+        ensures counts { run.old.global.num_operations ≤ run.new.global.num_operations }
+        ensures sight { KeepsSight run.old.global run.new.global }
+        ensures scope { run.new.scope ≡ run.old.scope }
+        ensures runs { GoesOut (under H.name_of self.now T.natives)
+            (ToCallOnThis (record { name = name.now; token = token; at = pos }) this_at
+            (plainly natives_alone false)) values.old true pos (state_in (T.state table.old) run.old)
+            (with_args result values.new) (state_in (T.state table.new) run.new) }
+    {
+        call_on_this(
+            self.limits,
+            self.alloc,
+            &self.offered,
+            &mut run.global,
+            table,
+            &mut run.this,
+            natives_alone,
+            name,
+            token,
+            this_at,
+            values,
+            pos,
+        )
+    }
+
+    /// Makes a call by name of values, behind those that a pointer has.
+    fn call_with<T: NativeTable<H>>(
+        &self,
+        run: &mut Context<H>,
+        table: &mut T,
+        name: &str,
+        token: Option<Token>,
+        curried: Items<Dynamic<H>>,
+        values: &mut Few<Dynamic<H>>,
+        natives_alone: bool,
+        pos: Position,
+    ) -> Called<H>
+        ensures counts { run.old.global.num_operations ≤ run.new.global.num_operations }
+        ensures sight { KeepsSight run.old.global run.new.global }
+        ensures scope { run.new.scope ≡ run.old.scope }
+        ensures runs { (on_scope : _) → GoesOut (under H.name_of self.now T.natives)
+            (ToCall (record { name = name.now; token = token; at = pos }) curried
+            (plainly natives_alone on_scope)) values.old (not on_scope) pos
+            (state_in (T.state table.old) run.old)
+            (with_args result values.new) (state_in (T.state table.new) run.new) }
+    {
+        call_values(
+            self.limits,
+            self.alloc,
+            &self.offered,
+            &mut run.global,
+            table,
+            natives_alone,
+            name,
+            token,
+            curried,
+            values,
+            pos,
+        )
+    }
+
+    /// Makes a call by name whose arguments are all passed by their values, behind those that a pointer has.
+    /// How it ended stands in the run.
+    #[cycle(eval)]
+    fn run_on_values<T: NativeTable<H>>(
+        &self,
+        run: &mut Context<H>,
+        table: &mut T,
+        name: &str,
+        token: Option<Token>,
+        curried: Items<Dynamic<H>>,
+        first: Option<&Expr>,
+        rest: &[Expr],
+        captures: bool,
+        natives_alone: bool,
+        pos: Position,
+    ) -> bool
+        requires { SuitsNames run.old
+            (all_resolve_exprs (map tests_of (all_args (option_copied first) rest.now))) }
+        ensures counts { IsTrue result → run.old.global.num_operations ≤ run.new.global.num_operations }
+        ensures names { IsTrue result → KeepsNames run.old run.new }
+        ensures runs { let rules = under H.name_of self.now T.natives in
+            StartsAs rules (arguments_core rules.setting
+            (ToCall (record { name = name.now; token = token; at = pos }) curried
+            (plainly natives_alone (is_captured captures (entries_of run.old.scope)))) []
+            (all_args (option_copied first.entry) rest.now))
+            (state_in (T.state table.old) run.old)
+            (came result run.new.value run.new.error) (state_in (T.state table.new) run.new) }
+    {
+        let on_scope = is_on_scope(&run.scope, captures);
+        let mut values = Few::new(self.alloc);
+        if !self.run_all_args(run, table, &mut values, first, rest) {
+            drop(curried);
+            drop(values);
+            return false;
+        }
+        let called = self.call_with(
+            run,
+            table,
+            name,
+            token,
+            curried,
+            &mut values,
+            natives_alone,
+            pos,
+        );
+        let done = self.finish_call(run, table, called, &mut values, !on_scope, pos);
+        drop(values);
+        done
+    }
+}

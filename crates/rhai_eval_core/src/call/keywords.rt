@@ -1,0 +1,227 @@
+//! Calls of keywords, and what becomes of a pointer with its arguments. Ports the keywords of upstream's
+//! `func/call.rs`; the contracts speak of the machine's runs and of specs/Calls.antt.
+
+ghost use Rattle.std.specs.Prelude.{◌≡◌, ◌≤◌, ◌+◌, [], IfOk, IsTrue, length, map, true};
+ghost use Rattle.rhai_tree.specs.Frame.{all_resolve_exprs, resolves_expr, tests_of};
+ghost use Rattle.rhai_tree.specs.Positions.{start_of};
+ghost use Rattle.rhai_machine.specs.language.Frames.{Argument, KeywordArgument};
+ghost use Rattle.rhai_values.specs.declared.base.value.FnPtr.{out-FnPtr};
+ghost use Rattle.rhai_machine.specs.language.Arguments.{arguments_core, linked_to};
+ghost use Rattle.rhai_steps.specs.Agreement.{KeepsSight};
+ghost use Rattle.rhai_calls.specs.Called.{with_args};
+ghost use Rattle.rhai_call_forms.specs.Keywords.{word_of};
+ghost use Rattle.rhai_callees.specs.Going.{GoesOut};
+ghost use Rattle.rhai_context.specs.Ends.{came};
+ghost use Rattle.rhai_eval_core.specs.Agreement.{KeepsNames, SuitsNames};
+ghost use Rattle.rhai_eval_core.specs.Calls.{RunsUnder, StartsAs, purpose_of};
+ghost use Rattle.rhai_eval_core.specs.States.{state_in, under};
+
+use crate::evaluator::Evaluator;
+use rhai_call_forms::arguments::split_first;
+use rhai_call_forms::keywords::Keyword;
+use rhai_call_forms::linked::function_linked;
+use rhai_call_forms::names::natives_alone;
+use rhai_call_forms::pointers::{
+    is_defined, is_shared, make_pointer, pointer_of, text_of, with_curried,
+};
+use rhai_callees::pointer::parts_of;
+use rhai_callees::{call_function, call_number};
+use rhai_calls::dispatch::Called;
+use rhai_context::Context;
+use rhai_context::ends::{put, settle, stop, take_value};
+use rhai_few::Few;
+use rhai_functions::function::Function;
+use rhai_state::error::EvalAltResult;
+use rhai_state::table::NativeTable;
+use rhai_tree::Items;
+use rhai_tree::expr::Expr;
+use rhai_tree::literal::NativeId;
+use rhai_tree::position::Position;
+use rhai_values::base::value::{Dynamic, FnPtr, Host};
+use std::alloc::AllocError;
+
+/// What a pointer's arguments are for.
+#[derive(Drop)]
+enum PointerUse<H> {
+    /// It gets them behind the values that it has already.
+    Curry(FnPtr<H>),
+    /// They go to a function that it is linked to, behind the values that it has.
+    Linked(Function<H>, Items<Dynamic<H>>),
+    /// They go to a native by its number, behind these values.
+    Number(NativeId, Items<Dynamic<H>>),
+}
+
+/// Finds the function that a pointer is linked to, where it is called with these arguments. It is the
+/// pointer's own, or that of the run's libraries. None for a pointer by its name alone and for a native's.
+fn linked_function<H: Host>(
+    run: &Context<H>,
+    pointer: &FnPtr<H>,
+    args: &[Expr],
+) -> Result<Option<Function<H>>, AllocError>
+    ensures { IfOk result (λ found. found ≡ linked_to pointer.now
+        (length (out-FnPtr H pointer.now).curry + length args.now) run.now.global.lib) }
+{
+    function_linked(pointer, args.len(), run.global.lib.as_slice())
+}
+
+impl<'e, H: Host> Evaluator<'e, H> {
+    /// Evaluates a keyword, from its first argument on. A pointer that is called is the function that it is
+    /// linked to, or a native's number, or else it is called by its name. How it ended stands in the run.
+    #[cycle(eval)]
+    pub(crate) fn run_keyword<T: NativeTable<H>>(
+        &self,
+        run: &mut Context<H>,
+        table: &mut T,
+        word: Keyword,
+        first: &Expr,
+        rest: &[Expr],
+        captures: bool,
+        pos: Position,
+    ) -> bool
+        requires resolves { SuitsNames run.old (resolves_expr first.now) }
+        requires resolves_rest { SuitsNames run.old (all_resolve_exprs (map tests_of rest.now)) }
+        ensures counts { IsTrue result → run.old.global.num_operations ≤ run.new.global.num_operations }
+        ensures names { IsTrue result → KeepsNames run.old run.new }
+        ensures runs { RunsUnder (under H.name_of self.now T.natives) (Argument first.now)
+            (KeywordArgument (word_of word) pos (start_of first.now) rest.now captures)
+            (state_in (T.state table.old) run.old)
+            (came result run.new.value run.new.error) (state_in (T.state table.new) run.new) }
+    {
+        if !self.run_arg(run, table, first) {
+            return false;
+        }
+        let value = take_value(&mut run.value);
+        let start = first.start_position();
+        match word {
+            Keyword::IsShared => {
+                put(&mut run.value, is_shared(value));
+                true
+            }
+            Keyword::IsDefinedVariable => {
+                match text_of(self.alloc, &run.global.cells, value, start) {
+                    Ok(text) => {
+                        put(&mut run.value, is_defined(&run.scope, &text));
+                        true
+                    }
+                    Err(error) => stop(&mut run.error, error),
+                }
+            }
+            Keyword::MakePointer => match text_of(self.alloc, &run.global.cells, value, start) {
+                Ok(text) => {
+                    let made = make_pointer(self.alloc, text, start);
+                    settle(&mut run.error, &mut run.value, made)
+                }
+                Err(error) => stop(&mut run.error, error),
+            },
+            Keyword::Curry => match pointer_of(self.alloc, &run.global.cells, value, start) {
+                Ok(pointer) => {
+                    self.run_pointer(run, table, PointerUse::Curry(pointer), rest, pos)
+                }
+                Err(error) => stop(&mut run.error, error),
+            },
+            Keyword::CallPointer => {
+                let pointer = match pointer_of(self.alloc, &run.global.cells, value, start) {
+                    Ok(pointer) => pointer,
+                    Err(error) => return stop(&mut run.error, error),
+                };
+                match linked_function(&*run, &pointer, rest) {
+                    Ok(Some(function)) => {
+                        let (name, curried, _) = parts_of(pointer);
+                        drop(name);
+                        let linked = PointerUse::Linked(function, curried);
+                        self.run_pointer(run, table, linked, rest, pos)
+                    }
+                    Ok(None) => {
+                        let (name, curried, number) = parts_of(pointer);
+                        match number {
+                            Some(id) => {
+                                drop(name);
+                                let numbered = PointerUse::Number(id, curried);
+                                self.run_pointer(run, table, numbered, rest, pos)
+                            }
+                            None => {
+                                let (first, rest) = split_first(rest);
+                                let name = name.get().as_str();
+                                let alone = natives_alone(name);
+                                self.run_named(
+                                    run, table, name, None, curried, first, rest, captures, alone,
+                                    pos,
+                                )
+                            }
+                        }
+                    }
+                    Err(_) => {
+                        drop(pointer);
+                        stop(&mut run.error, EvalAltResult::ErrorOutOfMemory(pos))
+                    }
+                }
+            }
+        }
+    }
+
+    /// Uses a pointer whose arguments are there: it keeps them, or is called with them.
+    fn use_pointer<T: NativeTable<H>>(
+        &self,
+        run: &mut Context<H>,
+        table: &mut T,
+        pointer: PointerUse<H>,
+        values: &mut Few<Dynamic<H>>,
+        pos: Position,
+    ) -> Called<H>
+        ensures counts { run.old.global.num_operations ≤ run.new.global.num_operations }
+        ensures sight { KeepsSight run.old.global run.new.global }
+        ensures scope { run.new.scope ≡ run.old.scope }
+        ensures runs { GoesOut (under H.name_of self.now T.natives)
+            (purpose_of pointer pos) values.old true pos
+            (state_in (T.state table.old) run.old) (with_args result values.new)
+            (state_in (T.state table.new) run.new) }
+    {
+        match pointer {
+            PointerUse::Curry(pointer) => {
+                Called::Ended(with_curried(self.alloc, pointer, values, pos))
+            }
+            PointerUse::Linked(function, curried) => {
+                let cells = &run.global.cells;
+                call_function(self.alloc, cells, function, curried, values, pos)
+            }
+            PointerUse::Number(id, curried) => {
+                let limits = self.limits;
+                let global = &mut run.global;
+                Called::Ended(call_number(
+                    limits, self.alloc, global, table, id, "call", curried, values, pos,
+                ))
+            }
+        }
+    }
+
+    /// Gives a pointer more arguments, or calls it with them. It is called as the function that it is linked
+    /// to, or by a native's number. The arguments are kept as they are. How it ended stands in the run.
+    #[cycle(eval)]
+    fn run_pointer<T: NativeTable<H>>(
+        &self,
+        run: &mut Context<H>,
+        table: &mut T,
+        pointer: PointerUse<H>,
+        args: &[Expr],
+        pos: Position,
+    ) -> bool
+        requires { SuitsNames run.old (all_resolve_exprs (map tests_of args.now)) }
+        ensures counts { IsTrue result → run.old.global.num_operations ≤ run.new.global.num_operations }
+        ensures names { IsTrue result → KeepsNames run.old run.new }
+        ensures runs { StartsAs (under H.name_of self.now T.natives)
+            (arguments_core (under H.name_of self.now T.natives).setting (purpose_of pointer pos) [] args.now)
+            (state_in (T.state table.old) run.old)
+            (came result run.new.value run.new.error) (state_in (T.state table.new) run.new) }
+    {
+        let mut values = Few::new(self.alloc);
+        if !self.run_more_args(run, table, &mut values, args, false) {
+            drop(pointer);
+            drop(values);
+            return false;
+        }
+        let called = self.use_pointer(run, table, pointer, &mut values, pos);
+        let done = self.finish_call(run, table, called, &mut values, true, pos);
+        drop(values);
+        done
+    }
+}

@@ -1,0 +1,118 @@
+//! Plain calls of functions of scripts, whose arguments become their variables at once. Ports the part of
+//! upstream's `func/call.rs` and `call_script_fn` that such a call takes; the contracts speak of the
+//! machine's runs.
+
+ghost use Rattle.std.specs.Prelude.{◌≡◌, ◌≤◌, [], None, IsTrue, false, length, map};
+ghost use Rattle.rhai_tree.specs.Frame.{all_resolve_exprs, tests_of};
+ghost use Rattle.rhai_machine.specs.language.Arguments.{arguments_core};
+ghost use Rattle.rhai_machine.specs.language.Calls.{plainly};
+ghost use Rattle.rhai_machine.specs.language.Frames.{ToCall};
+ghost use Rattle.rhai_context.specs.Ends.{came};
+ghost use Rattle.rhai_plain.specs.Callees.{IsPlain};
+ghost use Rattle.rhai_eval_core.specs.Agreement.{KeepsNames, SuitsNames};
+ghost use Rattle.rhai_eval_core.specs.Calls.{Fills, StartsAs};
+ghost use Rattle.rhai_eval_core.specs.States.{state_in, under};
+
+use crate::evaluator::Evaluator;
+use rhai_bodies::callers::definition_of;
+use rhai_bodies::opening::statements_of;
+use rhai_context::{Context, keep_variables, lend_variables};
+use rhai_plain::calls::{ends_before, enter_plain, leave_plain, stops_by_race};
+use rhai_plain::parameters::push_parameter;
+use rhai_state::scope::ScopeEntry;
+use rhai_state::table::NativeTable;
+use rhai_tree::checked::CheckedFn;
+use rhai_tree::expr::{Expr, FnCallExpr};
+use rhai_tree::function::ScriptFuncDef;
+use rhai_tree::position::Position;
+use rhai_tree::{Items, Shared};
+use rhai_values::base::value::Host;
+
+impl<'e, H: Host> Evaluator<'e, H> {
+    /// Evaluates a call whose function is known before its arguments are evaluated. Its variables keep their
+    /// room for another call. How it ended stands in the run.
+    #[inline(never)]
+    #[cycle(eval)]
+    pub(crate) fn run_plain_call<T: NativeTable<H>>(
+        &self,
+        run: &mut Context<H>,
+        table: &mut T,
+        call: &FnCallExpr,
+        function: Shared<CheckedFn>,
+        pos: Position,
+    ) -> bool
+        requires resolves { SuitsNames run.old (all_resolve_exprs (map tests_of call.now.args)) }
+        requires plain { IsPlain call.now run.old.global.lib function }
+        ensures counts { IsTrue result → run.old.global.num_operations ≤ run.new.global.num_operations }
+        ensures names { IsTrue result → KeepsNames run.old run.new }
+        ensures runs { let rules = under H.name_of self.now T.natives in
+            StartsAs rules (arguments_core rules.setting
+            (ToCall (record { name = call.now.name; token = None; at = pos })
+            [] (plainly false false)) [] call.now.args)
+            (state_in (T.state table.old) run.old)
+            (came result run.new.value run.new.error) (state_in (T.state table.new) run.new) }
+    {
+        let def = definition_of(&function);
+        let mut variables = lend_variables(self.alloc, run);
+        let args = call.args.as_slice();
+        if !self.run_parameters(run, table, &mut variables, def, args) {
+            keep_variables(run, variables);
+            return false;
+        }
+        let cells = &run.global.cells;
+        if stops_by_race(
+            self.alloc,
+            cells,
+            &mut run.error,
+            variables.as_slice(),
+            call,
+            pos,
+        ) {
+            keep_variables(run, variables);
+            return false;
+        }
+        let (global, out, place) = (&mut run.global, &mut run.value, &mut run.error);
+        if let Some(done) = ends_before(self.limits, global, out, place, def, pos) {
+            keep_variables(run, variables);
+            return done;
+        }
+        let entered = enter_plain(run, variables);
+        let statements = statements_of(def);
+        let done = self.run_stmt_block(run, table, statements, true);
+        leave_plain(self.alloc, run, def, entered, done, pos)
+    }
+
+    /// Makes the values of arguments a function's variables, from left to right and flattened. Tells whether
+    /// it went well; an error stands in the run. Asked: there is no variable yet, and there are as many
+    /// arguments as parameters.
+    #[cycle(eval)]
+    fn run_parameters<T: NativeTable<H>>(
+        &self,
+        run: &mut Context<H>,
+        table: &mut T,
+        variables: &mut Items<ScopeEntry<H>>,
+        def: &ScriptFuncDef,
+        args: &[Expr],
+    ) -> bool
+        requires resolves { SuitsNames run.old (all_resolve_exprs (map tests_of args.now)) }
+        requires empty { variables.old ≡ [] }
+        requires takes { length def.now.params ≡ length args.now }
+        ensures counts { IsTrue result → run.old.global.num_operations ≤ run.new.global.num_operations }
+        ensures names { IsTrue result → KeepsNames run.old run.new }
+        ensures fills { Fills (under H.name_of self.now T.natives) def.now.params args.now result
+            variables.new (state_in (T.state table.old) run.old) run.new.error
+            (state_in (T.state table.new) run.new) }
+    {
+        'each_arg: for arg in args {
+            if !self.run_arg(run, table, arg) {
+                return false;
+            }
+            let cells = &run.global.cells;
+            let (out, place) = (&mut run.value, &mut run.error);
+            if !push_parameter(self.alloc, cells, out, place, variables, def, arg) {
+                return false;
+            }
+        }
+        true
+    }
+}

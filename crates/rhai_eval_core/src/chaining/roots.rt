@@ -1,0 +1,332 @@
+//! What stands around the walk of a chain: its root, and what the end of the chain takes back. Ports what
+//! upstream's `eval_dot_index_chain` does with the root. The contracts speak of the machine's runs and cite
+//! specs/Calls.antt.
+
+ghost use Rattle.std.specs.Prelude.{◌≡◌, ◌≤◌, ◌<◌, IfSome, Some, None, [], true, false, is_some, length};
+ghost use Rattle.rhai_tree.specs.declared.expr.Expr.{out-Expr};
+ghost use Rattle.rhai_tree.specs.Positions.{position_of};
+ghost use Rattle.rhai_values.specs.Cells.{cells_of};
+ghost use Rattle.rhai_state.specs.Errors.{is_out_of_memory};
+ghost use Rattle.rhai_state.specs.Scope.{entries_of};
+ghost use Rattle.rhai_state.specs.declared.error.EvalAltResult.TheVariants as error;
+ghost use Rattle.rhai_machine.specs.language.Chains.{this_root_core};
+ghost use Rattle.rhai_machine.specs.language.Frames.{Back, ReadRoot, RootValue};
+ghost use Rattle.rhai_machine.specs.language.Runs.{Runs};
+ghost use Rattle.rhai_machine.specs.language.State.{Answers};
+ghost use Rattle.rhai_machine.specs.language.Values.{flat};
+ghost use Rattle.rhai_machine.specs.language.Variables.{variable_named};
+ghost use Rattle.rhai_steps.specs.Agreement.{AgreesAt, KeepsSight, variable_is_good};
+ghost use Rattle.rhai_steps.specs.Offers.{globals_in};
+ghost use Rattle.rhai_steps.specs.States.{state_of};
+ghost use Rattle.rhai_chains.specs.Chains.{chain_at, Walks};
+ghost use Rattle.rhai_eval_core.specs.Agreement.{KeepsNames, SuitsNames};
+ghost use Rattle.rhai_eval_core.specs.Calls.{RunsUnder, StartsAs};
+ghost use Rattle.rhai_context.specs.Ends.{came, came_some, error_in};
+ghost use Rattle.rhai_eval_core.specs.Roots.{GoesBack, LendsVariable, RefusesThis};
+ghost use Rattle.rhai_eval_core.specs.States.{under};
+ghost use Rattle.rhai_machine.specs.language.Calls.{is_held as is_anothers};
+
+use crate::evaluator::Evaluator;
+use rhai_calls::dispatch::is_held;
+use rhai_chains::chain::NewValue;
+use rhai_context::Context;
+use rhai_context::ends::{stop, take_value};
+use rhai_context::outcomes::flatten_at;
+use rhai_functions::function::Offered;
+use rhai_state::error::EvalAltResult;
+use rhai_state::scope::Scope;
+use rhai_state::state::GlobalRuntimeState;
+use rhai_state::table::NativeTable;
+use rhai_steps::errors::{data_race, data_race_of};
+use rhai_steps::values::{let_go, unit_value};
+use rhai_steps::variables::{entry_of_variable, read_beside};
+use rhai_tree::expr::{Expr, Namespace};
+use rhai_tree::position::Position;
+use rhai_tree::{Shared, Text};
+use rhai_values::base::value::{Dynamic, Host};
+use rhai_values::cells::CellStore;
+use std::alloc::Global;
+use std::mem::replace;
+use std::num::NonZeroUsize;
+
+/// Tells whether a value is the handle of a cell that is held. The error is left in `place` then.
+pub(crate) fn refuses_held<H: Host>(
+    alloc: Global,
+    cells: &CellStore<H>,
+    value: &Dynamic<H>,
+    place: &mut Option<EvalAltResult<H>>,
+    pos: Position,
+) -> bool
+    ensures seen { result ≡ is_anothers (cells_of cells.now) value.now.value }
+    ensures told { result ≡ true → is_out_of_memory (error_in place.new) ≡ false →
+        error_in place.new ≡ error.ErrorDataRace [] pos }
+{
+    let is_anothers = is_held(cells, value);
+    if is_anothers {
+        stop(place, data_race(alloc, pos));
+    }
+    is_anothers
+}
+
+/// Takes out what the walk of a chain begins on that a variable means. It is an entry's value, with the
+/// entry, which has `()` meanwhile, or a temporary. Asked: the offset leads to the newest variable of the
+/// name.
+///
+/// # Errors
+/// `ErrorDataRace` at the name for an entry that is the handle of a cell that is held, and those of
+/// `read_beside`. It is left in `place`, and the variables stay.
+fn lend_variable<H: Host>(
+    alloc: Global,
+    offered: &Offered<'_, H>,
+    global: &GlobalRuntimeState<H>,
+    scope: &mut Scope<H>,
+    place: &mut Option<EvalAltResult<H>>,
+    offset: Option<NonZeroUsize>,
+    name: &Shared<Text>,
+    namespace: &Namespace,
+    pos: Position,
+) -> Option<(Option<usize>, Dynamic<H>)>
+    requires { AgreesAt global.now scope.old (variable_is_good offset name.now namespace.now.path) }
+    ensures lends { LendsVariable (globals_in offered.now) global.now
+        (variable_named name.now namespace.now pos) (entries_of scope.old) (came_some result place.new)
+        (entries_of scope.new) }
+    ensures within { IfSome result (λ lent. IfSome lent.0 (λ at. at < length (entries_of scope.new))) }
+    ensures kept { result ≡ None → scope.new ≡ scope.old }
+{
+    match entry_of_variable(global, scope, offset, name, namespace) {
+        None => match read_beside(alloc, offered, global, name, namespace, pos) {
+            Ok(value) => Some((None, value)),
+            Err(error) => {
+                stop(place, error);
+                None
+            }
+        },
+        Some(index) => {
+            let is_anothers = is_held(&global.cells, scope.value_at(index));
+            if is_anothers {
+                stop(place, data_race_of(name, pos));
+                return None;
+            }
+            Some((Some(index), scope.replace_value(index, unit_value())))
+        }
+    }
+}
+
+/// Puts what a walk began on back into the variable that it was lent from; a temporary is let go. Tells
+/// whether the walk went well.
+fn give_variable<H: Host>(
+    scope: &mut Scope<H>,
+    index: Option<usize>,
+    focus: Dynamic<H>,
+    mark: Option<bool>,
+) -> bool
+    requires { IfSome index (λ at. at < length (entries_of scope.old)) }
+    ensures back { GoesBack index focus (entries_of scope.old) (entries_of scope.new) }
+    ensures well { result ≡ is_some mark }
+{
+    match index {
+        Some(at) => let_go(scope.replace_value(at, focus)),
+        None => let_go(focus),
+    }
+    mark.is_some()
+}
+
+/// Lets go of a temporary that a walk began on. Tells whether the walk went well.
+fn leave_temporary<H: Host>(focus: Dynamic<H>, mark: Option<bool>) -> bool
+    ensures { result ≡ is_some mark }
+{
+    let_go(focus);
+    mark.is_some()
+}
+
+/// Takes `this` out, for a walk to begin on.
+///
+/// # Errors
+/// At the position `ErrorUnboundThis`, and `ErrorDataRace` for the handle of a cell that is held. It is left
+/// in `place`, and `this` stays.
+fn lend_this<H: Host>(
+    alloc: Global,
+    cells: &CellStore<H>,
+    this: &mut Option<Dynamic<H>>,
+    place: &mut Option<EvalAltResult<H>>,
+    pos: Position,
+) -> Option<Dynamic<H>>
+    ensures lent { IfSome result (λ v.
+        (this.old ≡ Some v) × (is_anothers (cells_of cells.now) v.value ≡ false)) }
+    ensures kept { result ≡ None → this.new ≡ this.old }
+    ensures refused { result ≡ None → RefusesThis (cells_of cells.now) pos this.old (error_in place.new) }
+{
+    match replace(this, None) {
+        None => {
+            stop(place, EvalAltResult::ErrorUnboundThis(pos));
+            None
+        }
+        Some(value) => {
+            if refuses_held(alloc, cells, &value, place, pos) {
+                drop(replace(this, Some(value)));
+                return None;
+            }
+            Some(value)
+        }
+    }
+}
+
+/// Puts what a walk began on back as `this`. Tells whether the walk went well.
+fn give_this<H: Host>(this: &mut Option<Dynamic<H>>, focus: Dynamic<H>, mark: Option<bool>) -> bool
+    ensures back { this.new ≡ Some focus }
+    ensures well { result ≡ is_some mark }
+{
+    drop(replace(this, Some(focus)));
+    mark.is_some()
+}
+
+/// Takes the run's value that an expression gave. Of a handle it is a copy of the cell's value. An error is
+/// left in `place`.
+#[inline(always)]
+pub(crate) fn take_flat<H: Host>(
+    alloc: Global,
+    cells: &CellStore<H>,
+    out: &mut Dynamic<H>,
+    place: &mut Option<EvalAltResult<H>>,
+    expr: &Expr,
+) -> Option<Dynamic<H>>
+    ensures { Answers (came_some result place.new)
+        (flat (cells_of cells.now) out.old (position_of expr.now)) }
+{
+    if !flatten_at(alloc, cells, out, place, expr) {
+        return None;
+    }
+    Some(take_value(out))
+}
+
+impl<'e, H: Host> Evaluator<'e, H> {
+    /// Walks a chain from a variable, which is charged already, its arguments there. The value of an entry is
+    /// taken out, walked on, and put back on every way out; on what is no entry the walk begins as on a
+    /// temporary. Asked: the offset leads to the newest variable of the name.
+    ///
+    /// # Errors
+    /// Those of `lend_variable` and of `walk_chain`.
+    #[cycle(eval)]
+    pub(crate) fn walk_variable<T: NativeTable<H>>(
+        &self,
+        run: &mut Context<H>,
+        table: &mut T,
+        offset: Option<NonZeroUsize>,
+        name: &Shared<Text>,
+        namespace: &Namespace,
+        pos: Position,
+        root: &Expr,
+        rest: &Expr,
+        args: &mut [Dynamic<H>],
+        new: Option<NewValue<H>>,
+    ) -> bool
+        requires good { SuitsNames run.old (variable_is_good offset name.now namespace.now.path) }
+        requires walks { Walks (is_some new) (out-Expr rest.now) (length args.old) }
+        ensures counts { run.old.global.num_operations ≤ run.new.global.num_operations }
+        ensures names { KeepsNames run.old run.new }
+        ensures this { run.new.this ≡ run.old.this }
+        ensures runs { (held : _) (in_place : _) → Runs (under H.name_of self.now T.natives)
+            (ReadRoot (variable_named name.now namespace.now pos)
+            (chain_at root.now (out-Expr rest.now) args.old new in_place))
+            (state_of (T.state table.old) run.old.global run.old.scope held)
+            (came result run.new.value run.new.error)
+            (state_of (T.state table.new) run.new.global run.new.scope held) }
+    {
+        let (global, scope, place) = (&run.global, &mut run.scope, &mut run.error);
+        let lent = lend_variable(
+            self.alloc,
+            &self.offered,
+            global,
+            scope,
+            place,
+            offset,
+            name,
+            namespace,
+            pos,
+        );
+        let Some((index, value)) = lent else {
+            drop(new);
+            return false;
+        };
+        let mut focus = value;
+        let in_place = index.is_some();
+        let mark = self.walk_chain(run, table, root, &mut focus, rest, args, new, in_place);
+        give_variable(&mut run.scope, index, focus, mark)
+    }
+
+    /// Walks a chain from `this`, which is charged already, its arguments there. Its value is taken out,
+    /// walked on, and put back on every way out.
+    ///
+    /// # Errors
+    /// At `this`: `ErrorUnboundThis`, and `ErrorDataRace` where it is the handle of a cell that is held. All
+    /// others are those of `walk_chain`.
+    #[cycle(eval)]
+    pub(crate) fn walk_this<T: NativeTable<H>>(
+        &self,
+        run: &mut Context<H>,
+        table: &mut T,
+        pos: Position,
+        root: &Expr,
+        rest: &Expr,
+        args: &mut [Dynamic<H>],
+        new: Option<NewValue<H>>,
+    ) -> bool
+        requires walks { Walks (is_some new) (out-Expr rest.now) (length args.old) }
+        ensures counts { run.old.global.num_operations ≤ run.new.global.num_operations }
+        ensures sight { KeepsSight run.old.global run.new.global }
+        ensures scope { run.new.scope ≡ run.old.scope }
+        ensures runs { (scope : _) (focus : _) (in_place : _) →
+            StartsAs (under H.name_of self.now T.natives)
+            (this_root_core pos (chain_at root.now (out-Expr rest.now) args.old new in_place))
+            (state_of (T.state table.old) run.old.global scope
+            (record { this = run.old.this; focus = focus }))
+            (came result run.new.value run.new.error)
+            (state_of (T.state table.new) run.new.global scope
+            (record { this = run.new.this; focus = focus })) }
+    {
+        let (cells, this) = (&run.global.cells, &mut run.this);
+        let Some(value) = lend_this(self.alloc, cells, this, &mut run.error, pos) else {
+            drop(new);
+            return false;
+        };
+        let mut focus = value;
+        let mark = self.walk_chain(run, table, root, &mut focus, rest, args, new, true);
+        give_this(&mut run.this, focus, mark)
+    }
+
+    /// Walks a chain from the run's value, which is no variable's, its arguments there. The walk begins on
+    /// that as a temporary, of a handle on a copy of the cell's value. What it leaves there is let go.
+    ///
+    /// # Errors
+    /// `ErrorDataRace` at the root for the handle of a cell that is held. All others are those of
+    /// `walk_chain`.
+    #[cycle(eval)]
+    pub(crate) fn walk_value<T: NativeTable<H>>(
+        &self,
+        run: &mut Context<H>,
+        table: &mut T,
+        root: &Expr,
+        rest: &Expr,
+        args: &mut [Dynamic<H>],
+    ) -> bool
+        requires walks { Walks false (out-Expr rest.now) (length args.old) }
+        ensures counts { run.old.global.num_operations ≤ run.new.global.num_operations }
+        ensures sight { KeepsSight run.old.global run.new.global }
+        ensures scope { run.new.scope ≡ run.old.scope }
+        ensures this { run.new.this ≡ run.old.this }
+        ensures runs { (scope : _) (held : _) (in_place : _) →
+            RunsUnder (under H.name_of self.now T.natives) (Back run.old.value)
+            (RootValue (chain_at root.now (out-Expr rest.now) args.old None in_place))
+            (state_of (T.state table.old) run.old.global scope held)
+            (came result run.new.value run.new.error)
+            (state_of (T.state table.new) run.new.global scope held) }
+    {
+        let (cells, out) = (&run.global.cells, &mut run.value);
+        let Some(value) = take_flat(self.alloc, cells, out, &mut run.error, root) else {
+            return false;
+        };
+        let mut focus = value;
+        let mark = self.walk_chain(run, table, root, &mut focus, rest, args, None, false);
+        leave_temporary(focus, mark)
+    }
+}

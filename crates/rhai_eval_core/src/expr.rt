@@ -1,0 +1,170 @@
+//! Expressions. Ports upstream's `eval/expr.rs`; the contracts speak of the machine's runs.
+
+ghost use Rattle.std.specs.Prelude.{◌≡◌, ◌<◌, ◌&&◌, IfErr, IfSome, IsTrue, None, is_some, true, false};
+ghost use Rattle.rhai_tree.specs.declared.expr.Expr.{out-Expr};
+ghost use Rattle.rhai_tree.specs.Frame.{resolves_expr};
+ghost use Rattle.rhai_state.specs.Errors.{is_out_of_memory};
+ghost use Rattle.rhai_state.specs.Scope.{entries_of};
+ghost use Rattle.rhai_machine.specs.language.Values.{is_handle, is_truth};
+ghost use Rattle.rhai_machine.specs.language.Frames.{Eval};
+ghost use Rattle.rhai_machine.specs.language.Runs.{Runs};
+ghost use Rattle.rhai_machine.specs.language.Setting.{rules_of};
+ghost use Rattle.rhai_steps.specs.Agreement.{AgreesAt, KeepsSight};
+ghost use Rattle.rhai_steps.specs.States.{state_of};
+ghost use Rattle.rhai_operands.specs.Standing.{condition_truth};
+ghost use Rattle.rhai_operands.specs.Tests.{Tests};
+ghost use Rattle.rhai_context.specs.Ends.{came, came_test, error_in};
+ghost use Rattle.rhai_eval_core.specs.Agreement.{KeepsNames, SuitsNames};
+ghost use Rattle.rhai_eval_core.specs.Memory.{asks_expr};
+ghost use Rattle.rhai_eval_core.specs.States.{state_in, under};
+
+mod choices;
+mod data;
+
+use crate::evaluator::Evaluator;
+use rhai_context::Context;
+use rhai_context::outcomes::{charge_expr, truth_left};
+use rhai_operands::operators::truth_in_place;
+use rhai_operands::reading::read_expr;
+use rhai_state::error::EvalAltResult;
+use rhai_state::limits::Limits;
+use rhai_state::scope::Scope;
+use rhai_state::state::GlobalRuntimeState;
+use rhai_state::table::NativeTable;
+use rhai_tree::expr::Expr;
+use rhai_values::base::value::Host;
+use std::alloc::Global;
+
+/// Tells whether a condition holds that is answered at once. Under fast operators that is one that compares
+/// operands which stand; None in Some where it stopped the run. None for any other: then nothing is charged.
+/// The table is not called.
+///
+/// # Errors
+/// `ErrorTooManyOperations` at the operator or an operand where the count has reached the limit.
+#[inline(always)]
+fn holds_at_once<H: Host, T: NativeTable<H>>(
+    limits: &Limits,
+    alloc: Global,
+    global: &mut GlobalRuntimeState<H>,
+    table: &T,
+    scope: &Scope<H>,
+    place: &mut Option<EvalAltResult<H>>,
+    test: &Expr,
+    is_fast: bool,
+) -> Option<Option<bool>>
+    requires { AgreesAt global.old scope.now (resolves_expr test.now) }
+    ensures found { is_some result ≡ (is_fast && is_some (condition_truth (out-Expr test.now) (entries_of scope.now))) }
+    ensures left_alone { result ≡ None → global.new ≡ global.old }
+    ensures charges { IfSome result (λ told. IfSome told (λ _.
+        global.old.num_operations < global.new.num_operations)) }
+    ensures memory { IfSome result (λ told. told ≡ None → is_out_of_memory (error_in place.new) ≡ false) }
+    ensures sight { KeepsSight global.old global.new }
+    ensures runs { (offer : _) (held : _) → offer.fast_operators ≡ is_fast →
+        IfSome result (λ told. Tests (rules_of limits.now H.name_of offer T.natives) test.now
+        (state_of (T.state table.now) global.old scope.now held)
+        (came_test told place.new) (state_of (T.state table.now) global.new scope.now held)) }
+{
+    if is_fast {
+        truth_in_place(limits, alloc, global, table, scope, place, test)
+    } else {
+        None
+    }
+}
+
+impl<'e, H: Host> Evaluator<'e, H> {
+    /// Evaluates an expression. How it ended stands in the run.
+    #[cycle(eval)]
+    pub fn run_expr<T: NativeTable<H>>(
+        &self,
+        run: &mut Context<H>,
+        table: &mut T,
+        expr: &Expr,
+    ) -> bool
+        requires resolves { SuitsNames run.old (resolves_expr expr.now) }
+        ensures charges { IsTrue result → run.old.global.num_operations < run.new.global.num_operations }
+        ensures names { IsTrue result → KeepsNames run.old run.new }
+        ensures runs { Runs (under H.name_of self.now T.natives) (Eval expr.now)
+            (state_in (T.state table.old) run.old)
+            (came result run.new.value run.new.error) (state_in (T.state table.new) run.new) }
+        ensures memory { IfErr (came result run.new.value run.new.error) (λ error.
+            is_out_of_memory error ≡ true → IsTrue (asks_expr expr.now).0) }
+        ensures plain { IsTrue result → is_handle run.new.value.value ≡ true → IsTrue (asks_expr expr.now).0 }
+        ensures truth { IsTrue result → is_truth run.new.value.value ≡ false → IsTrue (asks_expr expr.now).1 }
+    {
+        if !charge_expr(self.limits, &mut run.global, &mut run.error, expr) {
+            return false;
+        }
+        match expr {
+            Expr::FnCall(call, pos) => self.run_fn_call_expr(run, table, call, *pos),
+            Expr::Stmt(block) => {
+                self.run_stmt_block(run, table, block.statements.as_slice(), true)
+            }
+            Expr::And(parts, _) => self.run_until(run, table, parts.as_slice(), false),
+            Expr::Or(parts, _) => self.run_until(run, table, parts.as_slice(), true),
+            Expr::Coalesce(parts, _) => self.run_coalesce(run, table, parts.as_slice()),
+            Expr::Array(items, pos) => self.run_array(run, table, items.as_slice(), *pos),
+            Expr::Map(entries, _, pos) => { self.run_map(run, table, entries.as_slice(), *pos) }
+            Expr::InterpolatedString(parts, pos) => {
+                self.run_interpolated(run, table, parts.as_slice(), *pos)
+            }
+            Expr::Dot(root, ..) => self.read_chain(run, table, root.get(), expr),
+            Expr::Index(root, ..) => self.read_chain(run, table, root.get(), expr),
+            _ => read_expr(
+                self.alloc,
+                &run.global,
+                &self.offered,
+                &run.scope,
+                &run.this,
+                &mut run.value,
+                &mut run.error,
+                expr,
+            ),
+        }
+    }
+
+    /// Tells whether a condition holds. Under fast operators one that compares operands which stand is
+    /// answered at once. None where it stopped the run, whose error stands there.
+    #[inline(always)]
+    #[cycle(eval)]
+    pub(crate) fn run_condition<T: NativeTable<H>>(
+        &self,
+        run: &mut Context<H>,
+        table: &mut T,
+        test: &Expr,
+    ) -> Option<bool>
+        requires resolves { SuitsNames run.old (resolves_expr test.now) }
+        ensures charges { IfSome result (λ _.
+            run.old.global.num_operations < run.new.global.num_operations) }
+        ensures names { IfSome result (λ _. KeepsNames run.old run.new) }
+        ensures runs { Tests (under H.name_of self.now T.natives) test.now
+            (state_in (T.state table.old) run.old) (came_test result run.new.error)
+            (state_in (T.state table.new) run.new) }
+        ensures memory { result ≡ None → is_out_of_memory (error_in run.new.error) ≡ true →
+            IsTrue (asks_expr test.now).1 }
+    {
+        match holds_at_once(
+            self.limits,
+            self.alloc,
+            &mut run.global,
+            &*table,
+            &run.scope,
+            &mut run.error,
+            test,
+            self.fast_operators,
+        ) {
+            Some(told) => told,
+            None => {
+                if !self.run_expr(run, table, test) {
+                    return None;
+                }
+                truth_left(
+                    self.alloc,
+                    &run.global.cells,
+                    &mut run.value,
+                    &mut run.error,
+                    test,
+                )
+            }
+        }
+    }
+}

@@ -1,0 +1,524 @@
+//! Statements. Ports upstream's `eval/stmt.rs`; the contracts speak of the machine's runs.
+
+ghost use Rattle.std.specs.Prelude.{◌≡◌, ◌<◌, ◌≤◌, IfErr, IfSome, IsTrue, true, false};
+ghost use Rattle.std.specs.Prelude.{None, length, map};
+ghost use Rattle.rhai_tree.specs.Frame.{tests_of, target_resolves, resolves_expr, resolves_stmt};
+ghost use Rattle.rhai_tree.specs.Frame.{all_resolve, resolves_block, var_names, var_resolves};
+ghost use Rattle.rhai_tree.specs.declared.expr.Stmt.{out-Stmt};
+ghost use Rattle.rhai_tree.specs.declared.expr.Expr.TheOpen as layer;
+ghost use Rattle.rhai_state.specs.Errors.{is_out_of_memory};
+ghost use Rattle.rhai_machine.specs.language.Frames.{Exec, OpenStmt, Enter, Run};
+ghost use Rattle.rhai_machine.specs.language.Runs.{Runs};
+ghost use Rattle.rhai_machine.specs.language.Setting.{rules_of};
+ghost use Rattle.rhai_steps.specs.Agreement.{AgreesAt, KeepsSight, changes, passes};
+ghost use Rattle.rhai_steps.specs.States.{state_of};
+ghost use Rattle.rhai_assign.specs.Keeps.{Keeps};
+ghost use Rattle.rhai_context.specs.Ends.{came};
+ghost use Rattle.rhai_eval_core.specs.Agreement.{ChangesNames, Declared, KeepsNames, RestoresNames, SuitsNames};
+ghost use Rattle.rhai_eval_core.specs.Memory.{asks_if, asks_stmt, may_ask};
+ghost use Rattle.rhai_eval_core.specs.States.{names, state_in, under};
+ghost use Rattle.rhai_tree.specs.Names.{naming, with_import};
+ghost use Rattle.rhai_tree.specs.Forms.{name_asked};
+ghost use Rattle.rhai_machine.specs.language.Values.{unit_value as unit};
+
+mod loops;
+mod switch;
+mod tries;
+mod walks;
+
+use crate::evaluator::Evaluator;
+use rhai_assign::in_place::assign_in_place;
+use rhai_assign::left::{assign_from_run, assign_this_from_run};
+use rhai_assign::lists::open_list;
+use rhai_context::Context;
+use rhai_context::ends::{leave_unit, put_unit, stop};
+use rhai_context::outcomes::{charge_stmt, flatten_at};
+use rhai_items::assign_item;
+use rhai_modules::importing::{import_module, may_import};
+use rhai_sharing::declaring::{declare, is_declarable};
+use rhai_sharing::exporting::export_variable;
+use rhai_sharing::share_variables;
+use rhai_state::error::EvalAltResult;
+use rhai_state::limits::Limits;
+use rhai_state::scope::Scope;
+use rhai_state::state::GlobalRuntimeState;
+use rhai_state::table::NativeTable;
+use rhai_steps::loops::choose_list;
+use rhai_steps::variables::leave_list;
+use rhai_tree::expr::{Expr, Ident, OpAssignment, Stmt, StmtBlock};
+use rhai_tree::flags::ASTFlags;
+use rhai_tree::position::Position;
+use rhai_values::base::value::{Dynamic, Host};
+use std::alloc::Global;
+use std::num::NonZeroUsize;
+
+/// Assigns at once under fast operators, where that is possible. It is by an operator to a variable, where
+/// its value is an operand that stands and there is a built-in for it, and to an item of an array that a
+/// variable has, where all that it works on are integers as they stand. None for any other: then nothing is
+/// charged. The table is not called.
+///
+/// # Errors
+/// Those of `assign_in_place`.
+fn assign_at_once<H: Host, T: NativeTable<H>>(
+    limits: &Limits,
+    alloc: Global,
+    global: &mut GlobalRuntimeState<H>,
+    table: &T,
+    scope: &mut Scope<H>,
+    out: &mut Dynamic<H>,
+    place: &mut Option<EvalAltResult<H>>,
+    op: &OpAssignment,
+    lhs: &Expr,
+    rhs: &Expr,
+    is_fast: bool,
+) -> Option<bool>
+    requires resolves_target { AgreesAt global.old scope.old (target_resolves (tests_of lhs.now)) }
+    requires resolves { AgreesAt global.old scope.old (resolves_expr rhs.now) }
+    ensures left_global { result ≡ None → global.new ≡ global.old }
+    ensures left_scope { result ≡ None → scope.new ≡ scope.old }
+    ensures keeps { Keeps global.old global.new scope.old scope.new }
+    ensures sight { KeepsSight global.old global.new }
+    ensures runs { (offer : _) (held : _) (restoring : _) → offer.fast_operators ≡ is_fast →
+        IfSome result (λ done. Runs (rules_of limits.now H.name_of offer T.natives)
+        (OpenStmt (layer.Assignment op.now lhs.now rhs.now) restoring)
+        (state_of (T.state table.now) global.old scope.old held)
+        (came done out.new place.new) (state_of (T.state table.now) global.new scope.new held)) }
+{
+    if !is_fast {
+        return None;
+    }
+    if let Expr::Index(..) = lhs {
+        if !assign_item(limits, global, table, scope, op, lhs, rhs) {
+            return None;
+        }
+        put_unit(out);
+        return Some(true);
+    }
+    assign_in_place(
+        limits, alloc, global, table, scope, out, place, op, lhs, rhs,
+    )
+}
+
+impl<'e, H: Host> Evaluator<'e, H> {
+    /// Runs a statement, in a list that restores or not. How it ended stands in the run.
+    #[cycle(eval)]
+    pub fn run_stmt<T: NativeTable<H>>(
+        &self,
+        run: &mut Context<H>,
+        table: &mut T,
+        stmt: &Stmt,
+        restoring: bool,
+    ) -> bool
+        requires resolves { SuitsNames run.old (passes (resolves_stmt stmt.now)) }
+        ensures charges { IsTrue result → run.old.global.num_operations < run.new.global.num_operations }
+        ensures names { IsTrue result → ChangesNames run.old (changes (resolves_stmt stmt.now)) run.new }
+        ensures declared { IsTrue result → Declared (out-Stmt stmt.now) (names run.old) (names run.new) }
+        ensures runs { Runs (under H.name_of self.now T.natives) (Exec stmt.now restoring)
+            (state_in (T.state table.old) run.old) (came result run.new.value run.new.error)
+            (state_in (T.state table.new) run.new) }
+        ensures memory { IfErr (came result run.new.value run.new.error) (λ error.
+            is_out_of_memory error ≡ true → IsTrue (asks_stmt stmt.now)) }
+    {
+        if !charge_stmt(self.limits, &mut run.global, &mut run.error, stmt) {
+            return false;
+        }
+        match stmt {
+            Stmt::Noop(_) => leave_unit(&mut run.value),
+            Stmt::Expr(expr) => {
+                if !self.run_expr(run, table, expr) {
+                    return false;
+                }
+                flatten_at(
+                    self.alloc,
+                    &run.global.cells,
+                    &mut run.value,
+                    &mut run.error,
+                    expr,
+                )
+            }
+            Stmt::FnCall(call, pos) => self.run_fn_call_expr(run, table, call, *pos),
+            Stmt::Block(block) => {
+                self.run_stmt_block(run, table, block.statements.as_slice(), true)
+            }
+            Stmt::Assignment(op, lhs, rhs) => { self.run_assignment(run, table, op, lhs, rhs) }
+            Stmt::If(test, body, branch, _) => self.run_if(run, table, test, body, branch),
+            Stmt::Var(ident, value, index, options, pos) => self.run_var(
+                run, table, ident, value, *index, *options, *pos, restoring,
+            ),
+            Stmt::While(test, body, _) => self.run_while(run, table, test, body),
+            Stmt::Do(test, body, options, _) => { self.run_do(run, table, test, body, *options) }
+            Stmt::BreakLoop(value, options, pos) => {
+                self.run_break(run, table, value, *options, *pos)
+            }
+            Stmt::Return(value, options, pos) => {
+                self.run_return(run, table, value, *options, *pos)
+            }
+            Stmt::Switch {
+                expr,
+                expressions,
+                cases,
+                ranges,
+                def_case,
+                ..
+            } => self.run_switch(
+                run,
+                table,
+                expr,
+                expressions.as_slice(),
+                cases.as_slice(),
+                ranges.as_slice(),
+                *def_case,
+            ),
+            Stmt::For {
+                name,
+                counter,
+                expr,
+                body,
+                ..
+            } => self.run_for(run, table, name, counter, expr, body),
+            Stmt::TryCatch(body, variable, branch, _) => {
+                self.run_try(run, table, body, variable, branch)
+            }
+            Stmt::Share(variables) => {
+                let names = variables.as_slice();
+                share_variables(
+                    self.limits,
+                    &mut run.global,
+                    &*table,
+                    &mut run.scope,
+                    &mut run.value,
+                    &mut run.error,
+                    names,
+                )
+            }
+            Stmt::Export(ident, alias, _) => export_variable(
+                self.limits,
+                &run.global,
+                &*table,
+                &mut run.scope,
+                &mut run.value,
+                &mut run.error,
+                ident,
+                alias,
+            ),
+            Stmt::Import(path, alias, pos) => { self.run_import(run, table, path, alias, *pos) }
+        }
+    }
+
+    /// Runs an `if`: its condition, and then the list that it chooses. How it ended stands in the run.
+    #[inline(never)]
+    #[cycle(eval)]
+    fn run_if<T: NativeTable<H>>(
+        &self,
+        run: &mut Context<H>,
+        table: &mut T,
+        test: &Expr,
+        body: &StmtBlock,
+        branch: &StmtBlock,
+    ) -> bool
+        requires resolves_test { SuitsNames run.old (resolves_expr test.now) }
+        requires resolves_body { SuitsNames run.old (resolves_block body.now) }
+        requires resolves_branch { SuitsNames run.old (resolves_block branch.now) }
+        ensures counts { IsTrue result → run.old.global.num_operations ≤ run.new.global.num_operations }
+        ensures names { IsTrue result → KeepsNames run.old run.new }
+        ensures runs { (pos : _) (restoring : _) → Runs (under H.name_of self.now T.natives)
+            (OpenStmt (layer.If test.now body.now branch.now pos) restoring)
+            (state_in (T.state table.old) run.old)
+            (came result run.new.value run.new.error) (state_in (T.state table.new) run.new) }
+        ensures memory { IfErr (came result run.new.value run.new.error) (λ error.
+            is_out_of_memory error ≡ true → IsTrue (asks_if test.now body.now branch.now)) }
+    {
+        match self.run_condition(run, table, test) {
+            Some(holds) => {
+                let statements = choose_list(holds, body, branch);
+                self.run_stmt_block(run, table, statements, true)
+            }
+            None => false,
+        }
+    }
+
+    /// Runs an assignment to a variable, to `this`, or to what a chain leads to. Where it is not done at
+    /// once, its value is evaluated first. How it ended stands in the run.
+    #[inline(never)]
+    #[cycle(eval)]
+    fn run_assignment<T: NativeTable<H>>(
+        &self,
+        run: &mut Context<H>,
+        table: &mut T,
+        op: &OpAssignment,
+        lhs: &Expr,
+        rhs: &Expr,
+    ) -> bool
+        requires resolves_target { SuitsNames run.old (target_resolves (tests_of lhs.now)) }
+        requires resolves { SuitsNames run.old (resolves_expr rhs.now) }
+        ensures counts { IsTrue result → run.old.global.num_operations ≤ run.new.global.num_operations }
+        ensures names { IsTrue result → KeepsNames run.old run.new }
+        ensures runs { (restoring : _) → Runs (under H.name_of self.now T.natives)
+            (OpenStmt (layer.Assignment op.now lhs.now rhs.now) restoring)
+            (state_in (T.state table.old) run.old)
+            (came result run.new.value run.new.error) (state_in (T.state table.new) run.new) }
+    {
+        let at_once = assign_at_once(
+            self.limits,
+            self.alloc,
+            &mut run.global,
+            &*table,
+            &mut run.scope,
+            &mut run.value,
+            &mut run.error,
+            op,
+            lhs,
+            rhs,
+            self.fast_operators,
+        );
+        if let Some(done) = at_once {
+            return done;
+        }
+        self.assign_evaluated(run, table, *op, lhs, rhs)
+    }
+
+    /// Runs an assignment whose value is evaluated: `this` has to be bound before. How it ended stands in the
+    /// run.
+    #[inline(never)]
+    #[cycle(eval)]
+    fn assign_evaluated<T: NativeTable<H>>(
+        &self,
+        run: &mut Context<H>,
+        table: &mut T,
+        op: OpAssignment,
+        lhs: &Expr,
+        rhs: &Expr,
+    ) -> bool
+        requires resolves_target { SuitsNames run.old (target_resolves (tests_of lhs.now)) }
+        requires resolves { SuitsNames run.old (resolves_expr rhs.now) }
+        ensures counts { IsTrue result → run.old.global.num_operations ≤ run.new.global.num_operations }
+        ensures names { IsTrue result → KeepsNames run.old run.new }
+        ensures runs { (restoring : _) → Runs (under H.name_of self.now T.natives)
+            (OpenStmt (layer.Assignment op lhs.now rhs.now) restoring) (state_in (T.state table.old) run.old)
+            (came result run.new.value run.new.error) (state_in (T.state table.new) run.new) }
+    {
+        match lhs {
+            Expr::Variable {
+                offset,
+                name,
+                namespace,
+                pos,
+            } => {
+                if !self.run_expr(run, table, rhs) {
+                    return false;
+                }
+                let (cells, out, place) = (&run.global.cells, &mut run.value, &mut run.error);
+                if !flatten_at(self.alloc, cells, out, place, rhs) {
+                    return false;
+                }
+                assign_from_run(
+                    self.limits,
+                    self.alloc,
+                    &self.offered,
+                    &mut run.global,
+                    table,
+                    &mut run.scope,
+                    &mut run.value,
+                    &mut run.error,
+                    *offset,
+                    name,
+                    namespace,
+                    *pos,
+                    op,
+                    self.fast_operators,
+                )
+            }
+            Expr::ThisPtr(pos) => {
+                if run.this.is_none() {
+                    return stop(&mut run.error, EvalAltResult::ErrorUnboundThis(*pos));
+                }
+                if !self.run_expr(run, table, rhs) {
+                    return false;
+                }
+                let (cells, out, place) = (&run.global.cells, &mut run.value, &mut run.error);
+                if !flatten_at(self.alloc, cells, out, place, rhs) {
+                    return false;
+                }
+                assign_this_from_run(
+                    self.limits,
+                    self.alloc,
+                    &mut run.global,
+                    table,
+                    &mut run.this,
+                    &mut run.value,
+                    &mut run.error,
+                    *pos,
+                    op,
+                    self.fast_operators,
+                )
+            }
+            _ => self.assign_chain(run, table, op, lhs, rhs),
+        }
+    }
+
+    /// Declares a new variable, or overwrites another one. How it ended stands in the run.
+    #[inline(never)]
+    #[cycle(eval)]
+    fn run_var<T: NativeTable<H>>(
+        &self,
+        run: &mut Context<H>,
+        table: &mut T,
+        ident: &Ident,
+        value: &Expr,
+        index: Option<NonZeroUsize>,
+        options: ASTFlags,
+        pos: Position,
+        restoring: bool,
+    ) -> bool
+        requires resolves { SuitsNames run.old
+            (var_resolves index ident.now (tests_of value.now) options pos) }
+        ensures counts { IsTrue result → run.old.global.num_operations ≤ run.new.global.num_operations }
+        ensures names { IsTrue result → ChangesNames run.old (naming (var_names index ident.now.name)) run.new }
+        ensures declared { IsTrue result → names run.new ≡ var_names index ident.now.name (names run.old) }
+        ensures runs { Runs (under H.name_of self.now T.natives)
+            (OpenStmt (layer.Var ident.now value.now index options pos) restoring)
+            (state_in (T.state table.old) run.old) (came result run.new.value run.new.error)
+            (state_in (T.state table.new) run.new) }
+    {
+        if !is_declarable(
+            self.limits,
+            self.allow_shadowing,
+            &run.scope,
+            &mut run.error,
+            &ident.name,
+            index,
+            pos,
+        ) {
+            return false;
+        }
+        if !self.run_expr(run, table, value) {
+            return false;
+        }
+        if !flatten_at(
+            self.alloc,
+            &run.global.cells,
+            &mut run.value,
+            &mut run.error,
+            value,
+        ) {
+            return false;
+        }
+        declare(
+            self.alloc,
+            &mut run.global,
+            &mut run.scope,
+            &mut run.value,
+            &mut run.error,
+            ident,
+            index,
+            options,
+            restoring,
+            pos,
+        )
+    }
+
+    /// Runs an `import`: a module is imported under what its path gives. How it ended stands in the run.
+    #[inline(never)]
+    #[cycle(eval)]
+    fn run_import<T: NativeTable<H>>(
+        &self,
+        run: &mut Context<H>,
+        table: &mut T,
+        path: &Expr,
+        alias: &Option<Ident>,
+        pos: Position,
+    ) -> bool
+        requires resolves { SuitsNames run.old (resolves_expr path.now) }
+        ensures counts { IsTrue result → run.old.global.num_operations ≤ run.new.global.num_operations }
+        ensures names { IsTrue result → ChangesNames run.old (with_import (name_asked alias.now)) run.new }
+        ensures runs { (restoring : _) → Runs (under H.name_of self.now T.natives)
+            (OpenStmt (layer.Import path.now alias.now pos) restoring)
+            (state_in (T.state table.old) run.old) (came result run.new.value run.new.error)
+            (state_in (T.state table.new) run.new) }
+    {
+        if !may_import(self.limits, &run.global, &mut run.error, pos) {
+            return false;
+        }
+        if !self.run_expr(run, table, path) {
+            return false;
+        }
+        let (modules, out, place) = (self.modules, &mut run.value, &mut run.error);
+        import_module(
+            self.alloc,
+            modules,
+            &mut run.global,
+            out,
+            place,
+            path,
+            alias,
+        )
+    }
+
+    /// Runs a list of statements. A restoring list takes back on every way out the variables that it added,
+    /// the imports and the scope level; an empty one has no effect. How it ended stands in the run.
+    #[cycle(eval)]
+    pub fn run_stmt_block<T: NativeTable<H>>(
+        &self,
+        run: &mut Context<H>,
+        table: &mut T,
+        statements: &[Stmt],
+        restoring: bool,
+    ) -> bool
+        requires resolves { SuitsNames run.old (passes (all_resolve (map resolves_stmt statements.now))) }
+        ensures counts { IsTrue result → run.old.global.num_operations ≤ run.new.global.num_operations }
+        ensures restores { IsTrue restoring → RestoresNames run.old run.new }
+        ensures runs { Runs (under H.name_of self.now T.natives) (Enter statements.now restoring)
+            (state_in (T.state table.old) run.old) (came result run.new.value run.new.error)
+            (state_in (T.state table.new) run.new) }
+        ensures memory { IfErr (came result run.new.value run.new.error) (λ error.
+            is_out_of_memory error ≡ true → IsTrue (may_ask statements.now)) }
+    {
+        if statements.is_empty() {
+            put_unit(&mut run.value);
+            return true;
+        }
+        if !restoring {
+            return self.run_statements(run, table, statements, restoring);
+        }
+        let Some(saved) = open_list(
+            self.limits,
+            &mut run.global,
+            &*table,
+            &mut run.scope,
+            statements,
+            self.fast_operators,
+        ) else {
+            put_unit(&mut run.value);
+            return true;
+        };
+        let done = self.run_statements(run, table, statements, restoring);
+        leave_list(&mut run.global, &mut run.scope, saved);
+        done
+    }
+
+    /// Runs statements, one after the other. How they ended stands in the run. Asked: there is one.
+    #[cycle(eval)]
+    fn run_statements<T: NativeTable<H>>(
+        &self,
+        run: &mut Context<H>,
+        table: &mut T,
+        statements: &[Stmt],
+        restoring: bool,
+    ) -> bool
+        requires some { 1 ≤ length statements.now }
+        requires resolves { SuitsNames run.old (passes (all_resolve (map resolves_stmt statements.now))) }
+        ensures counts { IsTrue result → run.old.global.num_operations ≤ run.new.global.num_operations }
+        ensures runs { Runs (under H.name_of self.now T.natives) (Run statements.now restoring unit)
+            (state_in (T.state table.old) run.old) (came result run.new.value run.new.error)
+            (state_in (T.state table.new) run.new) }
+        ensures memory { IfErr (came result run.new.value run.new.error) (λ error.
+            is_out_of_memory error ≡ true → IsTrue (may_ask statements.now)) }
+    {
+        'each_stmt: for stmt in statements {
+            if !self.run_stmt(run, table, stmt, restoring) {
+                return false;
+            }
+        }
+        true
+    }
+}

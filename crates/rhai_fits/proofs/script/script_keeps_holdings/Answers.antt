@@ -1,6 +1,0 @@
-use Rattle.rhai_machine.specs.language.Setting.{over}
-use Rattle.rhai_fits.proofs.Runs.{runs_keep}
-use Rattle.rhai_fits.proofs.script.script_keeps_holdings.Goals as goal
-
-pub returns : goal.returns
-returns g c = λ setting. runs_keep (over setting g.T.NativeTable.natives) _ g.met.T.NativeTable.lawful

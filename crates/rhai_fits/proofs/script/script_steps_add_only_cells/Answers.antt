@@ -1,0 +1,6 @@
+use Rattle.rhai_machine.specs.language.Setting.{over}
+use Rattle.rhai_fits.proofs.Runs.{steps_keep}
+use Rattle.rhai_fits.proofs.script.script_steps_add_only_cells.Goals as goal
+
+pub returns : goal.returns
+returns g c = λ setting. steps_keep (over setting g.T.NativeTable.natives) _ g.met.T.NativeTable.lawful

@@ -1,5 +1,0 @@
-use Rattle.rhai_laws.proofs.MemoryLaws.{leaves_law}
-use Rattle.rhai_laws.proofs.memory.want_of_memory_leaves_all.Goals as goal
-
-pub returns : goal.returns
-returns g c = leaves_law g.L.Starving.machine g.L.Starving.Wanting
