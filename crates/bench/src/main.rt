@@ -6,6 +6,7 @@
 //! - `native`: so many calls of a native of one argument, in a loop that counts down
 //! - `natives`: the same, and so many calls of one of two arguments
 //! - `item`: so many additions to the last item of an array of a thousand items, and of a hundred thousand
+//! - `increase`, `increase-twice`: so many turns with an addition of a variable to the first item of an array, or two
 //! - `fib`: a function that calls itself twice, with that number
 //! - `range`: a `for` over a range of so many integers
 //! - `walk`: so many turns of a `for` over an array of a thousand items, and of a hundred thousand
@@ -29,7 +30,7 @@ fn main(rt: HostRuntime) -> io::Result<ExitCode> {
         }
         None => {
             eprintln!(&rt;
-                "usage: bench loop|array|native|natives|item|fib|range|walk|switch|throw [NUMBER]"
+                "usage: bench loop|array|native|natives|item|increase|increase-twice|fib|range|walk|switch|throw [NUMBER]"
             )?;
             Ok(ExitCode::from(WRONG_ARGUMENTS))
         }

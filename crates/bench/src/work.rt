@@ -1,8 +1,8 @@
 //! The works that are timed.
 
 use rhai_bench::sample::MadeStatements::{
-    ArraySummed, ChoicesInTurn, Decrements, Doublings, Increments, ManyItems, Pairings,
-    RangeSummed, ThrowsInTurn,
+    ArraySummed, ChoicesInTurn, Decrements, Doublings, FirstItemIncreased, Increments, ManyItems,
+    Pairings, RangeSummed, ThrowsInTurn,
 };
 use rhai_bench::sample::MadeTree::Fibonacci;
 use rhai_bench::sample::Tree::{Statements, WithFunctions};
@@ -19,6 +19,8 @@ pub enum Work {
     Native,
     Natives,
     Item,
+    Increase,
+    IncreaseTwice,
     Fib,
     Range,
     Walk,
@@ -35,6 +37,8 @@ impl Work {
             "native" => Some(Work::Native),
             "natives" => Some(Work::Natives),
             "item" => Some(Work::Item),
+            "increase" => Some(Work::Increase),
+            "increase-twice" => Some(Work::IncreaseTwice),
             "fib" => Some(Work::Fib),
             "range" => Some(Work::Range),
             "walk" => Some(Work::Walk),
@@ -48,6 +52,7 @@ impl Work {
     pub fn usual_length(self) -> u32 {
         match self {
             Work::Loop | Work::Native | Work::Natives | Work::Item => 1_000_000,
+            Work::Increase | Work::IncreaseTwice => 1_000_000,
             Work::Range | Work::Walk | Work::Switch | Work::Throw => 1_000_000,
             Work::Array => 100_000,
             Work::Fib => 28,
@@ -63,6 +68,8 @@ impl Work {
             Work::Native => time_native(rt, turns),
             Work::Natives => time_natives(rt, turns),
             Work::Item => time_items(rt, turns),
+            Work::Increase => time_increases(rt, turns, false),
+            Work::IncreaseTwice => time_increases(rt, turns, true),
             Work::Fib => time(rt, "the function", WithFunctions(Fibonacci(turns))),
             Work::Range => time_statements(rt, "the range", RangeSummed(turns)),
             Work::Walk => time_walks(rt, turns),
@@ -91,6 +98,10 @@ fn time_items(rt: &HostRuntime, turns: i64) -> io::Result<()> {
     time_statements(rt, "a thousand items", Increments(1_000, turns))?;
     let items = Increments(100_000, turns);
     time_statements(rt, "a hundred thousand items", items)
+}
+
+fn time_increases(rt: &HostRuntime, turns: i64, is_twice: bool) -> io::Result<()> {
+    time_statements(rt, "the increases", FirstItemIncreased(turns, is_twice))
 }
 
 fn time_walks(rt: &HostRuntime, turns: i64) -> io::Result<()> {

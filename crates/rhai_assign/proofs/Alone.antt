@@ -16,13 +16,14 @@ use Rattle.rhai_state.specs.declared.scope.ScopeEntry.{ScopeEntry}
 use Rattle.rhai_state.specs.declared.state.GlobalRuntimeState.{GlobalRuntimeState}
 use Rattle.rhai_state.specs.Scope.{entries_of, name_of, names_in}
 use Rattle.rhai_machine.specs.machine.Point.{after}
-use Rattle.rhai_machine.specs.machine.Memory.{here, next, ◌⨾◌}
+use Rattle.rhai_machine.specs.machine.Memory.{here, next, ◌⨾◌, Leads}
 use Rattle.rhai_machine.specs.language.Frames.{Back, Enter, Frame, OpenStmt, RestOfList, RestoreList, Saved}
-use Rattle.rhai_machine.specs.language.Runs.{at, Goes, Runs, Steps}
-use Rattle.rhai_machine.specs.language.Setting.{Rules, limit_under}
+use Rattle.rhai_machine.specs.language.Runs.{at, Runs, Goes}
+use Rattle.rhai_machine.specs.language.Setting.{Rules, limit_under, cut}
 use Rattle.rhai_machine.specs.language.State.{Held, State}
 use Rattle.rhai_machine.specs.language.Statements.{deeper, restored_by, saved_by}
 use Rattle.rhai_machine.specs.language.Values.{unit_value}
+use Rattle.rhai_machine.specs.language.Language.{machine}
 use Rattle.rhai_steps.specs.States.{local_of, state_of}
 use Rattle.rhai_operands.proofs.Names.{both}
 use Rattle.rhai_assign.specs.InPlace.{charged_at}
@@ -57,7 +58,7 @@ all_taken xs n is = ap (λ (m : ℕ). take m xs) (sym is) ∙ take-length xs
 
 module _ {S H : Type 0} (rules : Rules S H) where
   leaves : (saved : Saved) (k : List (Frame H)) (old new : State S H) → new ≡ record old { local = restored_by saved old.local } →
-      Goes rules (at (Back unit_value) (RestOfList [] true ∷ RestoreList saved ∷ k) old) (at (Back unit_value) k new)
+      Leads (machine rules) (cut rules) (at (Back unit_value) (RestOfList [] true ∷ RestoreList saved ∷ k) old) (at (Back unit_value) k new)
   unfolding after
   leaves saved k old new is = next (next (next (rw is here)))
 
@@ -65,7 +66,7 @@ module _ {S H : Type 0} (rules : Rules S H) (t : S) (old new : GlobalRuntimeStat
     (form : StmtLayer) (is : out-Stmt stmt ≡ form) (room : old.num_operations < limit_under rules)
     (charged : new ≡ record old { num_operations = old.num_operations + 3 }) (names : names_in later ≡ names_in before) where
   -- its statement is charged and opened, one level deeper
-  opens : (k : List (Frame H)) → Goes rules (at (Enter (stmt ∷ []) true) k (state_of t old before held))
+  opens : (k : List (Frame H)) → Leads (machine rules) (cut rules) (at (Enter (stmt ∷ []) true) k (state_of t old before held))
       (at (OpenStmt form true) (RestOfList [] true ∷ RestoreList (saved_by (local_of old before held)) ∷ k)
       (state_of t (charged_at (3 - 2) (deeper old.scope_level) old) before held))
   unfolding after
@@ -85,5 +86,5 @@ module _ {S H : Type 0} (rules : Rules S H) (t : S) (old new : GlobalRuntimeStat
   pub alone : Runs rules (OpenStmt form true) (state_of t (charged_at (3 - 2) (deeper old.scope_level) old) before held) (Ok unit_value)
       (state_of t (record new { scope_level = deeper old.scope_level }) later held) →
       Runs rules (Enter (stmt ∷ []) true) (state_of t old before held) (Ok unit_value) (state_of t new later held)
-  unfolding Steps
+  unfolding Goes
   alone runs k = opens k ⨾ runs (RestOfList [] true ∷ RestoreList _ ∷ k) ⨾ leaves rules _ k _ _ left

@@ -16,8 +16,8 @@ use Rattle.rhai_state.specs.Errors.{is_out_of_memory}
 use Rattle.rhai_state.specs.Native.{MayLeave, Natives, Request, Reply, Faults, Named, Obeys, effect, request}
 use Rattle.rhai_machine.specs.machine.Machine.{Charge, Go, Native}
 use Rattle.rhai_machine.specs.machine.Point.{Point, after}
-use Rattle.rhai_machine.specs.machine.Memory.{here, next, out_in_native, out_of_memory_in_native, ◌⨾◌}
-use Rattle.rhai_machine.specs.language.Setting.{Setting, Rules, limit_under}
+use Rattle.rhai_machine.specs.machine.Memory.{here, next, out_in_native, out_of_memory_in_native, ◌⨾◌, Leads}
+use Rattle.rhai_machine.specs.language.Setting.{Setting, Rules, limit_under, cut}
 use Rattle.rhai_machine.specs.language.State.{Held, State, Local}
 use Rattle.rhai_machine.specs.language.Values.{Cells, is_handle}
 use Rattle.rhai_machine.specs.language.Places.{put, while_lent}
@@ -25,10 +25,10 @@ use Rattle.rhai_machine.specs.language.Frames.{Attempt, InPlace, AsValue, Update
 use Rattle.rhai_machine.specs.language.Frames.{FireUpdate, Fail}
 use Rattle.rhai_machine.specs.language.Assignment.{answered_core, barred_core, call_update, fire_update, target_left, lent_core, native_of}
 use Rattle.rhai_machine.specs.language.Language.{machine, move, without_memory}
-use Rattle.rhai_machine.specs.language.Runs.{at, with_core, Goes, Steps}
+use Rattle.rhai_machine.specs.language.Runs.{at, with_core, Steps, Goes}
 use Rattle.rhai_steps.specs.States.{local_of, state_of}
 use Rattle.rhai_steps.proofs.Pieces.{faulted, step_by}
-use Rattle.rhai_assign.specs.Follows.{Asked, Comes}
+use Rattle.rhai_assign.specs.Follows.{Asked}
 use Rattle.rhai_assign.specs.Lending.{placed, IsFree, IsLentFrom, IsOwnCell}
 use Rattle.rhai_assign.specs.Updates.{is_barred_for}
 use Rattle.rhai_assign.proofs.Lent.{barred_alike, lent_cells, put_twice}
@@ -46,7 +46,8 @@ module _ {H : Type 0} (s : Setting H) where
 
   -- a native that runs out of memory leaves the target written back
   runs_out_answered : (attempt : Attempt) (pos : Position) (u : Update H) (k : List (Frame H)) (l : Local H) →
-      without_memory pos (answered_core s attempt (Faults (error.ErrorOutOfMemory pos)) u k l) ≡ core (Fail (error.ErrorOutOfMemory pos)) k l
+      without_memory pos (answered_core s attempt (Faults (error.ErrorOutOfMemory pos)) u k l) ≡ core
+      (Fail (error.ErrorOutOfMemory pos)) k l
   runs_out_answered InPlace pos u k l = refl
   runs_out_answered AsValue pos u k l = refl
 
@@ -69,7 +70,7 @@ module _ {S H : Type 0} (rules : Rules S H) where
   charges_update : (t : S) (old mid : GlobalRuntimeState H) (scope : Scope H) (held : Held H) (u : Update H) →
       old.num_operations < limit_under rules → mid ≡ record old { num_operations = old.num_operations + 1 } →
       (k : List (Frame H)) →
-      Goes rules (at (AskUpdate u) k (lent u t old scope held)) (at (QuestionUpdate u) k (lent u t mid scope held))
+      Leads (machine rules) (cut rules) (at (AskUpdate u) k (lent u t old scope held)) (at (QuestionUpdate u) k (lent u t mid scope held))
   charges_update t old mid scope held u room counted k =
       step_by rules _ _ (Charge u.at (core (QuestionUpdate u) k (lent u t old scope held).local)) refl
       (rw (lt-ltb _ _ room, counted) here)
@@ -77,7 +78,8 @@ module _ {S H : Type 0} (rules : Rules S H) where
   -- stands before its native, unless that is barred
   questions_update : (t : S) (old mid : GlobalRuntimeState H) (scope : Scope H) (held : Held H) (u : Update H) (barred : Bool) →
       old.num_operations < limit_under rules → mid ≡ record old { num_operations = old.num_operations + 1 } →
-      IsFree u.target → barred_in t u ≡ barred → (k : List (Frame H)) → Goes rules (at (AskUpdate u) k (lent u t old scope held))
+      IsFree u.target → barred_in t u ≡ barred →
+      (k : List (Frame H)) → Leads (machine rules) (cut rules) (at (AskUpdate u) k (lent u t old scope held))
       (with_core (barred_core rules.setting barred u k (lent u t mid scope held).local) (lent u t mid scope held))
   unfolding after
   questions_update t old mid scope held u barred room counted free is k =
@@ -91,12 +93,13 @@ module _ {S H : Type 0} (rules : Rules S H) where
   asks_update : (t : S) (old mid : GlobalRuntimeState H) (scope : Scope H) (held : Held H) (u : Update H) →
       old.num_operations < limit_under rules → mid ≡ record old { num_operations = old.num_operations + 1 } →
       IsFree u.target → barred_in t u ≡ false → (k : List (Frame H)) →
-      Goes rules (at (AskUpdate u) k (lent u t old scope held)) (at (FireUpdate u) k (lent u t mid scope held))
+      Leads (machine rules) (cut rules) (at (AskUpdate u) k (lent u t old scope held)) (at (FireUpdate u) k (lent u t mid scope held))
   asks_update t old mid scope held u room counted free allowed k = questions_update t old mid scope held u false room counted free allowed k
 
   -- a target that is a bare handle is refused
   refuses_handle : (u : Update H) (k : List (Frame H)) (now : State S H) → is_handle u.target.value ≡ true →
-      Goes rules (at (FireUpdate u) k now) (at (Fail (error.ErrorDataRace (native_of u.attempt u.operator) u.at)) k now)
+      Leads (machine rules) (cut rules) (at (FireUpdate u) k now)
+      (at (Fail (error.ErrorDataRace (native_of u.attempt u.operator) u.at)) k now)
   refuses_handle u k now handle = step_by rules _ _ _ (handle_move rules.setting u.target.value u k now.local handle) here
 
   -- the call of the native
@@ -109,7 +112,7 @@ module _ {S H : Type 0} (rules : Rules S H) where
       is_handle u.target.value ≡ false →
       rules.natives.gives now.table (call_of u now) ≡ effect r (Some v) t →
       (p : Point S (Core H)) → p ≡ record { core = lent_core rules.setting r v u k now.local; table = t; count = now.count } →
-      Goes rules (at (FireUpdate u) k now) p
+      Leads (machine rules) (cut rules) (at (FireUpdate u) k now) p
   fires_update u k now r v t plain obeys p is =
       step_by rules _ _ _ (plain_move rules.setting u.target.value u k now.local plain) (rw (obeys, is) here)
 
@@ -118,14 +121,15 @@ module _ {S H : Type 0} (rules : Rules S H) where
       move rules.setting p.core ≡ Native call f →
       (e : EvalAltResult H) (first : Option (Dynamic H)) (state : S) →
       MayLeave rules.setting.host_type rules.natives p.table call first state →
-      Goes rules (out_of_memory_in_native (machine rules) pos f e first state p) q → Goes rules p q
+      Leads (machine rules) (cut rules) (out_of_memory_in_native (machine rules) pos f e first state p) q →
+      Leads (machine rules) (cut rules) p q
   stops_of_memory p q call f pos is e first state may go = out_in_native {call = call} {f = f} {at = pos} is e first state may go
 
   fires_without_memory : (u : Update H) (k : List (Frame H)) (now new : State S H) (v : Dynamic H) (pos : Position) →
       is_handle u.target.value ≡ false →
       new ≡ record now { table = new.table; local = put u.place v now.local } →
       MayLeave rules.setting.host_type rules.natives now.table (call_of u now) (Some v) new.table →
-      Goes rules (at (FireUpdate u) k now) (at (Fail (error.ErrorOutOfMemory pos)) k new)
+      Leads (machine rules) (cut rules) (at (FireUpdate u) k now) (at (Fail (error.ErrorOutOfMemory pos)) k new)
   fires_without_memory u k now new v pos plain is may =
       stops_of_memory (at (FireUpdate u) k now) (at (Fail (error.ErrorOutOfMemory pos)) k new) (call_of u now)
       (λ reply left. lent_core rules.setting reply (target_left u left) u k now.local) pos
@@ -138,7 +142,7 @@ module _ {S H : Type 0} (rules : Rules S H) where
       (x : EvalAltResult H) →
       limit_under rules ≤ old.num_operations → x ≡ error.ErrorTooManyOperations u.at → new ≡ old →
       Steps rules (AskUpdate u) (lent u t old scope held) (Fail x) (lent u t new scope held)
-  unfolding Steps
+  unfolding Goes
   refuses_update t old new scope held u x full is same k =
       step_by rules _ _ (Charge u.at (core (QuestionUpdate u) k (lent u t old scope held).local)) refl
       (rw (le-ltb _ _ full, is, same) here)
@@ -149,7 +153,7 @@ module _ {S H : Type 0} (rules : Rules S H) where
     pub holds_update : (name : List ℕ) (e : EvalAltResult H) → barred_in t u ≡ false → is_handle u.target.value ≡ true →
         name ≡ native_of u.attempt u.operator → (is_out_of_memory e ≡ false → e ≡ error.ErrorDataRace name u.at) →
         Steps rules (AskUpdate u) (lent u t old scope held) (Fail e) (lent u t mid scope held)
-    unfolding Steps
+    unfolding Goes
     holds_update name e allowed handle named race k =
         asks_update t old mid scope held u room counted free allowed k
         ⨾ refuses_handle u k (lent u t mid scope held) handle
@@ -159,7 +163,7 @@ module _ {S H : Type 0} (rules : Rules S H) where
     pub bars_update : (name : List ℕ) (e : EvalAltResult H) → barred_in t u ≡ true → name ≡ native_of u.attempt u.operator →
         (is_out_of_memory e ≡ false → e ≡ error.ErrorNonPureMethodCallOnConstant name u.at) →
         Steps rules (AskUpdate u) (lent u t old scope held) (Fail e) (lent u t mid scope held)
-    unfolding Steps
+    unfolding Goes
     bars_update name e barred named bars k =
         questions_update t old mid scope held u true room counted free barred k
         ⨾ faulted rules e (error.ErrorNonPureMethodCallOnConstant (native_of u.attempt u.operator) u.at) (rw named at bars) k
@@ -178,8 +182,10 @@ module _ {S H : Type 0} (rules : Rules S H) where
       answers_update : (answer : Option (Reply H)) (name : List ℕ) (rest : List (Dynamic H)) →
           Obeys (rules.natives.gives t (request (cells_of mid.cells) (Named name) (Some u.target) rest u.at)) answer (Some w) called →
           name ≡ native_of u.attempt u.operator → rest ≡ u.operand ∷ [] →
-          IfSome answer (λ reply. Comes rules (AskUpdate u) (lent u t old scope held)
+          IfSome answer (λ reply.
+          Goes rules (core (AskUpdate u)) (lent u t old scope held)
           (answered_core rules.setting u.attempt reply (record u { target = w })) left)
+      unfolding Goes
       answers_update None name rest obeys named only = tt
       answers_update (Some reply) name rest obeys named only = λ k.
           asks_update t old mid scope held u room counted free allowed k
@@ -199,7 +205,7 @@ module _ {S H : Type 0} (rules : Rules S H) where
           MayLeave rules.setting.host_type rules.natives t (request (cells_of mid.cells) (Named name) (Some u.target) rest u.at) (Some w)
           called → name ≡ native_of u.attempt u.operator → rest ≡ u.operand ∷ [] →
           Asked rules u (lent u t old scope held) answer w left
-      unfolding Steps
+      unfolding Goes
       asked answer name rest obeys may named only = record {
         answered = answers_update answer name rest obeys named only;
         out_in_native = λ pos k.

@@ -22,24 +22,25 @@ use Rattle.rhai_state.specs.Scope.{entries_of}
 use Rattle.rhai_operators.specs.Answers as operators
 use Rattle.rhai_operators.specs.Answers.{op_assign_of}
 use Rattle.rhai_machine.specs.machine.Machine.{Go}
-use Rattle.rhai_machine.specs.machine.Memory.{here, next, ◌⨾◌}
+use Rattle.rhai_machine.specs.machine.Memory.{here, next, ◌⨾◌, Leads}
 use Rattle.rhai_machine.specs.machine.Point.{after}
-use Rattle.rhai_machine.specs.language.Setting.{Rules, globals_of, limit_under}
+use Rattle.rhai_machine.specs.language.Setting.{Rules, globals_of, limit_under, cut}
 use Rattle.rhai_machine.specs.language.State.{Held, Local, State}
 use Rattle.rhai_machine.specs.language.Calls.{applied}
 use Rattle.rhai_machine.specs.language.Places.{target}
 use Rattle.rhai_machine.specs.language.Variables.{variable_named}
 use Rattle.rhai_machine.specs.language.Assignment.{assign_core, assignment_to, if_fast, update_core, written_core}
-use Rattle.rhai_machine.specs.language.Frames.{Assignment, Frame, InPlace, Update, core, on_value, Assign}
+use Rattle.rhai_machine.specs.language.Frames.{Assignment, Frame, InPlace, Update, core, on_value, Assign, ended}
 use Rattle.rhai_machine.specs.language.Frames.{AssignValue, Eval, Fail, OpenStmt}
-use Rattle.rhai_machine.specs.language.Runs.{at, Goes, Runs, Steps}
+use Rattle.rhai_machine.specs.language.Runs.{at, Runs, Steps, Goes}
+use Rattle.rhai_machine.specs.language.Language.{machine}
 use Rattle.rhai_steps.specs.States.{local_of, state_of, surroundings_of}
 use Rattle.rhai_steps.proofs.Pieces.{step_by}
+use Rattle.rhai_steps.specs.Follows.{Follows}
 use Rattle.rhai_operands.specs.Standing.{standing}
 use Rattle.rhai_operands.proofs.InPlace.{assign_copied, flat_copy}
 use Rattle.rhai_operands.proofs.Standing.{standing_plain, value_goes, value_refused}
 use Rattle.rhai_assign.specs.declared.place.Place as code
-use Rattle.rhai_assign.specs.Follows.{FollowsAssign}
 use Rattle.rhai_assign.specs.Targets.{named_target, place_in, standing_at}
 use Rattle.rhai_assign.specs.Updates.{Becomes, update_of}
 use Rattle.rhai_assign.proofs.Entries.{named_meant}
@@ -50,7 +51,7 @@ module _ {S H : Type 0} (rules : Rules S H) where
   pub begins_assignment : (op : OpAssignment) (lhs rhs : Expr) (offset : Option NonZeroUsize) (name : Name) (namespace : Namespace)
       (pos : Position) (restoring : Bool) (k : List (Frame H)) (l : State S H) →
       out-Expr lhs ≡ layer.Variable offset name namespace pos →
-      Goes rules (at (OpenStmt (layer.Assignment op lhs rhs) restoring) k l)
+      Leads (machine rules) (cut rules) (at (OpenStmt (layer.Assignment op lhs rhs) restoring) k l)
       (at (Eval rhs) (AssignValue (assignment_to (variable_named name namespace pos) op) (position_of rhs) ∷ k) l)
   unfolding after
   begins_assignment op lhs rhs offset name namespace pos restoring k l is = next (rw is here)
@@ -65,7 +66,7 @@ module _ {S H : Type 0} (rules : Rules S H) where
     pub value_stops : (old new : GlobalRuntimeState H) (e : EvalAltResult H) → limit_under rules ≤ old.num_operations →
         e ≡ error.ErrorTooManyOperations (position_of rhs) → new ≡ old →
         Steps rules (OpenStmt (layer.Assignment op lhs rhs) restoring) (state_of t old scope held) (Fail e) (state_of t new scope held)
-    unfolding after Steps
+    unfolding after Goes
     value_stops old new e full is same k =
         begins_assignment op lhs rhs offset name namespace pos restoring k (state_of t old scope held) form
         ⨾ value_refused rules rhs y t old new scope held given e full is same (AssignValue assignment (position_of rhs) ∷ k)
@@ -75,7 +76,7 @@ module _ {S H : Type 0} (rules : Rules S H) where
         (is : mid ≡ record old { num_operations = old.num_operations + 1 }) where
       -- or there
       value_comes : (k : List (Frame H)) →
-          Goes rules (at (OpenStmt (layer.Assignment op lhs rhs) restoring) k (state_of t old scope held))
+          Leads (machine rules) (cut rules) (at (OpenStmt (layer.Assignment op lhs rhs) restoring) k (state_of t old scope held))
           (at (Assign assignment (copy_of y)) k (state_of t mid scope held))
       value_comes k =
           begins_assignment op lhs rhs offset name namespace pos restoring k (state_of t old scope held) form
@@ -90,7 +91,7 @@ module _ {S H : Type 0} (rules : Rules S H) where
       pub target_stops : (new : GlobalRuntimeState H) (e : EvalAltResult H) → limit_under rules ≤ mid.num_operations →
           e ≡ error.ErrorTooManyOperations pos → new ≡ mid →
           Steps rules (OpenStmt (layer.Assignment op lhs rhs) restoring) (state_of t old scope held) (Fail e) (state_of t new scope held)
-      unfolding Steps
+      unfolding Goes
       target_stops new e full refusal same k =
           value_comes k ⨾ refuses_assignment rules t mid new scope held assignment (copy_of y) e full refusal same k
 
@@ -135,8 +136,8 @@ module _ {S H : Type 0} (rules : Rules S H) where
           both_left (Ok v) g s = tt
           both_left (Err e) g s = rw (g, s) refl
 
-          follows : FollowsAssign rules assignment (target (place_in place) before) (copy_of y) (state_of t second scope held) result
-              (state_of t new later held)
+          follows : Follows rules ended (assign_core rules.setting assignment.op.op assignment (target (place_in place) before) (copy_of y))
+              (state_of t second scope held) result (state_of t new later held)
           follows = follows_alike rules _ (update_core rules.setting (op_assign_of token before (copy_of y)) updated)
               (state_of t second scope held) (state_of t new later held) result (λ k. starts k (local_of second scope held))
               (built rules updated (Some outcome) (op_assign_of token before (copy_of y)) outcome answers_copy refl t
@@ -146,7 +147,7 @@ module _ {S H : Type 0} (rules : Rules S H) where
           -- or what the built-in gave is written
           pub updates_in_place : Runs rules (OpenStmt (layer.Assignment op lhs rhs) restoring) (state_of t old scope held) result
               (state_of t new later held)
-          unfolding Steps
+          unfolding Goes
           updates_in_place k = value_comes k ⨾ assigns rules t mid second scope held assignment (copy_of y) more last
               (target (place_in place) before) result (state_of t new later held)
               (named_meant (globals_of rules.setting.offer) (surroundings_of second) (entries_of scope) (variable_named name namespace pos)

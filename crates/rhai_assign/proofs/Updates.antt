@@ -17,8 +17,8 @@ use Rattle.rhai_state.specs.Native.{Reply, Missing}
 use Rattle.rhai_operators.specs.Answers as operators
 use Rattle.rhai_operators.specs.Answers.{Answer, op_assign_of}
 use Rattle.rhai_machine.specs.machine.Point.{Point, after}
-use Rattle.rhai_machine.specs.machine.Memory.{here, next, out_before_step, ◌⨾◌}
-use Rattle.rhai_machine.specs.language.Setting.{Rules, globals_of, limit_under}
+use Rattle.rhai_machine.specs.machine.Memory.{here, next, out_before_step, ◌⨾◌, Leads}
+use Rattle.rhai_machine.specs.language.Setting.{Rules, globals_of, limit_under, cut}
 use Rattle.rhai_machine.specs.language.State.{Held, State, Local, HasMemory, Answers}
 use Rattle.rhai_machine.specs.language.Values.{unit_value}
 use Rattle.rhai_machine.specs.language.Places.{Place, Target, target_of, put}
@@ -27,11 +27,13 @@ use Rattle.rhai_machine.specs.language.Frames.{Control, Assignment, AsValue, InP
 use Rattle.rhai_machine.specs.language.Frames.{Assign, Store, AskUpdate, Fail}
 use Rattle.rhai_machine.specs.language.Assignment.{assign_core, changed_core, fault_core, if_fast, native_of, store_core}
 use Rattle.rhai_machine.specs.language.Assignment.{update_core, value_core, variable_of_assignment, written_core}
-use Rattle.rhai_machine.specs.language.Runs.{at, with_core, Goes, Runs, Steps}
+use Rattle.rhai_machine.specs.language.Runs.{at, with_core, Runs, Steps, Goes}
+use Rattle.rhai_machine.specs.language.Language.{machine}
 use Rattle.rhai_steps.specs.States.{state_of, surroundings_of}
 use Rattle.rhai_steps.proofs.Pieces.{charged, or_runs_out, refused, told}
+use Rattle.rhai_steps.specs.Follows.{Follows, Does, FindsNoMemory}
 use Rattle.rhai_assign.specs.declared.place.Update as code
-use Rattle.rhai_assign.specs.Follows.{Asked, Follows, FollowsAssign, FollowsUpdate, Does, FindsNoMemory}
+use Rattle.rhai_assign.specs.Follows.{Asked, updates}
 use Rattle.rhai_assign.specs.Lending.{placed}
 use Rattle.rhai_assign.specs.Updates.{Becomes, changed_of, finished, error_unless, update_of}
 use Rattle.rhai_assign.proofs.Lent.{put_twice}
@@ -61,18 +63,19 @@ not_fast false answer is = refl
 module _ {S H : Type 0} (rules : Rules S H) where
   -- two points with the same parts
   lands : (c d : Core H) (t u : S) (m n : ℕ) → c ≡ d → t ≡ u → m ≡ n →
-      Goes rules (record { core = c; table = t; count = m }) (record { core = d; table = u; count = n })
+      Leads (machine rules) (cut rules) (record { core = c; table = t; count = m }) (record { core = d; table = u; count = n })
   lands c d t u m n e f g = rw (e, f, g) here
 
   -- the same core over a state
-  pub same_core : (c d : Core H) (now : State S H) → c ≡ d → Goes rules (with_core c now) (with_core d now)
+  pub same_core : (c d : Core H) (now : State S H) → c ≡ d → Leads (machine rules) (cut rules) (with_core c now) (with_core d now)
   same_core c d now is = rw is here
 
   module _ (p : Point S (Core H)) (k : List (Frame H)) (now : State S H) (u : Update H) where
     -- the native `op=` gave a value, and the target is measured
     pub changed_by : (r result : Result (Dynamic H) (EvalAltResult H)) →
-        Goes rules p (with_core (changed_core rules.setting r u k now.local) now) →
-        Answers result (changed_of rules.setting.limits r u.target u.target_at) → Goes rules p (at (ended result) k now)
+        Leads (machine rules) (cut rules) p (with_core (changed_core rules.setting r u k now.local) now) →
+        Answers result (changed_of rules.setting.limits r u.target u.target_at) →
+        Leads (machine rules) (cut rules) p (at (ended result) k now)
     changed_by r result go is =
         go
         ⨾ same_core _ _ now (changes rules.setting r u k now.local)
@@ -80,20 +83,22 @@ module _ {S H : Type 0} (rules : Rules S H) where
 
     -- it told a fault
     pub failed_by : (missing : Bool) (e error placed : EvalAltResult H) →
-        Goes rules p (with_core (fault_core rules.setting missing (with_position u.at e) u k now.local) now) →
-        error_unless missing e ≡ Some error → placed ≡ with_position u.at error → Goes rules p (at (ended (Err placed)) k now)
+        Leads (machine rules) (cut rules) p (with_core (fault_core rules.setting missing (with_position u.at e) u k now.local) now) →
+        error_unless missing e ≡ Some error → placed ≡ with_position u.at error →
+        Leads (machine rules) (cut rules) p (at (ended (Err placed)) k now)
     failed_by missing e error placed go is at = go ⨾ same_core _ _ now (other rules.setting missing e error placed u k now.local is at)
 
     -- it is missing, and the native `op` is asked
     pub goes_on_by : (missing : Bool) (e placed : EvalAltResult H) (q : Point S (Core H)) →
-        Goes rules p (with_core (fault_core rules.setting missing placed u k now.local) now) →
-        error_unless missing e ≡ None → Goes rules (at (AskUpdate (record u { attempt = AsValue })) k now) q → Goes rules p q
+        Leads (machine rules) (cut rules) p (with_core (fault_core rules.setting missing placed u k now.local) now) →
+        error_unless missing e ≡ None → Leads (machine rules) (cut rules) (at (AskUpdate (record u { attempt = AsValue })) k now) q →
+        Leads (machine rules) (cut rules) p q
     goes_on_by missing e placed q go is further =
         go ⨾ same_core _ _ now (no_function rules.setting missing e placed u k now.local is) ⨾ further
 
   -- where memory runs out a control ends so
   pub ends_of_memory : (c : Control H) (old : State S H) (pos : Position) → Steps rules c old (Fail (error.ErrorOutOfMemory pos)) old
-  unfolding Steps
+  unfolding Goes
   ends_of_memory c old pos k = out_before_step {at = pos} here
 
   -- the native `op` gave a value, which is written and measured, or there is an error
@@ -106,7 +111,7 @@ module _ {S H : Type 0} (rules : Rules S H) where
       IfOk outcome (λ x. Answers result (finished (sized rules.setting.limits x update.target_at))) →
       IfErr outcome (λ e. result ≡ Err e) → IfErr outcome (λ _. later ≡ w) →
       Runs rules (AskUpdate (update_of update AsValue place v operand)) start result (placed place later s)
-  unfolding Steps
+  unfolding Goes
   valued_by update place start s v w later operand None (Ok x) result asked replies memory wrote measured fault left =
       absurd (false≢true (memory tt))
   valued_by update place start s v w later operand (Some reply) (Ok x) result asked replies memory wrote measured fault left = λ k.
@@ -130,32 +135,35 @@ module _ {S H : Type 0} (rules : Rules S H) where
   -- where the native `op=` is missing the update goes on with what it left
   pub missing_by : (update : code.Update) (place : Place) (v w operand : Dynamic H) (start now new : State S H)
       (result : Result (Dynamic H) (EvalAltResult H)) → Asked rules (update_of update InPlace place v operand) start (Some Missing) w now →
-      FollowsUpdate rules (update_of update AsValue place w operand) now result new →
+      Follows rules ended (updates rules.setting (update_of update AsValue place w operand)) now result new →
       Runs rules (AskUpdate (update_of update InPlace place v operand)) start result new
-  unfolding Steps
+  unfolding Goes
   missing_by update place v w operand start now new result asked (Does go) = λ k. asked.answered k ⨾ go k
-  missing_by update place v w operand start now new result asked (FindsNoMemory pos is same) = λ k. rw (is, same) (asked.out_in_native pos k)
+  missing_by update place v w operand start now new result asked (FindsNoMemory pos is same) = λ k.
+      rw (is, same) (asked.out_in_native pos k)
 
   -- a part that begins as another one goes on as that one does
   pub follows_alike : (start other : List (Frame H) → Local H → Core H) (old new : State S H)
       (result : Result (Dynamic H) (EvalAltResult H)) → ((k : List (Frame H)) → start k old.local ≡ other k old.local) →
-      Follows rules other old result new → Follows rules start old result new
+      Follows rules ended other old result new → Follows rules ended start old result new
+  unfolding Goes
   follows_alike start other old new result alike (Does go) = Does (λ k. same_core _ _ old (alike k) ⨾ go k)
   follows_alike start other old new result alike (FindsNoMemory pos is same) = FindsNoMemory pos is same
 
   -- an assignment without an operator writes its value
   pub writes : (assignment : Assignment) (target : Target H) (v : Dynamic H) (old new : State S H) → assignment.op.op ≡ None →
       new ≡ record old { local = put target.place (with_mode ReadWrite v) old.local } →
-      FollowsAssign rules assignment target v old (Ok unit_value) new
+      Follows rules ended (assign_core rules.setting assignment.op.op assignment target v) old (Ok unit_value) new
+  unfolding Goes
   writes assignment target v old new none is = Does (λ k. rw is (same_core _ _ old
       (ap (λ (o : Option Token). assign_core rules.setting o assignment target v k old.local) none)))
 
   -- one by an operator is an update
-  pub updates : (assignment : Assignment) (target : Target H) (v : Dynamic H) (old new : State S H)
+  pub by_operator : (assignment : Assignment) (target : Target H) (v : Dynamic H) (old new : State S H)
       (result : Result (Dynamic H) (EvalAltResult H)) (token : Token) → assignment.op.op ≡ Some token →
-      Follows rules (assign_core rules.setting (Some token) assignment target v) old result new →
-      FollowsAssign rules assignment target v old result new
-  updates assignment target v old new result token is follows = follows_alike _ _ old new result
+      Follows rules ended (assign_core rules.setting (Some token) assignment target v) old result new →
+      Follows rules ended (assign_core rules.setting assignment.op.op assignment target v) old result new
+  by_operator assignment target v old new result token is follows = follows_alike _ _ old new result
       (λ k. ap (λ (o : Option Token). assign_core rules.setting o assignment target v k old.local) is) follows
 
   module _ (u : Update H) (answer wanted : Answer H) (outcome : Result (Dynamic H) (EvalAltResult H))
@@ -166,7 +174,8 @@ module _ {S H : Type 0} (rules : Rules S H) where
 
     built_told : (result : Result (Dynamic H) (EvalAltResult H)) → HasMemory result →
         Becomes (written_core (applied rules.setting.limits outcome u.at) u.place) before result after →
-        Follows rules (update_core rules.setting wanted u) (now n before) result (now m after)
+        Follows rules ended (update_core rules.setting wanted u) (now n before) result (now m after)
+    unfolding Goes
     built_told result memory written = Does (λ k.
         let had = wrote_memory rules.setting.limits outcome result u.at u.place k before after memory (written memory k) in
         let e : wanted ≡ Some outcome = sym (value (rw is had)) ∙ is in
@@ -176,7 +185,7 @@ module _ {S H : Type 0} (rules : Rules S H) where
     pub built : (result : Result (Dynamic H) (EvalAltResult H)) →
         Becomes (written_core (applied rules.setting.limits outcome u.at) u.place) before result after →
         IfErr result (λ _. after ≡ before) →
-        Follows rules (update_core rules.setting wanted u) (now n before) result (now m after)
+        Follows rules ended (update_core rules.setting wanted u) (now n before) result (now m after)
     built (Ok x) written left = built_told (Ok x) tt written
     built (Err (error.ErrorOutOfMemory pos)) written left = FindsNoMemory pos refl (rw (left, counts) refl)
     built (Err e) written left = built_told (Err e) refl written
@@ -184,8 +193,8 @@ module _ {S H : Type 0} (rules : Rules S H) where
   -- there is no built-in, and the native is asked
   pub not_built : (answer wanted : Answer H) (result : Result (Dynamic H) (EvalAltResult H)) (u : Update H) (old new : State S H) →
       (operators.HasMemory answer → answer ≡ wanted) → answer ≡ None → Runs rules (AskUpdate u) old result new →
-      Follows rules (update_core rules.setting wanted u) old result new
-  unfolding Steps
+      Follows rules ended (update_core rules.setting wanted u) old result new
+  unfolding Goes
   not_built answer wanted result u old new value is runs =
       let e : wanted ≡ None = sym (value (rw is tt)) ∙ is in
       Does (λ k. same_core _ _ old (ap (λ (a : Answer H). update_core rules.setting a u k old.local) e) ⨾ runs k)
@@ -194,7 +203,8 @@ module _ {S H : Type 0} (rules : Rules S H) where
   store_step : (assignment : Assignment) (v : Dynamic H) (k : List (Frame H)) (now : State S H)
       (found : Result (Target H) (EvalAltResult H)) →
       target_of (globals_of rules.setting.offer) now.local.around now.local.scope (variable_of_assignment assignment) ≡ found →
-      Goes rules (at (Store assignment v) k now) (with_core (store_core rules.setting found assignment v k now.local) now)
+      Leads (machine rules) (cut rules) (at (Store assignment v) k now)
+      (with_core (store_core rules.setting found assignment v k now.local) now)
   unfolding after
   store_step assignment v k now found is = next (rw is here)
 
@@ -204,7 +214,7 @@ module _ {S H : Type 0} (rules : Rules S H) where
     pub refuses_assignment : (x : EvalAltResult H) → limit_under rules ≤ old.num_operations →
         x ≡ error.ErrorTooManyOperations assignment.at → mid ≡ old →
         Steps rules (Assign assignment v) (state_of t old scope held) (Fail x) (state_of t mid scope held)
-    unfolding Steps
+    unfolding Goes
     refuses_assignment x full is same k =
         refused rules t old mid scope held (Assign assignment v) (Store assignment v) assignment.at (λ j. refl) x full is same k
 
@@ -213,7 +223,7 @@ module _ {S H : Type 0} (rules : Rules S H) where
       pub misses : (e : EvalAltResult H) → (is_out_of_memory e ≡ false →
           target_of (globals_of rules.setting.offer) (surroundings_of mid) (entries_of scope) (variable_of_assignment assignment) ≡ Err e) →
           Steps rules (Assign assignment v) (state_of t old scope held) (Fail e) (state_of t mid scope held)
-      unfolding Steps
+      unfolding Goes
       misses e is k =
           charged rules t old mid scope held (Assign assignment v) (Store assignment v) assignment.at (λ j. refl) room counted k
           ⨾ or_runs_out rules (Store assignment v) k (state_of t mid scope held) e
@@ -223,9 +233,9 @@ module _ {S H : Type 0} (rules : Rules S H) where
       pub assigns : (target : Target H) (result : Result (Dynamic H) (EvalAltResult H)) (new : State S H) →
           target_of (globals_of rules.setting.offer) (surroundings_of mid) (entries_of scope) (variable_of_assignment assignment)
           ≡ Ok target →
-          FollowsAssign rules assignment target v (state_of t mid scope held) result new →
+          Follows rules ended (assign_core rules.setting assignment.op.op assignment target v) (state_of t mid scope held) result new →
           Runs rules (Assign assignment v) (state_of t old scope held) result new
-      unfolding Steps
+      unfolding Goes
       assigns target result new is (Does go) k =
           charged rules t old mid scope held (Assign assignment v) (Store assignment v) assignment.at (λ j. refl) room counted k
           ⨾ store_step assignment v k (state_of t mid scope held) (Ok target) is ⨾ go k

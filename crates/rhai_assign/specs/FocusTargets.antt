@@ -1,22 +1,12 @@
 -- The focus of a chain and `this`, as they are assigned to.
-use Rattle.std.specs.Prelude.{◌≡◌, false, List, Option, Some, None, Result, Ok, Err}
-use Rattle.rhai_tree.specs.declared.expr.Expr.{Expr}
-use Rattle.rhai_tree.specs.declared.expr.OpAssignment.{OpAssignment}
-use Rattle.rhai_tree.specs.declared.position.Position.{Position}
+use Rattle.std.specs.Prelude.{◌≡◌, false, Option, Some, None, Result, Ok, Err}
 use Rattle.rhai_values.specs.declared.base.value.CellId.{CellId}
 use Rattle.rhai_values.specs.declared.base.value.Dynamic.{Dynamic}
 use Rattle.rhai_values.specs.Cells.{value_of_cell}
 use Rattle.rhai_state.specs.declared.error.EvalAltResult.{EvalAltResult}
 use Rattle.rhai_state.specs.Errors.{is_out_of_memory}
-use Rattle.rhai_machine.specs.language.Setting.{Rules}
-use Rattle.rhai_machine.specs.language.State.{State}
 use Rattle.rhai_machine.specs.language.Values.{Cells, is_handle}
 use Rattle.rhai_machine.specs.language.Places.{InCell, InThis, InFocus, Target, is_constant, target}
-use Rattle.rhai_machine.specs.language.Assignment.{store_this}
-use Rattle.rhai_machine.specs.language.Chains.{assign_focus}
-use Rattle.rhai_machine.specs.language.Frames.{Frame, ended}
-use Rattle.rhai_machine.specs.language.Runs.{at, with_core, Goes}
-use Rattle.rhai_assign.specs.Follows.{Follows}
 
 module _ {H : Type 0} where
   -- a value that is there and may be changed
@@ -55,19 +45,3 @@ module _ {H : Type 0} where
   FindsThis (Ok (Some id)) cells this wanted = InOwnCell id cells wanted
   FindsThis (Ok None) cells this wanted = IsThis this wanted
   FindsThis (Err e) cells this wanted = is_out_of_memory e ≡ false → wanted ≡ Err e
-
--- an assignment to `this`, once it is charged
-abbrev pub FollowsThis : {S H : Type 0} → Rules S H → OpAssignment → Position → Dynamic H → State S H →
-    Result (Dynamic H) (EvalAltResult H) → State S H → Type 0
-FollowsThis rules op at v = Follows rules (store_this rules.setting op at v)
-
--- an assignment to the focus, by an operator or as it is
-abbrev pub FollowsFocus : {S H : Type 0} → Rules S H → (root : Expr) → OpAssignment → Dynamic H → State S H →
-    Result (Dynamic H) (EvalAltResult H) → State S H → Type 0
-FollowsFocus rules root op v = Follows rules (assign_focus rules.setting root (record { op = op; value = v }))
-
--- an assignment to the focus that begins where the machine does: memory runs out in it only where it may in the machine too
-abbrev pub AssignsAtOnce : {S H : Type 0} → Rules S H → (root : Expr) → OpAssignment → Dynamic H → State S H →
-    Result (Dynamic H) (EvalAltResult H) → State S H → Type 0
-AssignsAtOnce {H = H} rules root op v old result new = (k : List (Frame H)) →
-    Goes rules (with_core (assign_focus rules.setting root (record { op = op; value = v }) k old.local) old) (at (ended result) k new)

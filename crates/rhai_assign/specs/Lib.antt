@@ -1,3 +1,4 @@
+pub mod Assignments
 pub mod FocusTargets
 pub mod Follows
 pub mod InPlace

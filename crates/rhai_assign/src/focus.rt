@@ -1,64 +1,40 @@
 //! Assignment to the focus of a chain. Ports what upstream's chains ask of `eval_op_assignment`.
 
-ghost use Rattle.std.specs.Prelude.{◌≡◌, [], Some, false};
+ghost use Rattle.std.specs.Prelude.{◌≡◌, Some};
 ghost use Rattle.rhai_tree.specs.declared.expr.Expr.{out-Expr};
 ghost use Rattle.rhai_tree.specs.Positions.{start_of};
 ghost use Rattle.rhai_values.specs.Cells.{cells_of, value_of_cell};
 ghost use Rattle.rhai_state.specs.declared.error.EvalAltResult.TheVariants as error;
-ghost use Rattle.rhai_state.specs.Errors.{is_out_of_memory};
-ghost use Rattle.rhai_machine.specs.language.Links.{name_in};
+ghost use Rattle.rhai_state.specs.Errors.{root_name};
 ghost use Rattle.rhai_machine.specs.language.Places.{InCell, InFocus, focus_in_cell, target as target_in};
 ghost use Rattle.rhai_machine.specs.language.Places.{focus_target as focus_target_of};
-ghost use Rattle.rhai_machine.specs.language.Setting.{rules_of};
 ghost use Rattle.rhai_machine.specs.language.Values.{unit_value as unit};
+ghost use Rattle.rhai_machine.specs.language.Runs.{Goes};
+ghost use Rattle.rhai_machine.specs.language.Frames.{core, ended};
+ghost use Rattle.rhai_machine.specs.language.Assignment.{assign_core};
+ghost use Rattle.rhai_machine.specs.language.Chains.{assign_focus};
 ghost use Rattle.rhai_steps.specs.Agreement.{KeepsSight};
+ghost use Rattle.rhai_steps.specs.Sessions.{under};
 ghost use Rattle.rhai_steps.specs.States.{state_of};
-ghost use Rattle.rhai_assign.specs.FocusTargets.{AssignsAtOnce, FindsFocus, FollowsFocus, IsWritable};
-ghost use Rattle.rhai_assign.specs.Follows.{FollowsAssign};
+ghost use Rattle.rhai_steps.specs.Follows.{Follows};
+ghost use Rattle.rhai_assign.specs.FocusTargets.{FindsFocus, IsWritable};
 ghost use Rattle.rhai_assign.specs.Keeps.{KeepsHeld};
 ghost use Rattle.rhai_assign.specs.Lending.{placed};
 
 use crate::place::{Update, is_constant};
 use crate::update::{assign_lent, update_by_natives};
 use rhai_state::error::EvalAltResult;
-use rhai_state::limits::Limits;
+use rhai_state::errors::{constant_of, data_race};
+use rhai_state::session::Session;
 use rhai_state::state::GlobalRuntimeState;
 use rhai_state::table::NativeTable;
-use rhai_steps::errors::{assignment_to_constant, data_race};
 use rhai_steps::values::{let_go, unit_value};
 use rhai_tree::expr::{Expr, OpAssignment};
 use rhai_tree::position::Position;
-use rhai_tree::{Shared, Text};
 use rhai_values::base::value::{AccessMode, CellId, Dynamic, Host, Union};
 use rhai_values::cells::{CellStore, put_back};
 use std::alloc::Global;
 use std::mem::replace;
-
-/// Makes the error of an assignment to a constant without a name.
-#[cold]
-#[inline(never)]
-pub(crate) fn nameless_constant<H>(alloc: Global, pos: Position) -> EvalAltResult<H>
-    ensures { is_out_of_memory result ≡ false → result ≡ error.ErrorAssignmentToConstant [] pos }
-{
-    match Shared::new(alloc, Text::new(alloc)) {
-        Ok(name) => EvalAltResult::ErrorAssignmentToConstant(name, pos),
-        Err(_) => EvalAltResult::ErrorOutOfMemory(pos),
-    }
-}
-
-/// Makes the error of a chain that assigns to a constant, with the name of the chain's root.
-#[cold]
-#[inline(never)]
-fn constant_of<H>(alloc: Global, root: &Expr) -> EvalAltResult<H>
-    ensures { is_out_of_memory result ≡ false → result ≡ error.ErrorAssignmentToConstant
-        (name_in (out-Expr root.now)) (start_of root.now) }
-{
-    let pos = root.start_position();
-    match root {
-        Expr::Variable { name, .. } => assignment_to_constant(name, pos),
-        _ => nameless_constant(alloc, pos),
-    }
-}
 
 /// Finds the target in the cell of a handle, which may make a constant of it too.
 fn target_in_cell<H: Host>(
@@ -68,7 +44,7 @@ fn target_in_cell<H: Host>(
     id: CellId,
     root: &Expr,
 ) -> Result<Option<CellId>, EvalAltResult<H>>
-    ensures { FindsFocus result (cells_of cells.now) focus.now (focus_in_cell (name_in (out-Expr root.now))
+    ensures { FindsFocus result (cells_of cells.now) focus.now (focus_in_cell (root_name (out-Expr root.now))
         (start_of root.now) focus.now.mode id.number (value_of_cell (cells_of cells.now) id.number)) }
 {
     let mode = focus.access_mode();
@@ -97,7 +73,7 @@ fn focus_target<H: Host>(
     root: &Expr,
 ) -> Result<Option<CellId>, EvalAltResult<H>>
     ensures { FindsFocus result (cells_of cells.now) focus.now (focus_target_of (cells_of cells.now)
-        (name_in (out-Expr root.now)) (start_of root.now) focus.now) }
+        (root_name (out-Expr root.now)) (start_of root.now) focus.now) }
 {
     let mode = focus.access_mode();
     match &focus.value {
@@ -114,30 +90,28 @@ fn focus_target<H: Host>(
 
 /// Assigns a value to that of a cell, which is taken from there and goes back whatever comes of it.
 pub(crate) fn assign_in_cell<H: Host, T: NativeTable<H>>(
-    limits: &Limits,
-    alloc: Global,
+    session: &Session<'_, H>,
     global: &mut GlobalRuntimeState<H>,
     table: &mut T,
     id: CellId,
     pos: Position,
     op: OpAssignment,
     value: Dynamic<H>,
-    fast: bool,
 ) -> Result<Dynamic<H>, EvalAltResult<H>>
     requires { IsWritable (value_of_cell (cells_of global.old.cells) id.number) }
     ensures keeps { KeepsHeld global.old global.new }
     ensures sight { KeepsSight global.old global.new }
-    ensures runs { (offer : _) (scope : _) (held : _) (path : _) (name : _) (inner : _) →
-        offer.fast_operators ≡ fast → value_of_cell (cells_of global.old.cells) id.number ≡ Some inner →
-        FollowsAssign (rules_of limits.now H.name_of offer T.natives)
-        (record { path = path; name = name; at = pos; op = op }) (target_in (InCell id.number) inner) value
-        (state_of (T.state table.old) global.old scope held)
-        result (state_of (T.state table.new) global.new scope held) }
+    ensures runs { (scope : _) (held : _) (path : _) (name : _) (inner : _) →
+        value_of_cell (cells_of global.old.cells) id.number ≡ Some inner →
+        let rules = under H.name_of session.now T.natives in
+        Follows rules ended
+        (assign_core rules.setting op.op (record { path = path; name = name; at = pos; op = op }) (target_in (InCell id.number) inner) value)
+        (state_of (T.state table.old) global.old scope held) result
+        (state_of (T.state table.new) global.new scope held) }
 {
     let mut target = global.cells.take(id).unwrap();
     let result = assign_lent(
-        limits,
-        alloc,
+        session,
         global,
         table,
         &mut target,
@@ -145,7 +119,6 @@ pub(crate) fn assign_in_cell<H: Host, T: NativeTable<H>>(
         pos,
         op,
         value,
-        fast,
     );
     put_back(&mut global.cells, id, target);
     result
@@ -161,29 +134,25 @@ pub(crate) fn assign_in_cell<H: Host, T: NativeTable<H>>(
 /// what the operator answers, and `ErrorDataTooLarge` for a value above a limit; what a native left in
 /// the target is measured at the root.
 pub fn assign_focus<H: Host, T: NativeTable<H>>(
-    limits: &Limits,
-    alloc: Global,
+    session: &Session<'_, H>,
     global: &mut GlobalRuntimeState<H>,
     table: &mut T,
     target: &mut Dynamic<H>,
     root: &Expr,
     op: OpAssignment,
     value: Dynamic<H>,
-    fast: bool,
 ) -> Result<Dynamic<H>, EvalAltResult<H>>
     ensures keeps { KeepsHeld global.old global.new }
     ensures sight { KeepsSight global.old global.new }
-    ensures runs { (offer : _) (scope : _) (held : _) → offer.fast_operators ≡ fast →
-        FollowsFocus (rules_of limits.now H.name_of offer T.natives) root.now op value
-        (placed InFocus target.old (state_of (T.state table.old) global.old scope held))
-        result (placed InFocus target.new (state_of (T.state table.new) global.new scope held)) }
+    ensures runs { (scope : _) (held : _) → let rules = under H.name_of session.now T.natives in
+        Follows rules ended (assign_focus rules.setting root.now (record { op = op; value = value }))
+        (placed InFocus target.old (state_of (T.state table.old) global.old scope held)) result
+        (placed InFocus target.new (state_of (T.state table.new) global.new scope held)) }
 {
     let pos = root.position();
-    match focus_target(alloc, &global.cells, target, root) {
-        Ok(None) => assign_lent(
-            limits, alloc, global, table, target, None, pos, op, value, fast,
-        ),
-        Ok(Some(id)) => assign_in_cell(limits, alloc, global, table, id, pos, op, value, fast),
+    match focus_target(session.alloc, &global.cells, target, root) {
+        Ok(None) => assign_lent(session, global, table, target, None, pos, op, value),
+        Ok(Some(id)) => assign_in_cell(session, global, table, id, pos, op, value),
         Err(error) => {
             let_go(value);
             Err(error)
@@ -199,23 +168,21 @@ pub fn assign_focus<H: Host, T: NativeTable<H>>(
 /// What the natives of the operator answer, at the operator, and `ErrorDataTooLarge` for a value above a
 /// limit; what a native left in the target is measured at the root.
 pub fn assign_inserted<H: Host, T: NativeTable<H>>(
-    limits: &Limits,
-    alloc: Global,
+    session: &Session<'_, H>,
     global: &mut GlobalRuntimeState<H>,
     table: &mut T,
     target: &mut Dynamic<H>,
     root: &Expr,
     op: OpAssignment,
     value: Dynamic<H>,
-    fast: bool,
 ) -> Result<Dynamic<H>, EvalAltResult<H>>
     requires { target.old ≡ unit }
     ensures keeps { KeepsHeld global.old global.new }
     ensures sight { KeepsSight global.old global.new }
-    ensures runs { (offer : _) (scope : _) (held : _) → offer.fast_operators ≡ fast →
-        AssignsAtOnce (rules_of limits.now H.name_of offer T.natives) root.now op value
-        (placed InFocus target.old (state_of (T.state table.old) global.old scope held))
-        result (placed InFocus target.new (state_of (T.state table.new) global.new scope held)) }
+    ensures runs { (scope : _) (held : _) → let rules = under H.name_of session.now T.natives in
+        Goes rules (assign_focus rules.setting root.now (record { op = op; value = value }))
+        (placed InFocus target.old (state_of (T.state table.old) global.old scope held)) (core (ended result))
+        (placed InFocus target.new (state_of (T.state table.new) global.new scope held)) }
 {
     let target_at = root.position();
     match op.op {
@@ -226,7 +193,7 @@ pub fn assign_inserted<H: Host, T: NativeTable<H>>(
                 cell: None,
                 target_at,
             };
-            update_by_natives(limits, alloc, global, table, target, by, value)
+            update_by_natives(session, global, table, target, by, value)
         }
         None => {
             let mut value = value;

@@ -1,7 +1,7 @@
 //! An assignment by a built-in operator whose value is an operand as it stands: the target is changed
 //! where it stands, and no operand is copied.
 
-ghost use Rattle.std.specs.Prelude.{◌≡◌, ◌<◌, ◌≤◌, ◌+◌, ◌-◌, IsTrue, IfSome, Some, None, Ok, is_some, length, slice_get, true, false};
+ghost use Rattle.std.specs.Prelude.{◌≡◌, ◌<◌, ◌≤◌, ◌+◌, ◌-◌, IfSome, Some, None, Ok, is_some, true, false};
 ghost use Rattle.rhai_tree.specs.declared.expr.Expr.{out-Expr};
 ghost use Rattle.rhai_tree.specs.declared.expr.Expr.TheOpen as layer;
 ghost use Rattle.rhai_tree.specs.Frame.{tests_of, target_resolves, resolves_expr};
@@ -9,12 +9,14 @@ ghost use Rattle.rhai_values.specs.Cells.{cells_of};
 ghost use Rattle.rhai_state.specs.Scope.{entries_of};
 ghost use Rattle.rhai_machine.specs.language.Frames.{OpenStmt};
 ghost use Rattle.rhai_machine.specs.language.Runs.{Runs};
-ghost use Rattle.rhai_machine.specs.language.Setting.{rules_of};
 ghost use Rattle.rhai_machine.specs.language.Values.{unit_value as unit};
-ghost use Rattle.rhai_steps.specs.Agreement.{AgreesAt, KeepsSight, variable_is_good};
+ghost use Rattle.rhai_steps.specs.Agreement.{AgreesAt, KeepsSight};
+ghost use Rattle.rhai_steps.specs.Sessions.{under};
 ghost use Rattle.rhai_steps.specs.States.{state_of};
+ghost use Rattle.rhai_steps.specs.Variables.{offset_is_good};
 ghost use Rattle.rhai_context.specs.Ends.{came};
 ghost use Rattle.rhai_operands.specs.Standing.{standing};
+ghost use Rattle.rhai_assign.specs.Assignments.{statement_of};
 ghost use Rattle.rhai_assign.specs.InPlace.{IsReady, assigned, assigned_by, charged_at, writable_in};
 ghost use Rattle.rhai_assign.specs.Keeps.{Keeps};
 ghost use Rattle.rhai_assign.specs.Targets.{named_target};
@@ -26,25 +28,30 @@ use rhai_operands::operands::{integer_at, integer_in_place, operand_in_place};
 use rhai_operands::operators::compute_known;
 use rhai_operators::builtin_op_assign;
 use rhai_state::error::EvalAltResult;
-use rhai_state::limits::Limits;
 use rhai_state::scope::Scope;
+use rhai_state::session::Session;
 use rhai_state::state::GlobalRuntimeState;
 use rhai_state::table::NativeTable;
 use rhai_steps::charges::{charge_all, track_operation};
-use rhai_steps::variables::index_by_offset;
-use rhai_tree::expr::{Expr, Namespace, OpAssignment};
-use rhai_tree::position::Position;
+use rhai_steps::variables::{Variable, index_by_offset};
+use rhai_tree::expr::{Expr, OpAssignment};
 use rhai_tree::token::Token;
-use rhai_tree::{Shared, Text};
 use rhai_values::base::value::{AccessMode, Dynamic, Host};
 use std::alloc::Global;
-use std::num::NonZeroUsize;
 
 /// An assignment before it is charged: its target's place, and what the built-in gives.
 #[derive(Drop)]
 pub(crate) struct Ready<H> {
     pub(crate) place: Place,
     pub(crate) outcome: Result<Dynamic<H>, EvalAltResult<H>>,
+}
+
+/// An assignment as a statement writes it.
+#[derive(Clone, Copy)]
+pub struct Assignment<'a> {
+    pub op: &'a OpAssignment,
+    pub left: &'a Expr,
+    pub right: &'a Expr,
 }
 
 /// Computes what a built-in gives for a variable and an operand as it stands. None where no entry has the
@@ -54,21 +61,18 @@ fn prepare<H: Host>(
     global: &GlobalRuntimeState<H>,
     scope: &Scope<H>,
     token: Token,
-    offset: Option<NonZeroUsize>,
-    name: &Shared<Text>,
-    namespace: &Namespace,
-    pos: Position,
+    variable: &Variable<'_>,
     operand: &Expr,
 ) -> Option<Ready<H>>
-    requires good { AgreesAt global.now scope.now (variable_is_good offset name.now namespace.now.path) }
+    requires good { AgreesAt global.now scope.now (offset_is_good variable.now) }
     requires resolves { AgreesAt global.now scope.now (resolves_expr operand.now) }
     ensures found { is_some result ≡ is_some (assigned_by (Some token)
-        (named_target (cells_of global.now.cells) namespace.now.path name.now pos (entries_of scope.now))
+        (named_target (cells_of global.now.cells) variable.now.namespace.now.path variable.now.name.now variable.now.at (entries_of scope.now))
         (standing (out-Expr operand.now) (entries_of scope.now))) }
-    ensures ready { IfSome result (λ ready. IsReady ready namespace.now.path name.now pos token
+    ensures ready { IfSome result (λ ready. IsReady ready variable.now.namespace.now.path variable.now.name.now variable.now.at token
         (out-Expr operand.now) scope.now global.now.cells) }
 {
-    let place = find_named(global, scope, offset, name, namespace, pos)?;
+    let place = find_named(global, scope, variable)?;
     let operand = operand_in_place(global, scope, operand)?;
     let target = value_at(&global.cells, scope, place);
     let outcome = builtin_op_assign(alloc, token, target, operand.value())?;
@@ -91,30 +95,28 @@ fn writable_integer<H: Host>(value: &Dynamic<H>) -> Option<i64>
 /// table is not called.
 #[inline(always)]
 pub(crate) fn assign_integer<H: Host, T: NativeTable<H>>(
-    limits: &Limits,
+    session: &Session<'_, H>,
     global: &mut GlobalRuntimeState<H>,
     _table: &T,
     scope: &mut Scope<H>,
-    op: &OpAssignment,
-    lhs: &Expr,
-    rhs: &Expr,
+    assignment: &Assignment<'_>,
     charges: u64,
 ) -> bool
     requires both { 2 ≤ charges }
-    requires resolves_target { AgreesAt global.old scope.old (target_resolves (tests_of lhs.now)) }
-    requires resolves { AgreesAt global.old scope.old (resolves_expr rhs.now) }
-    ensures found { result ≡ true → is_some (assigned op.now.op (out-Expr lhs.now) (out-Expr rhs.now)
+    requires resolves_target { AgreesAt global.old scope.old (target_resolves (tests_of assignment.now.left.now)) }
+    requires resolves { AgreesAt global.old scope.old (resolves_expr assignment.now.right.now) }
+    ensures found { result ≡ true → is_some (assigned assignment.now.op.now.op (out-Expr assignment.now.left.now) (out-Expr assignment.now.right.now)
         (entries_of scope.old) (cells_of global.old.cells)) ≡ true }
     ensures left_global { result ≡ false → global.new ≡ global.old }
     ensures left_scope { result ≡ false → scope.new ≡ scope.old }
-    ensures room { result ≡ true → global.old.num_operations + charges ≤ limits.now.max_operations }
+    ensures room { result ≡ true → global.old.num_operations + charges ≤ session.now.limits.max_operations }
     ensures charged { result ≡ true → global.new ≡ record global.old
         { num_operations = global.old.num_operations + charges } }
     ensures keeps { Keeps global.old global.new scope.old scope.new }
     ensures sight { KeepsSight global.old global.new }
-    ensures runs { result ≡ true → (offer : _) (held : _) (restoring : _) (level : _) →
-        offer.fast_operators ≡ true → Runs (rules_of limits.now H.name_of offer T.natives)
-        (OpenStmt (layer.Assignment op.now lhs.now rhs.now) restoring)
+    ensures runs { result ≡ true → (held : _) (restoring : _) (level : _) →
+        session.now.fast_operators ≡ true → Runs (under H.name_of session.now T.natives)
+        (OpenStmt (statement_of assignment.now) restoring)
         (state_of (T.state _table.now) (charged_at (charges - 2) level global.old) scope.old held)
         (Ok unit) (state_of (T.state _table.now) (record global.new { scope_level = level }) scope.new held) }
 {
@@ -123,11 +125,11 @@ pub(crate) fn assign_integer<H: Host, T: NativeTable<H>>(
         name,
         namespace,
         ..
-    } = lhs
+    } = assignment.left
     else {
         return false;
     };
-    let Some(token) = op.op else {
+    let Some(token) = assignment.op.op else {
         return false;
     };
     let Some(index) = index_by_offset(global, scope, *offset, name, namespace) else {
@@ -137,14 +139,14 @@ pub(crate) fn assign_integer<H: Host, T: NativeTable<H>>(
     if target.is_none() {
         return false;
     }
-    let operand = integer_in_place(global, scope, rhs);
+    let operand = integer_in_place(global, scope, assignment.right);
     if operand.is_none() {
         return false;
     }
     let Some(value) = compute_known(token, target, operand) else {
         return false;
     };
-    if !charge_all(limits, global, charges) {
+    if !charge_all(&session.limits, global, charges) {
         drop(value);
         return false;
     }
@@ -156,8 +158,7 @@ pub(crate) fn assign_integer<H: Host, T: NativeTable<H>>(
 /// at the variable.
 #[inline(never)]
 fn assign_values<H: Host, T: NativeTable<H>>(
-    limits: &Limits,
-    alloc: Global,
+    session: &Session<'_, H>,
     global: &mut GlobalRuntimeState<H>,
     _table: &T,
     scope: &mut Scope<H>,
@@ -173,8 +174,8 @@ fn assign_values<H: Host, T: NativeTable<H>>(
     ensures left_scope { result ≡ None → scope.new ≡ scope.old }
     ensures keeps { Keeps global.old global.new scope.old scope.new }
     ensures sight { KeepsSight global.old global.new }
-    ensures runs { (offer : _) (held : _) (restoring : _) → offer.fast_operators ≡ true →
-        IfSome result (λ result. Runs (rules_of limits.now H.name_of offer T.natives)
+    ensures runs { (held : _) (restoring : _) → session.now.fast_operators ≡ true →
+        IfSome result (λ result. Runs (under H.name_of session.now T.natives)
         (OpenStmt (layer.Assignment op lhs.now rhs.now) restoring)
         (state_of (T.state _table.now) global.old scope.old held)
         result (state_of (T.state _table.now) global.new scope.new held)) }
@@ -190,50 +191,65 @@ fn assign_values<H: Host, T: NativeTable<H>>(
     };
     let token = op.op?;
     let ready = prepare(
-        alloc, global, scope, token, *offset, name, namespace, *pos, rhs,
+        session.alloc,
+        global,
+        scope,
+        token,
+        &Variable {
+            offset: *offset,
+            name,
+            namespace,
+            at: *pos,
+        },
+        rhs,
     )?;
-    if let Err(error) = track_operation(limits, global, rhs.position()) {
+    if let Err(error) = track_operation(&session.limits, global, rhs.position()) {
         drop(ready);
         return Some(Err(error));
     }
-    if let Err(error) = track_operation(limits, global, *pos) {
+    if let Err(error) = track_operation(&session.limits, global, *pos) {
         drop(ready);
         return Some(Err(error));
     }
     let place = ready.place;
     let outcome = ready.outcome;
-    Some(write_outcome(limits, alloc, global, scope, place, op.position, outcome))
+    Some(write_outcome(session, global, scope, place, op.position, outcome))
 }
 
 /// Assigns to a variable as `assign_values` does. How it ended goes into the run's places.
 #[inline(never)]
 fn assign_others<H: Host, T: NativeTable<H>>(
-    limits: &Limits,
-    alloc: Global,
+    session: &Session<'_, H>,
     global: &mut GlobalRuntimeState<H>,
     _table: &T,
     scope: &mut Scope<H>,
     out: &mut Dynamic<H>,
     place: &mut Option<EvalAltResult<H>>,
-    op: &OpAssignment,
-    lhs: &Expr,
-    rhs: &Expr,
+    assignment: &Assignment<'_>,
 ) -> Option<bool>
-    requires resolves_target { AgreesAt global.old scope.old (target_resolves (tests_of lhs.now)) }
-    requires resolves { AgreesAt global.old scope.old (resolves_expr rhs.now) }
-    ensures found { is_some result ≡ is_some (assigned op.now.op (out-Expr lhs.now) (out-Expr rhs.now)
+    requires resolves_target { AgreesAt global.old scope.old (target_resolves (tests_of assignment.now.left.now)) }
+    requires resolves { AgreesAt global.old scope.old (resolves_expr assignment.now.right.now) }
+    ensures found { is_some result ≡ is_some (assigned assignment.now.op.now.op (out-Expr assignment.now.left.now) (out-Expr assignment.now.right.now)
         (entries_of scope.old) (cells_of global.old.cells)) }
     ensures left_global { result ≡ None → global.new ≡ global.old }
     ensures left_scope { result ≡ None → scope.new ≡ scope.old }
     ensures keeps { Keeps global.old global.new scope.old scope.new }
     ensures sight { KeepsSight global.old global.new }
-    ensures runs { (offer : _) (held : _) (restoring : _) → offer.fast_operators ≡ true →
-        IfSome result (λ done. Runs (rules_of limits.now H.name_of offer T.natives)
-        (OpenStmt (layer.Assignment op.now lhs.now rhs.now) restoring)
+    ensures runs { (held : _) (restoring : _) → session.now.fast_operators ≡ true →
+        IfSome result (λ done. Runs (under H.name_of session.now T.natives)
+        (OpenStmt (statement_of assignment.now) restoring)
         (state_of (T.state _table.now) global.old scope.old held)
         (came done out.new place.new) (state_of (T.state _table.now) global.new scope.new held)) }
 {
-    match assign_values(limits, alloc, global, _table, scope, *op, lhs, rhs) {
+    match assign_values(
+        session,
+        global,
+        _table,
+        scope,
+        *assignment.op,
+        assignment.left,
+        assignment.right,
+    ) {
         Some(answer) => Some(settle(place, out, answer)),
         None => None,
     }
@@ -248,36 +264,31 @@ fn assign_others<H: Host, T: NativeTable<H>>(
 /// operator: what the operator answers, and `ErrorDataTooLarge` for a value above a limit.
 #[inline(always)]
 pub fn assign_in_place<H: Host, T: NativeTable<H>>(
-    limits: &Limits,
-    alloc: Global,
+    session: &Session<'_, H>,
     global: &mut GlobalRuntimeState<H>,
     _table: &T,
     scope: &mut Scope<H>,
     out: &mut Dynamic<H>,
     place: &mut Option<EvalAltResult<H>>,
-    op: &OpAssignment,
-    lhs: &Expr,
-    rhs: &Expr,
+    assignment: &Assignment<'_>,
 ) -> Option<bool>
-    requires resolves_target { AgreesAt global.old scope.old (target_resolves (tests_of lhs.now)) }
-    requires resolves { AgreesAt global.old scope.old (resolves_expr rhs.now) }
-    ensures found { is_some result ≡ is_some (assigned op.now.op (out-Expr lhs.now) (out-Expr rhs.now)
+    requires resolves_target { AgreesAt global.old scope.old (target_resolves (tests_of assignment.now.left.now)) }
+    requires resolves { AgreesAt global.old scope.old (resolves_expr assignment.now.right.now) }
+    ensures found { is_some result ≡ is_some (assigned assignment.now.op.now.op (out-Expr assignment.now.left.now) (out-Expr assignment.now.right.now)
         (entries_of scope.old) (cells_of global.old.cells)) }
     ensures left_global { result ≡ None → global.new ≡ global.old }
     ensures left_scope { result ≡ None → scope.new ≡ scope.old }
     ensures keeps { Keeps global.old global.new scope.old scope.new }
     ensures sight { KeepsSight global.old global.new }
-    ensures runs { (offer : _) (held : _) (restoring : _) → offer.fast_operators ≡ true →
-        IfSome result (λ done. Runs (rules_of limits.now H.name_of offer T.natives)
-        (OpenStmt (layer.Assignment op.now lhs.now rhs.now) restoring)
+    ensures runs { (held : _) (restoring : _) → session.now.fast_operators ≡ true →
+        IfSome result (λ done. Runs (under H.name_of session.now T.natives)
+        (OpenStmt (statement_of assignment.now) restoring)
         (state_of (T.state _table.now) global.old scope.old held)
         (came done out.new place.new) (state_of (T.state _table.now) global.new scope.new held)) }
 {
-    if assign_integer(limits, global, _table, scope, op, lhs, rhs, 2) {
+    if assign_integer(session, global, _table, scope, assignment, 2) {
         put_unit(out);
         return Some(true);
     }
-    assign_others(
-        limits, alloc, global, _table, scope, out, place, op, lhs, rhs,
-    )
+    assign_others(session, global, _table, scope, out, place, assignment)
 }

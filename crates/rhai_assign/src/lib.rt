@@ -15,33 +15,28 @@ pub mod this;
 mod update;
 mod write;
 
-ghost use Rattle.std.specs.Prelude.{◌≡◌, ◌≤◌, IsTrue, true};
+ghost use Rattle.std.specs.Prelude.{◌≡◌, ◌≤◌};
 ghost use Rattle.rhai_state.specs.Scope.{names_in};
 ghost use Rattle.rhai_machine.specs.language.Assignment.{assignment_to};
-ghost use Rattle.rhai_machine.specs.language.Setting.{rules_of};
 ghost use Rattle.rhai_machine.specs.language.Frames.{Assign};
 ghost use Rattle.rhai_machine.specs.language.Runs.{Runs};
-ghost use Rattle.rhai_machine.specs.language.Variables.{variable_named};
-ghost use Rattle.rhai_steps.specs.Agreement.{AgreesAt, KeepsSight, variable_is_good};
-ghost use Rattle.rhai_steps.specs.Offers.{Offers};
+ghost use Rattle.rhai_steps.specs.Agreement.{AgreesAt, KeepsSight};
+ghost use Rattle.rhai_steps.specs.Sessions.{under};
 ghost use Rattle.rhai_steps.specs.States.{state_of};
+ghost use Rattle.rhai_steps.specs.Variables.{offset_is_good, variable_told};
 
 use crate::place::find_target;
 use crate::update::store;
-use rhai_functions::function::Offered;
 use rhai_state::error::EvalAltResult;
-use rhai_state::limits::Limits;
 use rhai_state::scope::Scope;
+use rhai_state::session::Session;
 use rhai_state::state::GlobalRuntimeState;
 use rhai_state::table::NativeTable;
 use rhai_steps::charges::track_operation;
 use rhai_steps::values::let_go;
-use rhai_tree::expr::{Namespace, OpAssignment};
-use rhai_tree::position::Position;
-use rhai_tree::{Shared, Text};
+use rhai_steps::variables::Variable;
+use rhai_tree::expr::OpAssignment;
 use rhai_values::base::value::{Dynamic, Host};
-use std::alloc::Global;
-use std::num::NonZeroUsize;
 
 /// Assigns a value to a variable, charged first at the variable. By an operator the built-in is tried
 /// first under fast operators, then the native `op=`, which may change the target, or its built-in, and
@@ -56,38 +51,29 @@ use std::num::NonZeroUsize;
 /// what the operator answers, and `ErrorDataTooLarge` for a value above a limit; what a native left in the
 /// target is measured at the variable.
 pub fn assign_variable<H: Host, T: NativeTable<H>>(
-    limits: &Limits,
-    alloc: Global,
-    offered: &Offered<'_, H>,
+    session: &Session<'_, H>,
     global: &mut GlobalRuntimeState<H>,
     table: &mut T,
     scope: &mut Scope<H>,
-    offset: Option<NonZeroUsize>,
-    name: &Shared<Text>,
-    namespace: &Namespace,
-    pos: Position,
+    variable: &Variable<'_>,
     op: OpAssignment,
     value: Dynamic<H>,
-    fast: bool,
 ) -> Result<Dynamic<H>, EvalAltResult<H>>
-    requires { AgreesAt global.old scope.old (variable_is_good offset name.now namespace.now.path) }
+    requires { AgreesAt global.old scope.old (offset_is_good variable.now) }
     ensures counts { global.old.num_operations ≤ global.new.num_operations }
     ensures sight { KeepsSight global.old global.new }
     ensures names { names_in scope.new ≡ names_in scope.old }
-    ensures runs { (offer : _) (held : _) → Offers offer offered.now → offer.fast_operators ≡ fast →
-        Runs (rules_of limits.now H.name_of offer T.natives)
-        (Assign (assignment_to (variable_named name.now namespace.now pos) op) value)
+    ensures runs { (held : _) → Runs (under H.name_of session.now T.natives)
+        (Assign (assignment_to (variable_told variable.now) op) value)
         (state_of (T.state table.old) global.old scope.old held)
         result (state_of (T.state table.new) global.new scope.new held) }
 {
-    if let Err(error) = track_operation(limits, global, pos) {
+    if let Err(error) = track_operation(&session.limits, global, variable.at) {
         let_go(value);
         return Err(error);
     }
-    match find_target(alloc, offered, global, scope, offset, name, namespace, pos) {
-        Ok(place) => store(
-            limits, alloc, global, table, scope, place, pos, op, value, fast,
-        ),
+    match find_target(session, global, scope, variable) {
+        Ok(place) => store(session, global, table, scope, place, variable.at, op, value),
         Err(error) => {
             let_go(value);
             Err(error)

@@ -1,21 +1,21 @@
 //! Restoring lists as they are entered. One whose only statement is an assignment between integers is done at
 //! once.
 
-ghost use Rattle.std.specs.Prelude.{◌≡◌, ◌≤◌, IfSome, IsTrue, None, Ok, map, true, false};
+ghost use Rattle.std.specs.Prelude.{◌≡◌, ◌≤◌, IfSome, None, Ok, map, true, false};
 ghost use Rattle.rhai_tree.specs.Frame.{all_resolve, resolves_stmt};
 ghost use Rattle.rhai_state.specs.Scope.{names_in};
 ghost use Rattle.rhai_machine.specs.language.Frames.{Enter};
 ghost use Rattle.rhai_machine.specs.language.Runs.{Runs};
-ghost use Rattle.rhai_machine.specs.language.Setting.{rules_of};
 ghost use Rattle.rhai_machine.specs.language.Statements.{deeper};
 ghost use Rattle.rhai_machine.specs.language.Values.{unit_value as unit};
 ghost use Rattle.rhai_steps.specs.Agreement.{AgreesAt, KeepsSight, passes};
 ghost use Rattle.rhai_steps.specs.Saves.{left_global, saved_in, saved_now};
+ghost use Rattle.rhai_steps.specs.Sessions.{under};
 ghost use Rattle.rhai_steps.specs.States.{state_of};
 
-use crate::in_place::assign_integer;
-use rhai_state::limits::Limits;
+use crate::in_place::{Assignment, assign_integer};
 use rhai_state::scope::Scope;
+use rhai_state::session::Session;
 use rhai_state::state::GlobalRuntimeState;
 use rhai_state::table::NativeTable;
 use rhai_steps::variables::{Saved, enter_list};
@@ -27,12 +27,11 @@ use rhai_values::base::value::Host;
 /// changed.
 #[inline(always)]
 fn assign_alone<H: Host, T: NativeTable<H>>(
-    limits: &Limits,
+    session: &Session<'_, H>,
     global: &mut GlobalRuntimeState<H>,
     table: &T,
     scope: &mut Scope<H>,
     statements: &[Stmt],
-    is_fast: bool,
 ) -> bool
     requires resolves { AgreesAt global.old scope.old
         (passes (all_resolve (map resolves_stmt statements.now))) }
@@ -41,11 +40,11 @@ fn assign_alone<H: Host, T: NativeTable<H>>(
     ensures counts { global.old.num_operations ≤ global.new.num_operations }
     ensures sight { KeepsSight global.old global.new }
     ensures names { names_in scope.new ≡ names_in scope.old }
-    ensures runs { result ≡ true → (offer : _) (held : _) → offer.fast_operators ≡ is_fast →
-        Runs (rules_of limits.now H.name_of offer T.natives) (Enter statements.now true)
+    ensures runs { result ≡ true → (held : _) → Runs (under H.name_of session.now T.natives) (Enter statements.now true)
         (state_of (T.state table.now) global.old scope.old held)
         (Ok unit) (state_of (T.state table.now) global.new scope.new held) }
 {
+    let is_fast = session.fast_operators;
     if !is_fast {
         return false;
     }
@@ -55,18 +54,28 @@ fn assign_alone<H: Host, T: NativeTable<H>>(
     let Stmt::Assignment(op, lhs, rhs) = only else {
         return false;
     };
-    assign_integer(limits, global, table, scope, op, lhs, rhs, 3)
+    assign_integer(
+        session,
+        global,
+        table,
+        scope,
+        &Assignment {
+            op,
+            left: lhs,
+            right: rhs,
+        },
+        3,
+    )
 }
 
 /// Enters a restoring list, one level deeper. None where it was done at once: then its value is `()`. Asked:
 /// it is not empty. The table is not called.
 pub fn open_list<H: Host, T: NativeTable<H>>(
-    limits: &Limits,
+    session: &Session<'_, H>,
     global: &mut GlobalRuntimeState<H>,
     table: &T,
     scope: &mut Scope<H>,
     statements: &[Stmt],
-    is_fast: bool,
 ) -> Option<Saved>
     requires resolves { AgreesAt global.old scope.old
         (passes (all_resolve (map resolves_stmt statements.now))) }
@@ -79,12 +88,11 @@ pub fn open_list<H: Host, T: NativeTable<H>>(
     ensures counts { global.old.num_operations ≤ global.new.num_operations }
     ensures sight { KeepsSight global.old global.new }
     ensures names { names_in scope.new ≡ names_in scope.old }
-    ensures done { result ≡ None → (offer : _) (held : _) → offer.fast_operators ≡ is_fast →
-        Runs (rules_of limits.now H.name_of offer T.natives) (Enter statements.now true)
+    ensures done { result ≡ None → (held : _) → Runs (under H.name_of session.now T.natives) (Enter statements.now true)
         (state_of (T.state table.now) global.old scope.old held)
         (Ok unit) (state_of (T.state table.now) global.new scope.new held) }
 {
-    if assign_alone(limits, global, table, scope, statements, is_fast) {
+    if assign_alone(session, global, table, scope, statements) {
         return None;
     }
     Some(enter_list(global, scope))

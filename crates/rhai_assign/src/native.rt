@@ -3,13 +3,13 @@
 ghost use Rattle.std.specs.Prelude.{◌≡◌, ◌∷◌, [], Some, true, is_some, IfSome, IfOk, IfErr, false};
 ghost use Rattle.rhai_values.specs.Cells.{IsNoHandle, cells_of};
 ghost use Rattle.rhai_state.specs.Native.{Leaves, Named, Obeys, reply_of, request};
-ghost use Rattle.rhai_machine.specs.language.Setting.{rules_of};
 ghost use Rattle.rhai_machine.specs.language.State.{Answers, HasMemory};
 ghost use Rattle.rhai_machine.specs.language.Calls.{replied as replied_at};
 ghost use Rattle.rhai_machine.specs.language.Frames.{AskUpdate, Fail, InPlace};
 ghost use Rattle.rhai_machine.specs.language.Assignment.{native_of, says_missing as missing_said};
 ghost use Rattle.rhai_machine.specs.language.Runs.{Steps};
 ghost use Rattle.rhai_steps.specs.Agreement.{KeepsSight};
+ghost use Rattle.rhai_steps.specs.Sessions.{under};
 ghost use Rattle.rhai_steps.specs.States.{state_of};
 ghost use Rattle.rhai_assign.specs.Follows.{Asked};
 ghost use Rattle.rhai_assign.specs.Keeps.{Charges};
@@ -18,11 +18,12 @@ ghost use Rattle.rhai_assign.specs.Updates.{is_barred_for, other_fault, update_o
 
 use crate::place::Update;
 use rhai_state::error::EvalAltResult;
-use rhai_state::limits::Limits;
+use rhai_state::errors::{data_race_of, non_pure_of};
+use rhai_state::session::Session;
 use rhai_state::state::GlobalRuntimeState;
 use rhai_state::table::{Answer, NativeTable};
 use rhai_steps::charges::track_operation;
-use rhai_steps::errors::{data_race_of, non_pure_of};
+use rhai_steps::operation::Operation;
 use rhai_steps::replies::replied;
 use rhai_steps::values::{is_bare_handle, let_go, unit_value};
 use rhai_tree::position::Position;
@@ -101,7 +102,7 @@ fn is_barred<H: Host, T: NativeTable<H>>(table: &T, name: &str, target: &Dynamic
 
 /// Charges an update at its operator, and calls a native on the target, unless it is barred from it.
 pub(crate) fn ask_native<H: Host, T: NativeTable<H>>(
-    limits: &Limits,
+    session: &Session<'_, H>,
     global: &mut GlobalRuntimeState<H>,
     table: &mut T,
     target: &mut Dynamic<H>,
@@ -114,21 +115,21 @@ pub(crate) fn ask_native<H: Host, T: NativeTable<H>>(
     ensures charges { Charges global.old global.new }
     ensures sight { KeepsSight global.old global.new }
     ensures left { IfOk result (λ _. IsNoHandle target.new.value) }
-    ensures refused { IfErr result (λ e. (offer : _) (scope : _) (held : _) (place : _) (attempt : _)
+    ensures refused { IfErr result (λ e. (scope : _) (held : _) (place : _) (attempt : _)
         (operand : _) → name.now ≡ native_of attempt update.token →
-        Steps (rules_of limits.now H.name_of offer T.natives)
+        Steps (under H.name_of session.now T.natives)
         (AskUpdate (update_of update attempt place target.old operand))
         (placed place target.old (state_of (T.state table.old) global.old scope held))
         (Fail e) (placed place target.new (state_of (T.state table.new) global.new scope held))) }
-    ensures asked { IfOk result (λ answer. (offer : _) (scope : _) (held : _) (place : _) (attempt : _)
+    ensures asked { IfOk result (λ answer. (scope : _) (held : _) (place : _) (attempt : _)
         (operand : _) → IsLentFrom place update.cell → name.now ≡ native_of attempt update.token →
-        rest.now ≡ operand ∷ [] → Asked (rules_of limits.now H.name_of offer T.natives)
+        rest.now ≡ operand ∷ [] → Asked (under H.name_of session.now T.natives)
         (update_of update attempt place target.old operand)
         (placed place target.old (state_of (T.state table.old) global.old scope held))
         (reply_of answer) target.new
         (placed place target.new (state_of (T.state table.new) global.new scope held))) }
 {
-    track_operation(limits, global, update.at)?;
+    track_operation(&session.limits, global, update.at)?;
     if is_barred(&*table, name.get().as_str(), target) {
         return Err(non_pure_of(name, update.at));
     }
@@ -142,8 +143,7 @@ pub(crate) fn ask_native<H: Host, T: NativeTable<H>>(
 /// Reads what the answer of the native `op` comes to. It is read while the target is back in its own cell, to
 /// which the operand may lead.
 pub(crate) fn outcome_of<H: Host>(
-    limits: &Limits,
-    alloc: Global,
+    session: &Session<'_, H>,
     cells: &mut CellStore<H>,
     answer: Answer<H>,
     name: &Shared<Text>,
@@ -155,7 +155,7 @@ pub(crate) fn outcome_of<H: Host>(
     ensures cells { cells.new ≡ cells.old }
     ensures target { target.new ≡ target.old }
     ensures told { IfSome (reply_of answer) (λ reply. Answers result
-        (replied_at limits.now H.name_of reply (Some target.old) rest.now
+        (replied_at session.now.limits H.name_of reply (Some target.old) rest.now
         (record { name = name.now; token = Some update.token; at = update.at }) false
         (cells_seen update.cell target.old (cells_of cells.old)))) }
     ensures memory { HasMemory result → is_some (reply_of answer) ≡ true }
@@ -164,13 +164,33 @@ pub(crate) fn outcome_of<H: Host>(
     let token = Some(update.token);
     let Some(id) = update.cell else {
         return replied(
-            alloc, limits, cells, answer, name, false, token, target, rest, update.at,
+            session,
+            cells,
+            answer,
+            &Operation {
+                name,
+                token,
+                at: update.at,
+            },
+            false,
+            target,
+            rest,
         );
     };
     put_back(cells, id, replace(target, unit_value()));
     let back = cells.get(id).unwrap();
     let outcome = replied(
-        alloc, limits, cells, answer, name, false, token, back, rest, update.at,
+        session,
+        cells,
+        answer,
+        &Operation {
+            name,
+            token,
+            at: update.at,
+        },
+        false,
+        back,
+        rest,
     );
     let_go(replace(target, cells.take(id).unwrap()));
     outcome

@@ -1,7 +1,7 @@
 //! Where the value of a variable stands, as it is assigned to: it is found, read, taken and
 //! written there.
 
-ghost use Rattle.std.specs.Prelude.{◌≡◌, ◌||◌, Err, Some, IsTrue, false, true};
+ghost use Rattle.std.specs.Prelude.{◌≡◌, ◌||◌, Err, Some, false, true};
 ghost use Rattle.rhai_values.specs.Cells.{cells_of, value_of_cell};
 ghost use Rattle.rhai_state.specs.Scope.{entries_of, value_in};
 ghost use Rattle.rhai_machine.specs.language.Values.{unit_value as unit};
@@ -10,28 +10,27 @@ ghost use Rattle.rhai_machine.specs.language.Places.{is_constant as constant_at,
 ghost use Rattle.rhai_machine.specs.language.Places.{target_at, target_meant, target_of};
 ghost use Rattle.rhai_machine.specs.language.Places.{unless_constant as allowed, while_lent};
 ghost use Rattle.rhai_machine.specs.language.Variables.{variable_named};
-ghost use Rattle.rhai_steps.specs.Agreement.{AgreesAt, variable_is_good};
+ghost use Rattle.rhai_steps.specs.Agreement.{AgreesAt};
 ghost use Rattle.rhai_steps.specs.Offers.{globals_in};
 ghost use Rattle.rhai_steps.specs.States.{surroundings_of};
+ghost use Rattle.rhai_steps.specs.Variables.{offset_is_good, variable_told};
 ghost use Rattle.rhai_state.specs.Errors.{is_out_of_memory};
 ghost use Rattle.rhai_assign.specs.Targets.{Finds, FindsNamed, IsKnownAt, IsPut, entries_put, named_target, own_cell};
 ghost use Rattle.rhai_assign.specs.Targets.{place_in, stands_at, there, value_standing_at};
 
-use rhai_functions::function::Offered;
 use rhai_state::error::EvalAltResult;
+use rhai_state::errors::{assignment_to_constant, data_race_of};
 use rhai_state::scope::Scope;
+use rhai_state::session::Session;
 use rhai_state::state::GlobalRuntimeState;
-use rhai_steps::errors::{assignment_to_constant, data_race_of};
 use rhai_steps::values::{let_go, unit_value};
-use rhai_steps::variables::{entry_of_variable, read_beside};
+use rhai_steps::variables::{Variable, entry_of_variable, read_beside};
 use rhai_tree::expr::Namespace;
 use rhai_tree::position::Position;
 use rhai_tree::token::Token;
 use rhai_tree::{Shared, Text};
 use rhai_values::base::value::{AccessMode, CellId, Dynamic, Host, Union};
 use rhai_values::cells::{CellStore, put_back};
-use std::alloc::Global;
-use std::num::NonZeroUsize;
 
 /// Where a variable's value stands: in an entry of the scope, or in a cell.
 #[derive(Clone, Copy)]
@@ -130,17 +129,26 @@ fn entry_target<H: Host>(
 pub(crate) fn find_named<H: Host>(
     global: &GlobalRuntimeState<H>,
     scope: &Scope<H>,
-    offset: Option<NonZeroUsize>,
-    name: &Shared<Text>,
-    namespace: &Namespace,
-    pos: Position,
+    variable: &Variable<'_>,
 ) -> Option<Place>
-    requires { AgreesAt global.now scope.now (variable_is_good offset name.now namespace.now.path) }
+    requires { AgreesAt global.now scope.now (offset_is_good variable.now) }
     ensures { FindsNamed result (entries_of scope.now) (cells_of global.now.cells)
-        (named_target (cells_of global.now.cells) namespace.now.path name.now pos (entries_of scope.now)) }
+        (named_target (cells_of global.now.cells) variable.now.namespace.now.path variable.now.name.now variable.now.at (entries_of scope.now)) }
 {
-    let index = entry_of_variable(global, scope, offset, name, namespace)?;
-    match entry_target(&global.cells, index, scope.value_at(index), name, pos) {
+    let index = entry_of_variable(
+        global,
+        scope,
+        variable.offset,
+        variable.name,
+        variable.namespace,
+    )?;
+    match entry_target(
+        &global.cells,
+        index,
+        scope.value_at(index),
+        variable.name,
+        variable.at,
+    ) {
         Ok(place) => Some(place),
         Err(error) => {
             drop(error);
@@ -153,8 +161,7 @@ pub(crate) fn find_named<H: Host>(
 #[cold]
 #[inline(never)]
 fn no_target<H: Host>(
-    alloc: Global,
-    offered: &Offered<'_, H>,
+    session: &Session<'_, H>,
     global: &GlobalRuntimeState<H>,
     name: &Shared<Text>,
     namespace: &Namespace,
@@ -162,10 +169,10 @@ fn no_target<H: Host>(
 ) -> EvalAltResult<H>
     ensures { is_out_of_memory result ≡ false →
         target_meant (cells_of global.now.cells) name.now pos (temporary (value_beside
-        (globals_in offered.now) (surroundings_of global.now) (variable_named name.now namespace.now pos)))
+        (globals_in session.now.offered) (surroundings_of global.now) (variable_named name.now namespace.now pos)))
         ≡ Err result }
 {
-    match read_beside(alloc, offered, global, name, namespace, pos) {
+    match read_beside(session, global, name, namespace, pos) {
         Ok(value) => {
             let_go(value);
             assignment_to_constant(name, pos)
@@ -177,23 +184,37 @@ fn no_target<H: Host>(
 /// Finds the place of a variable, as it is assigned to. It is found as `entry_of_variable` says, which asks
 /// the same of its offset.
 pub(crate) fn find_target<H: Host>(
-    alloc: Global,
-    offered: &Offered<'_, H>,
+    session: &Session<'_, H>,
     global: &GlobalRuntimeState<H>,
     scope: &Scope<H>,
-    offset: Option<NonZeroUsize>,
-    name: &Shared<Text>,
-    namespace: &Namespace,
-    pos: Position,
+    variable: &Variable<'_>,
 ) -> Result<Place, EvalAltResult<H>>
-    requires { AgreesAt global.now scope.now (variable_is_good offset name.now namespace.now.path) }
+    requires { AgreesAt global.now scope.now (offset_is_good variable.now) }
     ensures { Finds result (entries_of scope.now) (cells_of global.now.cells)
-        (target_of (globals_in offered.now) (surroundings_of global.now) (entries_of scope.now)
-        (variable_named name.now namespace.now pos)) }
+        (target_of (globals_in session.now.offered) (surroundings_of global.now) (entries_of scope.now)
+        (variable_told variable.now)) }
 {
-    match entry_of_variable(global, scope, offset, name, namespace) {
-        Some(index) => entry_target(&global.cells, index, scope.value_at(index), name, pos),
-        None => Err(no_target(alloc, offered, global, name, namespace, pos)),
+    match entry_of_variable(
+        global,
+        scope,
+        variable.offset,
+        variable.name,
+        variable.namespace,
+    ) {
+        Some(index) => entry_target(
+            &global.cells,
+            index,
+            scope.value_at(index),
+            variable.name,
+            variable.at,
+        ),
+        None => Err(no_target(
+            session,
+            global,
+            variable.name,
+            variable.namespace,
+            variable.at,
+        )),
     }
 }
 

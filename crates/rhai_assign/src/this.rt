@@ -1,22 +1,25 @@
 //! Assignment to `this`. Ports what upstream's assignments do where the left side is `this`.
 
-ghost use Rattle.std.specs.Prelude.{◌≡◌, ◌≤◌, [], Some, false};
+ghost use Rattle.std.specs.Prelude.{[], Some};
 ghost use Rattle.rhai_values.specs.Cells.{cells_of, value_of_cell};
 ghost use Rattle.rhai_machine.specs.language.Places.{focus_in_cell, this_target as this_target_of};
-ghost use Rattle.rhai_machine.specs.language.Setting.{rules_of};
+ghost use Rattle.rhai_machine.specs.language.Frames.{ended};
+ghost use Rattle.rhai_machine.specs.language.Assignment.{store_this};
 ghost use Rattle.rhai_steps.specs.Agreement.{KeepsSight};
+ghost use Rattle.rhai_steps.specs.Sessions.{under};
 ghost use Rattle.rhai_steps.specs.States.{state_of};
-ghost use Rattle.rhai_assign.specs.FocusTargets.{FindsThis, FollowsThis};
+ghost use Rattle.rhai_steps.specs.Follows.{Follows};
+ghost use Rattle.rhai_assign.specs.FocusTargets.{FindsThis};
 ghost use Rattle.rhai_assign.specs.Keeps.{KeepsHeld};
 
-use crate::focus::{assign_in_cell, nameless_constant};
+use crate::focus::assign_in_cell;
 use crate::place::is_constant;
 use crate::update::assign_lent;
 use rhai_state::error::EvalAltResult;
-use rhai_state::limits::Limits;
+use rhai_state::errors::{data_race, nameless_constant};
+use rhai_state::session::Session;
 use rhai_state::state::GlobalRuntimeState;
 use rhai_state::table::NativeTable;
-use rhai_steps::errors::data_race;
 use rhai_steps::values::let_go;
 use rhai_tree::expr::OpAssignment;
 use rhai_tree::position::Position;
@@ -85,29 +88,25 @@ fn this_target<H: Host>(
 /// what the operator answers, and `ErrorDataTooLarge` for a value above a limit; what a native left in the
 /// target is measured at `this`.
 pub fn assign_this<H: Host, T: NativeTable<H>>(
-    limits: &Limits,
-    alloc: Global,
+    session: &Session<'_, H>,
     global: &mut GlobalRuntimeState<H>,
     table: &mut T,
     this: &mut Dynamic<H>,
     pos: Position,
     op: OpAssignment,
     value: Dynamic<H>,
-    fast: bool,
 ) -> Result<Dynamic<H>, EvalAltResult<H>>
     ensures keeps { KeepsHeld global.old global.new }
     ensures sight { KeepsSight global.old global.new }
-    ensures runs { (offer : _) (scope : _) (focus : _) → offer.fast_operators ≡ fast →
-        FollowsThis (rules_of limits.now H.name_of offer T.natives) op pos value
+    ensures runs { (scope : _) (focus : _) → let rules = under H.name_of session.now T.natives in
+        Follows rules ended (store_this rules.setting op pos value)
         (state_of (T.state table.old) global.old scope (record { this = Some this.old; focus = focus }))
         result
         (state_of (T.state table.new) global.new scope (record { this = Some this.new; focus = focus })) }
 {
-    match this_target(alloc, &global.cells, this, pos) {
-        Ok(None) => assign_lent(
-            limits, alloc, global, table, this, None, pos, op, value, fast,
-        ),
-        Ok(Some(id)) => assign_in_cell(limits, alloc, global, table, id, pos, op, value, fast),
+    match this_target(session.alloc, &global.cells, this, pos) {
+        Ok(None) => assign_lent(session, global, table, this, None, pos, op, value),
+        Ok(Some(id)) => assign_in_cell(session, global, table, id, pos, op, value),
         Err(error) => {
             let_go(value);
             Err(error)

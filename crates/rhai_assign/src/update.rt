@@ -3,13 +3,15 @@
 
 ghost use Rattle.std.specs.Prelude.{◌≡◌, ◌∷◌, [], length, true, false};
 ghost use Rattle.rhai_values.specs.Cells.{IsNoHandle, cells_of};
-ghost use Rattle.rhai_machine.specs.language.Setting.{rules_of};
 ghost use Rattle.rhai_machine.specs.language.Places.{is_constant, target as target_in};
-ghost use Rattle.rhai_machine.specs.language.Frames.{AskUpdate, AsValue, InPlace};
+ghost use Rattle.rhai_machine.specs.language.Frames.{AskUpdate, AsValue, InPlace, ended};
 ghost use Rattle.rhai_machine.specs.language.Runs.{Runs};
+ghost use Rattle.rhai_machine.specs.language.Assignment.{assign_core};
 ghost use Rattle.rhai_steps.specs.Agreement.{KeepsSight};
+ghost use Rattle.rhai_steps.specs.Follows.{Follows};
+ghost use Rattle.rhai_steps.specs.Sessions.{under};
 ghost use Rattle.rhai_steps.specs.States.{state_of};
-ghost use Rattle.rhai_assign.specs.Follows.{FollowsAssign, FollowsTry, FollowsUpdate};
+ghost use Rattle.rhai_assign.specs.Follows.{updates, tries};
 ghost use Rattle.rhai_assign.specs.Keeps.{Charges, Keeps};
 ghost use Rattle.rhai_assign.specs.Lending.{placed, IsFree, IsLentFrom, IsOwnCell};
 ghost use Rattle.rhai_assign.specs.Targets.{own_cell, place_in, standing_at, stands_at};
@@ -20,23 +22,21 @@ use crate::place::{Place, Update, cell_of, put, take};
 use crate::write::{measure_changed, write_lent, write_value};
 use rhai_operators::builtin_op_assign;
 use rhai_state::error::EvalAltResult;
-use rhai_state::limits::Limits;
+use rhai_state::errors::shared_text;
 use rhai_state::scope::Scope;
+use rhai_state::session::Session;
 use rhai_state::state::GlobalRuntimeState;
 use rhai_state::table::{Answer, NativeTable};
-use rhai_steps::errors::shared_text;
 use rhai_steps::replies::position_if_none as at_call;
 use rhai_steps::values::{let_go, list_of, unit_value};
 use rhai_tree::expr::OpAssignment;
 use rhai_tree::position::Position;
 use rhai_values::base::value::{AccessMode, CellId, Dynamic, Host};
-use std::alloc::Global;
 use std::mem::replace;
 
 /// Updates a target by the native `op`, which gives its new value.
 fn update_by_value<H: Host, T: NativeTable<H>>(
-    limits: &Limits,
-    alloc: Global,
+    session: &Session<'_, H>,
     global: &mut GlobalRuntimeState<H>,
     table: &mut T,
     target: &mut Dynamic<H>,
@@ -47,27 +47,26 @@ fn update_by_value<H: Host, T: NativeTable<H>>(
     requires plain { IsNoHandle target.old.value }
     ensures keeps { Charges global.old global.new }
     ensures sight { KeepsSight global.old global.new }
-    ensures runs { (offer : _) (scope : _) (held : _) (place : _) (operand : _) →
+    ensures runs { (scope : _) (held : _) (place : _) (operand : _) →
         IsLentFrom place update.cell → rest.now ≡ operand ∷ [] →
-        Runs (rules_of limits.now H.name_of offer T.natives)
+        Runs (under H.name_of session.now T.natives)
         (AskUpdate (update_of update AsValue place target.old operand))
         (placed place target.old (state_of (T.state table.old) global.old scope held))
         result (placed place target.new (state_of (T.state table.new) global.new scope held)) }
 {
-    let Ok(name) = shared_text(alloc, update.token.as_str()) else {
+    let Ok(name) = shared_text(session.alloc, update.token.as_str()) else {
         return Err(EvalAltResult::ErrorOutOfMemory(update.at));
     };
-    let answer = ask_native(limits, global, table, target, update, &name, rest)?;
+    let answer = ask_native(session, global, table, target, update, &name, rest)?;
     let cells = &mut global.cells;
-    let outcome = outcome_of(limits, alloc, cells, answer, &name, target, update, rest);
-    write_value(limits, alloc, target, update, outcome)
+    let outcome = outcome_of(session, cells, answer, &name, target, update, rest);
+    write_value(session, target, update, outcome)
 }
 
 /// Updates a target whose native `op=` is missing. The built-in is tried on the target as that native left
 /// it, or else the native `op`.
 fn update_again<H: Host, T: NativeTable<H>>(
-    limits: &Limits,
-    alloc: Global,
+    session: &Session<'_, H>,
     global: &mut GlobalRuntimeState<H>,
     table: &mut T,
     target: &mut Dynamic<H>,
@@ -79,24 +78,23 @@ fn update_again<H: Host, T: NativeTable<H>>(
     requires one { length rest.now ≡ 1 }
     ensures keeps { Charges global.old global.new }
     ensures sight { KeepsSight global.old global.new }
-    ensures runs { (offer : _) (scope : _) (held : _) (place : _) (operand : _) →
+    ensures runs { (scope : _) (held : _) (place : _) (operand : _) →
         IsLentFrom place update.cell → rest.now ≡ operand ∷ [] →
-        FollowsUpdate (rules_of limits.now H.name_of offer T.natives)
-        (update_of update AsValue place target.old operand)
-        (placed place target.old (state_of (T.state table.old) global.old scope held))
-        result (placed place target.new (state_of (T.state table.new) global.new scope held)) }
+        let rules = under H.name_of session.now T.natives in
+        Follows rules ended (updates rules.setting (update_of update AsValue place target.old operand))
+        (placed place target.old (state_of (T.state table.old) global.old scope held)) result
+        (placed place target.new (state_of (T.state table.new) global.new scope held)) }
 {
-    match builtin_op_assign(alloc, update.token, target, &rest[0]) {
-        Some(outcome) => write_lent(limits, alloc, target, update.at, outcome),
-        None => update_by_value(limits, alloc, global, table, target, update, rest),
+    match builtin_op_assign(session.alloc, update.token, target, &rest[0]) {
+        Some(outcome) => write_lent(session, target, update.at, outcome),
+        None => update_by_value(session, global, table, target, update, rest),
     }
 }
 
 /// Updates a target by the native `op=`, which changes it. Where it is missing, the update goes on without
 /// it.
 fn update_in_place<H: Host, T: NativeTable<H>>(
-    limits: &Limits,
-    alloc: Global,
+    session: &Session<'_, H>,
     global: &mut GlobalRuntimeState<H>,
     table: &mut T,
     target: &mut Dynamic<H>,
@@ -108,22 +106,22 @@ fn update_in_place<H: Host, T: NativeTable<H>>(
     requires one { length rest.now ≡ 1 }
     ensures keeps { Charges global.old global.new }
     ensures sight { KeepsSight global.old global.new }
-    ensures runs { (offer : _) (scope : _) (held : _) (place : _) (operand : _) →
+    ensures runs { (scope : _) (held : _) (place : _) (operand : _) →
         IsLentFrom place update.cell → rest.now ≡ operand ∷ [] →
-        Runs (rules_of limits.now H.name_of offer T.natives)
+        Runs (under H.name_of session.now T.natives)
         (AskUpdate (update_of update InPlace place target.old operand))
         (placed place target.old (state_of (T.state table.old) global.old scope held))
         result (placed place target.new (state_of (T.state table.new) global.new scope held)) }
 {
-    let Ok(name) = assigning_name(alloc, update.token) else {
+    let Ok(name) = assigning_name(session.alloc, update.token) else {
         return Err(EvalAltResult::ErrorOutOfMemory(update.at));
     };
-    match ask_native(limits, global, table, target, update, &name, rest)? {
-        Answer::Missing => update_again(limits, alloc, global, table, target, update, rest),
-        Answer::Value(value) => measure_changed(limits, alloc, update, value, target),
+    match ask_native(session, global, table, target, update, &name, rest)? {
+        Answer::Missing => update_again(session, global, table, target, update, rest),
+        Answer::Value(value) => measure_changed(session, update, value, target),
         Answer::Fault(error) => match unless_missing(&name, error) {
             Some(error) => Err(at_call(error, update.at)),
-            None => update_by_value(limits, alloc, global, table, target, update, rest),
+            None => update_by_value(session, global, table, target, update, rest),
         },
         Answer::NoMemory => Err(EvalAltResult::ErrorOutOfMemory(update.at)),
     }
@@ -131,8 +129,7 @@ fn update_in_place<H: Host, T: NativeTable<H>>(
 
 /// Updates a target by the natives of the operator.
 pub(crate) fn update_by_natives<H: Host, T: NativeTable<H>>(
-    limits: &Limits,
-    alloc: Global,
+    session: &Session<'_, H>,
     global: &mut GlobalRuntimeState<H>,
     table: &mut T,
     target: &mut Dynamic<H>,
@@ -143,16 +140,16 @@ pub(crate) fn update_by_natives<H: Host, T: NativeTable<H>>(
     requires free { IsFree target.old }
     ensures keeps { Charges global.old global.new }
     ensures sight { KeepsSight global.old global.new }
-    ensures runs { (offer : _) (scope : _) (held : _) (place : _) → IsLentFrom place update.cell →
-        Runs (rules_of limits.now H.name_of offer T.natives)
+    ensures runs { (scope : _) (held : _) (place : _) → IsLentFrom place update.cell →
+        Runs (under H.name_of session.now T.natives)
         (AskUpdate (update_of update InPlace place target.old operand))
         (placed place target.old (state_of (T.state table.old) global.old scope held))
         result (placed place target.new (state_of (T.state table.new) global.new scope held)) }
 {
-    match list_of(alloc, operand) {
+    match list_of(session.alloc, operand) {
         Ok(rest) => {
             let rest = rest.as_slice();
-            update_in_place(limits, alloc, global, table, target, update, rest)
+            update_in_place(session, global, table, target, update, rest)
         }
         Err(operand) => {
             let_go(operand);
@@ -163,8 +160,7 @@ pub(crate) fn update_by_natives<H: Host, T: NativeTable<H>>(
 
 /// Updates a target by the built-in, or else by the natives.
 fn update_by_builtin<H: Host, T: NativeTable<H>>(
-    limits: &Limits,
-    alloc: Global,
+    session: &Session<'_, H>,
     global: &mut GlobalRuntimeState<H>,
     table: &mut T,
     target: &mut Dynamic<H>,
@@ -175,54 +171,51 @@ fn update_by_builtin<H: Host, T: NativeTable<H>>(
     requires free { IsFree target.old }
     ensures keeps { Charges global.old global.new }
     ensures sight { KeepsSight global.old global.new }
-    ensures runs { (offer : _) (scope : _) (held : _) (place : _) → IsLentFrom place update.cell →
-        FollowsUpdate (rules_of limits.now H.name_of offer T.natives)
-        (update_of update InPlace place target.old operand)
-        (placed place target.old (state_of (T.state table.old) global.old scope held))
-        result (placed place target.new (state_of (T.state table.new) global.new scope held)) }
+    ensures runs { (scope : _) (held : _) (place : _) → IsLentFrom place update.cell →
+        let rules = under H.name_of session.now T.natives in
+        Follows rules ended (updates rules.setting (update_of update InPlace place target.old operand))
+        (placed place target.old (state_of (T.state table.old) global.old scope held)) result
+        (placed place target.new (state_of (T.state table.new) global.new scope held)) }
 {
-    match builtin_op_assign(alloc, update.token, target, &operand) {
+    match builtin_op_assign(session.alloc, update.token, target, &operand) {
         Some(outcome) => {
             let_go(operand);
-            write_lent(limits, alloc, target, update.at, outcome)
+            write_lent(session, target, update.at, outcome)
         }
-        None => update_by_natives(limits, alloc, global, table, target, update, operand),
+        None => update_by_natives(session, global, table, target, update, operand),
     }
 }
 
 /// Updates a target that is lent. The built-in is tried first under fast operators alone.
 fn update<H: Host, T: NativeTable<H>>(
-    limits: &Limits,
-    alloc: Global,
+    session: &Session<'_, H>,
     global: &mut GlobalRuntimeState<H>,
     table: &mut T,
     target: &mut Dynamic<H>,
     update: Update,
     operand: Dynamic<H>,
-    fast: bool,
 ) -> Result<Dynamic<H>, EvalAltResult<H>>
     requires own { IsOwnCell update.cell (cells_of global.old.cells) }
     requires free { IsFree target.old }
     ensures keeps { Charges global.old global.new }
     ensures sight { KeepsSight global.old global.new }
-    ensures runs { (offer : _) (scope : _) (held : _) (place : _) → offer.fast_operators ≡ fast →
-        IsLentFrom place update.cell → FollowsTry (rules_of limits.now H.name_of offer T.natives)
-        (update_of update InPlace place target.old operand)
-        (placed place target.old (state_of (T.state table.old) global.old scope held))
-        result (placed place target.new (state_of (T.state table.new) global.new scope held)) }
+    ensures runs { (scope : _) (held : _) (place : _) → IsLentFrom place update.cell → let rules = under H.name_of session.now T.natives in
+        Follows rules ended (tries rules.setting (update_of update InPlace place target.old operand))
+        (placed place target.old (state_of (T.state table.old) global.old scope held)) result
+        (placed place target.new (state_of (T.state table.new) global.new scope held)) }
 {
+    let fast = session.fast_operators;
     if fast {
-        update_by_builtin(limits, alloc, global, table, target, update, operand)
+        update_by_builtin(session, global, table, target, update, operand)
     } else {
-        update_by_natives(limits, alloc, global, table, target, update, operand)
+        update_by_natives(session, global, table, target, update, operand)
     }
 }
 
 /// Assigns a value to a target that is lent, as it is or by an operator. Asked: the cell that it was
 /// taken from is held.
 pub(crate) fn assign_lent<H: Host, T: NativeTable<H>>(
-    limits: &Limits,
-    alloc: Global,
+    session: &Session<'_, H>,
     global: &mut GlobalRuntimeState<H>,
     table: &mut T,
     target: &mut Dynamic<H>,
@@ -230,18 +223,18 @@ pub(crate) fn assign_lent<H: Host, T: NativeTable<H>>(
     pos: Position,
     op: OpAssignment,
     value: Dynamic<H>,
-    fast: bool,
 ) -> Result<Dynamic<H>, EvalAltResult<H>>
     requires own { IsOwnCell cell (cells_of global.old.cells) }
     requires free { IsFree target.old }
     ensures keeps { Charges global.old global.new }
     ensures sight { KeepsSight global.old global.new }
-    ensures runs { (offer : _) (scope : _) (held : _) (path : _) (name : _) (place : _) →
-        offer.fast_operators ≡ fast → IsLentFrom place cell →
-        FollowsAssign (rules_of limits.now H.name_of offer T.natives)
-        (record { path = path; name = name; at = pos; op = op }) (target_in place target.old) value
-        (placed place target.old (state_of (T.state table.old) global.old scope held))
-        result (placed place target.new (state_of (T.state table.new) global.new scope held)) }
+    ensures runs { (scope : _) (held : _) (path : _) (name : _) (place : _) →
+        IsLentFrom place cell →
+        let rules = under H.name_of session.now T.natives in
+        Follows rules ended
+        (assign_core rules.setting op.op (record { path = path; name = name; at = pos; op = op }) (target_in place target.old) value)
+        (placed place target.old (state_of (T.state table.old) global.old scope held)) result
+        (placed place target.new (state_of (T.state table.new) global.new scope held)) }
 {
     match op.op {
         Some(token) => {
@@ -251,7 +244,7 @@ pub(crate) fn assign_lent<H: Host, T: NativeTable<H>>(
                 cell,
                 target_at: pos,
             };
-            update(limits, alloc, global, table, target, by, value, fast)
+            update(session, global, table, target, by, value)
         }
         None => {
             let mut value = value;
@@ -264,37 +257,34 @@ pub(crate) fn assign_lent<H: Host, T: NativeTable<H>>(
 
 /// Updates the value at a place, which is taken from there and goes back whatever comes of it.
 fn update_at<H: Host, T: NativeTable<H>>(
-    limits: &Limits,
-    alloc: Global,
+    session: &Session<'_, H>,
     global: &mut GlobalRuntimeState<H>,
     table: &mut T,
     scope: &mut Scope<H>,
     place: Place,
     by: Update,
     operand: Dynamic<H>,
-    fast: bool,
 ) -> Result<Dynamic<H>, EvalAltResult<H>>
     requires stands { stands_at place scope.old global.old.cells ≡ true }
     requires writable { is_constant (standing_at place scope.old global.old.cells).mode ≡ false }
     requires lent { by.cell ≡ own_cell place }
     ensures keeps { Keeps global.old global.new scope.old scope.new }
     ensures sight { KeepsSight global.old global.new }
-    ensures runs { (offer : _) (held : _) → offer.fast_operators ≡ fast →
-        FollowsTry (rules_of limits.now H.name_of offer T.natives)
-        (update_of by InPlace (place_in place) (standing_at place scope.old global.old.cells) operand)
-        (state_of (T.state table.old) global.old scope.old held)
-        result (state_of (T.state table.new) global.new scope.new held) }
+    ensures runs { (held : _) → let rules = under H.name_of session.now T.natives in
+        Follows rules ended
+        (tries rules.setting (update_of by InPlace (place_in place) (standing_at place scope.old global.old.cells) operand))
+        (state_of (T.state table.old) global.old scope.old held) result
+        (state_of (T.state table.new) global.new scope.new held) }
 {
     let mut target = take(&mut global.cells, scope, place);
-    let result = update(limits, alloc, global, table, &mut target, by, operand, fast);
+    let result = update(session, global, table, &mut target, by, operand);
     put(&mut global.cells, scope, place, target);
     result
 }
 
 /// Assigns a value to a place that was found, as it is or by an operator.
 pub(crate) fn store<H: Host, T: NativeTable<H>>(
-    limits: &Limits,
-    alloc: Global,
+    session: &Session<'_, H>,
     global: &mut GlobalRuntimeState<H>,
     table: &mut T,
     scope: &mut Scope<H>,
@@ -302,18 +292,16 @@ pub(crate) fn store<H: Host, T: NativeTable<H>>(
     pos: Position,
     op: OpAssignment,
     value: Dynamic<H>,
-    fast: bool,
 ) -> Result<Dynamic<H>, EvalAltResult<H>>
     requires stands { stands_at place scope.old global.old.cells ≡ true }
     requires writable { is_constant (standing_at place scope.old global.old.cells).mode ≡ false }
     ensures keeps { Keeps global.old global.new scope.old scope.new }
     ensures sight { KeepsSight global.old global.new }
-    ensures runs { (offer : _) (held : _) (path : _) (name : _) → offer.fast_operators ≡ fast →
-        FollowsAssign (rules_of limits.now H.name_of offer T.natives)
-        (record { path = path; name = name; at = pos; op = op })
-        (target_in (place_in place) (standing_at place scope.old global.old.cells)) value
-        (state_of (T.state table.old) global.old scope.old held)
-        result (state_of (T.state table.new) global.new scope.new held) }
+    ensures runs { (held : _) (path : _) (name : _) → let rules = under H.name_of session.now T.natives in
+        Follows rules ended
+        (assign_core rules.setting op.op (record { path = path; name = name; at = pos; op = op }) (target_in (place_in place) (standing_at place scope.old global.old.cells)) value)
+        (state_of (T.state table.old) global.old scope.old held) result
+        (state_of (T.state table.new) global.new scope.new held) }
 {
     match op.op {
         Some(token) => {
@@ -323,7 +311,7 @@ pub(crate) fn store<H: Host, T: NativeTable<H>>(
                 cell: cell_of(place),
                 target_at: pos,
             };
-            update_at(limits, alloc, global, table, scope, place, by, value, fast)
+            update_at(session, global, table, scope, place, by, value)
         }
         None => {
             let mut value = value;

@@ -26,29 +26,29 @@ use Rattle.rhai_state.specs.declared.limits.Limits.{Limits}
 use Rattle.rhai_state.specs.Native.{Gives, MayLeave, Named, Obeys, Reply, request}
 use Rattle.rhai_state.specs.Scope.{entries_of, name_of, revalued, value_in}
 use Rattle.rhai_machine.specs.machine.Machine.{Charge, Go}
-use Rattle.rhai_machine.specs.machine.Memory.{here, ◌⨾◌}
-use Rattle.rhai_machine.specs.language.Setting.{Rules, globals_of, limit_under}
+use Rattle.rhai_machine.specs.machine.Memory.{here, ◌⨾◌, Leads}
+use Rattle.rhai_machine.specs.language.Setting.{Rules, globals_of, limit_under, cut}
 use Rattle.rhai_machine.specs.language.State.{Answers, HasMemory, Held, State}
 use Rattle.rhai_machine.specs.language.Values.{Cells, is_handle}
 use Rattle.rhai_machine.specs.language.Places.{is_constant}
-use Rattle.rhai_machine.specs.language.Calls.{is_held, plainly, replied}
+use Rattle.rhai_machine.specs.language.Calls.{is_held, call_races, plainly, replied, dispatch_core}
 use Rattle.rhai_machine.specs.language.Variables.{Variable, variable_named}
 use Rattle.rhai_machine.specs.language.Names.{entry_named}
 use Rattle.rhai_machine.specs.language.Arguments.{arguments_core, function_move, function_of}
 use Rattle.rhai_machine.specs.language.Frames.{Ask, Call, Control, Frame, FromEntry, OpenExpr, Operation, ToCallOn}
 use Rattle.rhai_machine.specs.language.Frames.{ended, ended_or_changed}
-use Rattle.rhai_machine.specs.language.Runs.{Goes, Runs, Steps, at, with_core}
+use Rattle.rhai_machine.specs.language.Runs.{Runs, Steps, at, with_core, Goes}
+use Rattle.rhai_machine.specs.language.Language.{machine}
 use Rattle.rhai_steps.specs.States.{local_of, state_of, surroundings_of}
 use Rattle.rhai_steps.proofs.Pieces.{step_by}
 use Rattle.rhai_operands.proofs.InPlace.{integer_sized}
 use Rattle.rhai_operands.proofs.Names.{both, operands_of_call}
-use Rattle.rhai_calls.specs.declared.dispatch.Dispatched.TheVariants.{Ended}
+use Rattle.rhai_calls.specs.declared.dispatch.Called.TheVariants.{Ended}
 use Rattle.rhai_calls.specs.declared.dispatch.Seeks.{Seeks}
-use Rattle.rhai_calls.specs.Called as called
-use Rattle.rhai_calls.specs.Called.{Calls}
-use Rattle.rhai_calls.specs.Dispatch.{Dispatches, IfEnded, Means, meant, plain_found}
+use Rattle.rhai_calls.specs.Called.{came_out}
+use Rattle.rhai_calls.specs.Dispatch.{IfEnded, ended_early, meant, plain_found, came_to}
 use Rattle.rhai_calls.specs.Lending.{back_in, lent_call, passed_call}
-use Rattle.rhai_calls.specs.ToldChanges.{MarkedRuns, with_changed, without_changed}
+use Rattle.rhai_calls.specs.ToldChanges.{with_changed, without_changed}
 use Rattle.rhai_calls.proofs.Dispatching.{calls_ended, resolved_asks}
 use Rattle.rhai_calls.specs.Natives.{is_pure_on}
 use Rattle.rhai_calls.proofs.NativeCalls.{calls_on, charges_call, first_by_itself, plain_ends, plain_changed}
@@ -57,7 +57,6 @@ use Rattle.rhai_call_forms.specs.Leading.{Leading, takes_by_value, lent_first}
 use Rattle.rhai_call_forms.proofs.FormLemmas.{function_goes}
 use Rattle.rhai_call_forms.proofs.LeadingLemmas.{variable_goes}
 use Rattle.rhai_plain.proofs.PlainSteps.{Means as MeansNothing, means_nothing, plain_named}
-use Rattle.rhai_callees.specs.Going.{GoesOut}
 use Rattle.rhai_callees.specs.Variables.{is_lendable}
 use Rattle.rhai_callees.proofs.Going.{on_called}
 use Rattle.rhai_callees.proofs.Passing.{on_lent}
@@ -70,8 +69,8 @@ module _ {S H : Type 0} (rules : Rules S H) where
   -- an answer that changed nothing is the call's
   pub ended_plain : (c : Control H) (old new : State S H) (r : Result (Dynamic H × Bool) (EvalAltResult H))
       (q : Result (Dynamic H) (EvalAltResult H)) → IfOk r (λ answer. false ≡ false → answer.1 ≡ false) → q ≡ without_changed r →
-      MarkedRuns rules c old r new → Runs rules c old q new
-  unfolding Steps
+      Steps rules c old (ended_or_changed r) new → Runs rules c old q new
+  unfolding Goes
   ended_plain c old new r q plain is runs k = rw (is, ← plain_ends r plain) (runs k)
 
 -- a value that goes back to its entry
@@ -89,14 +88,15 @@ pub asks_entry : {S H : Type 0} (rules : Rules S H) (operation : Operation) (i :
     entries_of later ≡ revalued (entries_of scope) i (slice_get (entries_of scope) i) left →
     (r : Result (Dynamic H × Bool) (EvalAltResult H)) (q : Result (Dynamic H) (EvalAltResult H)) →
     IfOk r (λ answer. false ≡ false → answer.1 ≡ false) → q ≡ without_changed r →
-    MarkedRuns rules (Ask (passed_call operation (Some (FromEntry i)) true false (v ∷ []))) (state_of t old scope held) r
+    Steps rules (Ask (passed_call operation (Some (FromEntry i)) true false (v ∷ []))) (state_of t old scope held) (ended_or_changed r)
     (back_in (Some (FromEntry i)) left (state_of t' last scope held)) →
     Runs rules (Ask (lent_call operation (Some (FromEntry i)) true (v ∷ []))) (state_of t old scope held) q (state_of t' last later held)
 asks_entry rules operation i v t old t' last scope later held left put_there r q plain is runs =
     ended_plain rules (Ask (lent_call operation (Some (FromEntry i)) true (v ∷ []))) (state_of t old scope held)
     (state_of t' last later held) r q plain is
-    (subst (λ (s : State _ _). MarkedRuns rules (Ask (lent_call operation (Some (FromEntry i)) true (v ∷ []))) (state_of t old scope held)
-    r s) (back_there t' last scope later held i left put_there) runs)
+    (subst (λ (s : State _ _).
+    Steps rules (Ask (lent_call operation (Some (FromEntry i)) true (v ∷ []))) (state_of t old scope held) (ended_or_changed r) s)
+    (back_there t' last scope later held i left put_there) runs)
 
 module _ {H : Type 0} where
   -- a result that changed nothing is itself, without that word
@@ -139,7 +139,7 @@ pub asks_native : {S H : Type 0} (rules : Rules S H) (operation : Operation) (i 
     (cells_of mid.cells))) →
     (HasMemory q → is_some answer ≡ true) →
     Runs rules (Ask (lent_call operation (Some (FromEntry i)) true (v ∷ []))) (state_of t old scope held) q (state_of t' mid later held)
-unfolding Steps
+unfolding Goes
 asks_native rules operation i v lends t old mid t' scope later held left stands put_there room charged answer obeys may q told memory =
     let free = lent_freely (is_constant v.mode) (is_handle v.value) lends in
     let cells = cells_of mid.cells in
@@ -148,7 +148,8 @@ asks_native rules operation i v lends t old mid t' scope later held left stands 
       (obeys, may),
       refl,
     ) refl told memory refl in
-    asks_entry rules operation i v t old t' mid scope later held left put_there (with_changed false q) q (plain_changed false false q (λ h. refl))
+    asks_entry rules operation i v t old t' mid scope later held left put_there (with_changed false q) q
+    (plain_changed false false q (λ h. refl))
     (unchanged_answer_is q)
     (λ k. charges_call rules t old mid scope held (passed_call operation (Some (FromEntry i)) true false (v ∷ [])) room charged k
     ⨾ first_by_itself rules operation None (Some (FromEntry i)) true false v [] t t' mid scope held stands (with_changed false q)
@@ -189,12 +190,19 @@ module _ {H : Type 0} where
   free_by cells (value.Cell id) false is = cc
   free_by cells _ constant is = refl
 
+  -- a call that is not raced and whose name means nothing does not end early
+  no_early_end : (raced : Bool) (meaning : Option (Result (Dynamic H) (EvalAltResult H))) (operation : Operation) → raced ≡ false →
+      meaning ≡ None → ended_early raced meaning operation ≡ None
+  no_early_end true meaning operation free nothing = cc
+  no_early_end false meaning operation free nothing = nothing
+
   -- how a result ends that changed nothing
   unchanged_answer_ends : (q : Result (Dynamic H) (EvalAltResult H)) → ended_or_changed (with_changed false q) ≡ ended q
   unchanged_answer_ends (Ok v) = refl
   unchanged_answer_ends (Err e) = refl
 
-  plain_end : (q : Result (Dynamic H) (EvalAltResult H)) → IfEnded (Ended (with_changed false q)) (λ answer. false ≡ false → answer.1 ≡ false)
+  plain_end : (q : Result (Dynamic H) (EvalAltResult H)) →
+      IfEnded (Ended (with_changed false q)) (λ answer. false ≡ false → answer.1 ≡ false)
   plain_end (Ok v) = λ m. refl
   plain_end (Err e) = tt
 
@@ -218,7 +226,7 @@ module _ {S H : Type 0} (rules : Rules S H) (call : FnCallExpr) (arg : Expr) (lo
 
   -- the call begins, and its variable is charged
   begins : (k : List (Frame H)) →
-      Goes rules (at (OpenExpr (layer.Expr::FnCall call pos)) k (state_of t old scope held))
+      Leads (machine rules) (cut rules) (at (OpenExpr (layer.Expr::FnCall call pos)) k (state_of t old scope held))
       (with_core (arguments_core rules.setting (ToCallOn operation variable (plainly false false)) [] [] k (local_of mid scope held))
       (state_of t mid scope held))
   begins k =
@@ -251,8 +259,14 @@ module _ {S H : Type 0} (rules : Rules S H) (call : FnCallExpr) (arg : Expr) (lo
     free = free_by cells v.value (is_constant v.mode) lends
 
     -- its name means nothing else
-    means : Means None (meant rules.setting.offer (surroundings_of mid) operation rules.setting.host_type (v ∷ []))
-    means = let m : MeansNothing call.name = means_nothing call.name lone.meaning in rw (m.no_type, m.no_compiler) tt
+    means : meant rules.setting.offer (surroundings_of mid) operation rules.setting.host_type (v ∷ []) ≡ None
+    means = let m : MeansNothing call.name = means_nothing call.name lone.meaning in rw (m.no_type, m.no_compiler) refl
+
+    no_end : ended_early (call_races false cells (v ∷ []))
+        (meant rules.setting.offer (surroundings_of mid) operation rules.setting.host_type (v ∷ [])) operation ≡ None
+    no_end = no_early_end (call_races false cells (v ∷ []))
+        (meant rules.setting.offer (surroundings_of mid) operation rules.setting.host_type (v ∷ [])) operation
+        (not_raced (is_held cells v.value) free) means
 
     unfound : None ≡ plain_found rules.setting.offer (surroundings_of mid) call.name 1
     unfound = rw charged (none_there _ native)
@@ -260,16 +274,19 @@ module _ {S H : Type 0} (rules : Rules S H) (call : FnCallExpr) (arg : Expr) (lo
     -- so that the native is asked
     pub at_once : (q : Result (Dynamic H) (EvalAltResult H)) (new : State S H) → Runs rules (Ask lent) (state_of t mid scope held) q new →
         Runs rules (OpenExpr (layer.Expr::FnCall call pos)) (state_of t old scope held) q new
-    unfolding Steps Calls Dispatches GoesOut
+    unfolding Goes
     at_once q new runs k =
         let seeks : Seeks = record { of_method = false; natives_alone = false } in
-        let asks : Dispatches rules (plainly false false) lent (state_of t mid scope held) (Ended (with_changed false q)) new =
-        resolved_asks rules seeks false lent (state_of t mid scope held) (not_raced (is_held cells v.value) free, means, unfound)
+        let asks : Goes rules (dispatch_core rules.setting (plainly false false) lent) (state_of t mid scope held)
+        (came_to (plainly false false) lent (Ended (with_changed false q))) new =
+        resolved_asks rules seeks false lent (state_of t mid scope held) (no_end, unfound)
         (with_changed false q) new (λ r. rw (unchanged_answer_ends q) (runs r)) in
-        let ends : Calls rules (plainly false false) lent (state_of t mid scope held) (called.Ended q) new =
-        calls_ended rules (state_of t mid scope held) new (plainly false false) lent (with_changed false q) q (plain_end q) (unchanged_answer_is q)
+        let ends : Goes rules (dispatch_core rules.setting (plainly false false) lent) (state_of t mid scope held)
+        (came_out true lent.operation.at (Ended q)) new =
+        calls_ended rules (state_of t mid scope held) new (plainly false false) lent (with_changed false q) q (plain_end q)
+        (unchanged_answer_is q)
         asks in
         begins k
         ⨾ on_called rules operation variable (plainly false false) [] (state_of t mid scope held) lent
         (on_lent (globals_of rules.setting.offer) (surroundings_of mid) (entries_of scope) variable operation [] index v there stands free
-        lends) (called.Ended q) new ends k
+        lends) (Ended q) new ends k

@@ -4,6 +4,7 @@
 //! specs/.
 #![tactic(auto)]
 
+ghost use Rattle.rhai_steps.specs.Operations.{operation_of};
 ghost use Rattle.std.specs.Prelude.{◌≡◌, ◌<◌, ◌≤◌, ◌∷◌, [], IsTrue, IfErr, IfOk, IfSome, None, Some, is_some, length, slice_get};
 ghost use Rattle.std.specs.Prelude.{false, true, ℤ};
 ghost use Rattle.std.specs.Option.{option_copied, option_map};
@@ -17,13 +18,12 @@ ghost use Rattle.rhai_state.specs.Scope.{entries_of, names_in, value_in, value_o
 ghost use Rattle.rhai_machine.specs.language.Frames.{Ask, FromEntry, OpenExpr};
 ghost use Rattle.rhai_machine.specs.language.Calls.{replied as replied_at};
 ghost use Rattle.rhai_machine.specs.language.Runs.{Runs};
-ghost use Rattle.rhai_machine.specs.language.Setting.{rules_of};
 ghost use Rattle.rhai_machine.specs.language.State.{Answers, HasMemory};
 ghost use Rattle.rhai_steps.specs.Agreement.{AgreesAt, KeepsSight};
+ghost use Rattle.rhai_steps.specs.Sessions.{offer_of, under};
 ghost use Rattle.rhai_steps.specs.States.{state_of, surroundings_of};
 ghost use Rattle.rhai_context.specs.Ends.{came};
 ghost use Rattle.rhai_calls.specs.Dispatch.{plain_found};
-ghost use Rattle.rhai_steps.specs.Offers.{Offers};
 ghost use Rattle.rhai_calls.specs.Lending.{lent_call};
 ghost use Rattle.rhai_callees.specs.Variables.{is_lendable as is_lent};
 ghost use Rattle.rhai_at_once.specs.AtOnce.{IsLone};
@@ -31,23 +31,22 @@ ghost use Rattle.rhai_at_once.specs.AtOnce.{IsLone};
 use rhai_callees::variable::is_lendable;
 use rhai_context::ends::{put_number, settle};
 use rhai_context::outcomes::charge;
-use rhai_functions::function::Offered;
 use rhai_functions::key::FnKey;
 use rhai_functions::lookup::find_function;
 use rhai_plain::callee::{has_own_meaning, is_by_name};
 use rhai_state::error::EvalAltResult;
-use rhai_state::limits::Limits;
 use rhai_state::scope::Scope;
+use rhai_state::session::{Offered, Session};
 use rhai_state::state::GlobalRuntimeState;
 use rhai_state::table::{Answer, NativeTable};
 use rhai_steps::charges::charge_one;
+use rhai_steps::operation::Operation;
 use rhai_steps::replies::replied;
 use rhai_steps::variables::entry_of_variable;
 use rhai_tree::expr::{Expr, FnCallExpr};
 use rhai_tree::position::Position;
 use rhai_values::base::value::{AccessMode, Dynamic, Host, Union};
 use rhai_values::cells::CellStore;
-use std::alloc::Global;
 
 /// Returns the one of some arguments, None where there are none or more.
 #[inline(always)]
@@ -92,14 +91,13 @@ fn has_no_modules<H: Host>(offered: &Offered<'_, H>, global: &GlobalRuntimeState
 /// Tells whether a function of a script has a name and one parameter.
 #[inline(always)]
 fn is_scripted<H: Host>(
-    offered: &Offered<'_, H>,
+    session: &Session<'_, H>,
     global: &GlobalRuntimeState<H>,
     name: &str,
 ) -> bool
-    ensures { (offer : _) → Offers offer offered.now →
-        result ≡ is_some (plain_found offer (surroundings_of global.now) name.now 1) }
+    ensures { result ≡ is_some (plain_found (offer_of session.now) (surroundings_of global.now) name.now 1) }
 {
-    if has_no_modules(offered, global) {
+    if has_no_modules(&session.offered, global) {
         return false;
     }
     let key = FnKey {
@@ -110,9 +108,9 @@ fn is_scripted<H: Host>(
     let found = find_function(
         key,
         global.lib.as_slice(),
-        offered.global_modules,
+        session.offered.global_modules,
         global.imports.as_slice(),
-        offered.global_sub_modules.values(),
+        session.offered.global_sub_modules.values(),
     );
     found.is_some()
 }
@@ -151,20 +149,18 @@ fn take_number<H: Host>(answer: Answer<H>) -> Result<Dynamic<H>, Answer<H>>
 /// call ended stands in the run. An integer is within every limit.
 #[inline(always)]
 fn settle_answer<H: Host>(
-    alloc: Global,
-    limits: &Limits,
+    session: &Session<'_, H>,
     cells: &CellStore<H>,
     out: &mut Dynamic<H>,
     place: &mut Option<EvalAltResult<H>>,
     answer: Answer<H>,
-    name: &str,
+    operation: &Operation<'_>,
     first: &Dynamic<H>,
     rest: &[Dynamic<H>],
-    pos: Position,
 ) -> bool
     ensures told { IfSome (reply_of answer) (λ reply. Answers (came result out.new place.new)
-        (replied_at limits.now H.name_of reply (Some first.now) rest.now
-        (record { name = name.now; token = None; at = pos }) false (cells_of cells.now))) }
+        (replied_at session.now.limits H.name_of reply (Some first.now) rest.now
+        (operation_of operation.now) false (cells_of cells.now))) }
     ensures memory { HasMemory (came result out.new place.new) → is_some (reply_of answer) ≡ true }
 {
     let answer = match take_number(answer) {
@@ -174,9 +170,7 @@ fn settle_answer<H: Host>(
         }
         Err(answer) => answer,
     };
-    let answered = replied(
-        alloc, limits, cells, answer, name, false, None, first, rest, pos,
-    );
+    let answered = replied(session, cells, answer, operation, false, first, rest);
     settle(place, out, answered)
 }
 
@@ -206,16 +200,14 @@ fn ask<H: Host, T: NativeTable<H>>(
 /// stands in the run.
 #[inline(always)]
 fn call_entry<H: Host, T: NativeTable<H>>(
-    limits: &Limits,
-    alloc: Global,
+    session: &Session<'_, H>,
     global: &mut GlobalRuntimeState<H>,
     table: &mut T,
     scope: &mut Scope<H>,
     out: &mut Dynamic<H>,
     place: &mut Option<EvalAltResult<H>>,
     index: usize,
-    name: &str,
-    pos: Position,
+    operation: &Operation<'_>,
 ) -> bool
     requires within { index < length (entries_of scope.old) }
     requires lendable { IfSome (option_map value_of (slice_get (entries_of scope.old) index))
@@ -223,24 +215,22 @@ fn call_entry<H: Host, T: NativeTable<H>>(
     ensures counts { global.old.num_operations ≤ global.new.num_operations }
     ensures sight { KeepsSight global.old global.new }
     ensures names { names_in scope.new ≡ names_in scope.old }
-    ensures runs { (offer : _) (held : _) (v : _) → value_in (entries_of scope.old) (Some index) ≡ Some v →
-        Runs (rules_of limits.now H.name_of offer T.natives)
-        (Ask (lent_call (record { name = name.now; token = None; at = pos }) (Some (FromEntry index)) true
+    ensures runs { (held : _) (v : _) → value_in (entries_of scope.old) (Some index) ≡ Some v →
+        Runs (under H.name_of session.now T.natives)
+        (Ask (lent_call (operation_of operation.now) (Some (FromEntry index)) true
         (v ∷ [])))
         (state_of (T.state table.old) global.old scope.old held)
         (came result out.new place.new) (state_of (T.state table.new) global.new scope.new held) }
 {
-    if !charge(limits, global, place, pos) {
+    if !charge(&session.limits, global, place, operation.at) {
         return false;
     }
     let rest: [Dynamic<H>; 0] = [];
     let rest = rest.as_slice();
     let cells = &global.cells;
     let first = scope.value_at_mut(index);
-    let answer = ask(table, cells, name, first, rest, pos);
-    settle_answer(
-        alloc, limits, cells, out, place, answer, name, &*first, rest, pos,
-    )
+    let answer = ask(table, cells, operation.name, first, rest, operation.at);
+    settle_answer(session, cells, out, place, answer, operation, &*first, rest)
 }
 
 /// Calls by name a native whose one argument is a variable, which is read and lent at once. None where that
@@ -253,9 +243,7 @@ fn call_entry<H: Host, T: NativeTable<H>>(
 /// Those of `rhai_calls::native::pass_native`, but for a race and a constant.
 #[inline(never)]
 pub fn call_at_once<H: Host, T: NativeTable<H>>(
-    limits: &Limits,
-    alloc: Global,
-    offered: &Offered<'_, H>,
+    session: &Session<'_, H>,
     global: &mut GlobalRuntimeState<H>,
     table: &mut T,
     scope: &mut Scope<H>,
@@ -271,8 +259,8 @@ pub fn call_at_once<H: Host, T: NativeTable<H>>(
     ensures counts { global.old.num_operations ≤ global.new.num_operations }
     ensures sight { KeepsSight global.old global.new }
     ensures names { names_in scope.new ≡ names_in scope.old }
-    ensures runs { (offer : _) (held : _) → Offers offer offered.now → IfSome result (λ done.
-        Runs (rules_of limits.now H.name_of offer T.natives) (OpenExpr (layer.Expr::FnCall call.now pos))
+    ensures runs { (held : _) → IfSome result (λ done.
+        Runs (under H.name_of session.now T.natives) (OpenExpr (layer.Expr::FnCall call.now pos))
         (state_of (T.state table.old) global.old scope.old held)
         (came done out.new place.new) (state_of (T.state table.new) global.new scope.new held)) }
 {
@@ -296,13 +284,24 @@ pub fn call_at_once<H: Host, T: NativeTable<H>>(
         return None;
     }
     let function = call.name.get().as_str();
-    if is_scripted(offered, global, function) {
+    if is_scripted(session, global, function) {
         return None;
     }
-    if !charge_one(limits, global) {
+    if !charge_one(&session.limits, global) {
         return None;
     }
     Some(call_entry(
-        limits, alloc, global, table, scope, out, place, index, function, pos,
+        session,
+        global,
+        table,
+        scope,
+        out,
+        place,
+        index,
+        &Operation {
+            name: function,
+            token: None,
+            at: pos,
+        },
     ))
 }

@@ -15,7 +15,7 @@ use rhai_samples::built::{
     unit_or_integer, variable_of_the_caller_increased,
 };
 use rhai_samples::caught::throws_in_turn;
-use rhai_samples::chains::increments;
+use rhai_samples::chains::{first_item_increased, increments};
 use rhai_samples::choices::{choices_in_turn, integer_chosen, text_chosen};
 use rhai_samples::data::many_items;
 use rhai_samples::functions::{calls_within_calls, fibonacci};
@@ -61,6 +61,8 @@ pub enum MadeStatements {
     Pairings(i64),
     /// A length, and so many turns.
     Increments(u32, i64),
+    /// So many turns, and whether it is increased twice in each.
+    FirstItemIncreased(i64, bool),
     /// So many turns.
     ChoicesInTurn(i64),
     /// So many turns.
@@ -131,6 +133,9 @@ impl MadeStatements {
             MadeStatements::Doublings(turns) => doublings(alloc, turns),
             MadeStatements::Pairings(turns) => pairings(alloc, turns),
             MadeStatements::Increments(length, turns) => increments(alloc, length, turns),
+            MadeStatements::FirstItemIncreased(turns, is_twice) => {
+                first_item_increased(alloc, turns, is_twice)
+            }
             MadeStatements::ChoicesInTurn(turns) => choices_in_turn(alloc, turns),
             MadeStatements::ThrowsInTurn(turns) => throws_in_turn(alloc, turns),
             MadeStatements::ManyItems(count) => many_items(alloc, count),

@@ -116,8 +116,8 @@ fn returned<H: Host>(
     ensures outcome { (exit : machine.CallExit H) →
         Ends def.now.name (option_copied environ.entry) global.now.source pos exit →
         Answers result (returned_by exit error) }
-    ensures at_once { (exit : machine.CallExit H) → exit.at ≡ pos → is_wrapped error ≡ false →
-        result ≡ returned_by exit error }
+    ensures at_once { (exit : machine.CallExit H) → is_wrapped error ≡ false →
+        result ≡ returned_by (record exit { at = pos }) error }
     ensures ran_out { IfErr result (λ e. is_out_of_memory e ≡ true → e ≡ variant.ErrorOutOfMemory pos) }
 {
     match error.way_out() {
@@ -152,8 +152,8 @@ pub fn close_function<H: Host>(
         Ends def.now.name (option_copied environ.entry) global.old.source pos end →
         Answers result (outcome_of end outcome) }
     ensures value { IfOk outcome (λ value. result ≡ Ok value) }
-    ensures at_once { IfErr outcome (λ e. (end : machine.CallExit H) → end.at ≡ pos →
-        is_wrapped e ≡ false → result ≡ returned_by end e) }
+    ensures at_once { IfErr outcome (λ e. (end : machine.CallExit H) →
+        is_wrapped e ≡ false → result ≡ returned_by (record end { at = pos }) e) }
     ensures ran_out { IfErr result (λ e. is_out_of_memory e ≡ true → e ≡ variant.ErrorOutOfMemory pos) }
 {
     take_back(global, exit);
@@ -185,9 +185,8 @@ pub fn close_body<H: Host>(
         Ends def.now.name (option_copied environ.entry) global.old.source pos end →
         Answers (came result out.new place.new) (outcome_of end (came done out.old place.old)) }
     ensures value { IsTrue done → came result out.new place.new ≡ came done out.old place.old }
-    ensures at_once { done ≡ false → (end : machine.CallExit H) → end.at ≡ pos →
-        is_wrapped (error_in place.old) ≡ false →
-        came result out.new place.new ≡ returned_by end (error_in place.old) }
+    ensures at_once { done ≡ false → (end : machine.CallExit H) → is_wrapped (error_in place.old) ≡ false →
+        came result out.new place.new ≡ returned_by (record end { at = pos }) (error_in place.old) }
     ensures ran_out { result ≡ false → is_out_of_memory (error_in place.new) ≡ true →
         error_in place.new ≡ variant.ErrorOutOfMemory pos }
 {

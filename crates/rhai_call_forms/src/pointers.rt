@@ -20,8 +20,8 @@ ghost use Rattle.rhai_machine.specs.language.Values.{bool_value as truth_of, is_
 use crate::names::is_pointer_name;
 use rhai_few::Few;
 use rhai_state::error::EvalAltResult;
+use rhai_state::errors::{data_race, mismatch};
 use rhai_state::scope::Scope;
-use rhai_steps::errors::{data_race, mismatch};
 use rhai_steps::values::{bool_value, flatten, is_bare_handle};
 use rhai_tree::position::Position;
 use rhai_tree::{Boxed, Items, Shared, Text};

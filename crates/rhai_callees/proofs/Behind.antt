@@ -23,9 +23,9 @@ use Rattle.rhai_state.specs.declared.error.EvalAltResult.{EvalAltResult}
 use Rattle.rhai_state.specs.declared.scope.Scope.{Scope}
 use Rattle.rhai_state.specs.declared.state.GlobalRuntimeState.{GlobalRuntimeState}
 use Rattle.rhai_functions.specs.declared.function.Function.{Function}
-use Rattle.rhai_functions.specs.declared.function.Offered.{Offered}
+use Rattle.rhai_state.specs.declared.session.Offered.{Offered}
 use Rattle.rhai_machine.specs.machine.Machine.{Move, Go, Charge}
-use Rattle.rhai_machine.specs.machine.Memory.{here}
+use Rattle.rhai_machine.specs.machine.Memory.{here, Leads}
 use Rattle.rhai_machine.specs.machine.Point.{moved}
 use Rattle.rhai_machine.specs.language.Setting.{Globals, Rules, Setting, cut, globals_of, limit_under}
 use Rattle.rhai_machine.specs.language.State.{Held, Local, State}
@@ -42,7 +42,7 @@ use Rattle.rhai_machine.specs.language.Calls.{public_behind, types_of}
 use Rattle.rhai_machine.specs.language.Arguments.{arguments_core, arguments_there, behind_move, function_move, lent_this, on_this}
 use Rattle.rhai_machine.specs.language.Arguments.{on_variable, operation_in, passed, passed_as, passed_flat, passed_seen, this_in}
 use Rattle.rhai_machine.specs.language.Language.{machine, move}
-use Rattle.rhai_machine.specs.language.Runs.{Goes, at, with_core}
+use Rattle.rhai_machine.specs.language.Runs.{at, with_core, Goes}
 use Rattle.rhai_steps.specs.Offers.{Offers, globals_in}
 use Rattle.rhai_steps.specs.States.{local_of, state_of}
 use Rattle.rhai_steps.proofs.Offering.{globals_same}
@@ -53,7 +53,6 @@ use Rattle.rhai_call_forms.specs.Forms.{is_operator_form}
 use Rattle.rhai_call_forms.proofs.FormLemmas.{function_goes}
 use Rattle.rhai_callees.specs.Behind.{before_last, behind_call, enters, is_read_last, last_of, led_by, public_call}
 use Rattle.rhai_callees.specs.Behind.{public_at, purpose_of, purpose_on, value_at, form_is_good, last_is_good, IsCharged, IsSpent}
-use Rattle.rhai_callees.specs.Going.{GoesOut}
 use Rattle.rhai_callees.specs.Linked.{Comes}
 use Rattle.rhai_callees.specs.Variables.{meaning_passed}
 use Rattle.rhai_callees.proofs.Going.{came_told}
@@ -107,14 +106,15 @@ behind_starts s path operation (arg ∷ args) k l =
 module _ {S H : Type 0} (rules : Rules S H) (t : S) (old : GlobalRuntimeState H) (scope : Scope H) (held : Held H) where
   let_through : (last : Option Expr) (mid : GlobalRuntimeState H) → IsCharged (limit_under rules) last old mid →
       (from : Control H) (k : List (Frame H)) (to : Local H → Core H) →
-      Goes rules (moved (machine rules) (cut rules) (starts last (to (local_of old scope held))) (at from k (state_of t old scope held)))
+      Leads (machine rules) (cut rules)
+      (moved (machine rules) (cut rules) (starts last (to (local_of old scope held))) (at from k (state_of t old scope held)))
       (with_core (to (local_of mid scope held)) (state_of t mid scope held))
   let_through (Some arg) mid charged from k to = rw (lt-ltb _ _ charged.0, charged.1) here
   let_through None mid same from k to = rw same here
 
   kept_out : (last : Option Expr) (e : EvalAltResult H) → IsSpent (limit_under rules) last old e →
       (from : Control H) (k : List (Frame H)) (to : Core H) →
-      Goes rules (moved (machine rules) (cut rules) (starts last to) (at from k (state_of t old scope held)))
+      Leads (machine rules) (cut rules) (moved (machine rules) (cut rules) (starts last to) (at from k (state_of t old scope held)))
       (at (Fail e) k (state_of t old scope held))
   kept_out (Some arg) e spent from k to = rw (le-ltb _ _ spent.0, spent.1) here
   kept_out None e spent from k to = absurd spent
@@ -138,14 +138,15 @@ module _ {S H : Type 0} (rules : Rules S H) (t : S) (old : GlobalRuntimeState H)
 
     -- what is read last is charged, and the other arguments follow
     pub behind_begins : (mid : GlobalRuntimeState H) → IsCharged (limit_under rules) last old mid →
-        Goes rules (at (OpenExpr (layer.Expr::FnCall call pos)) k (state_of t old scope held))
+        Leads (machine rules) (cut rules) (at (OpenExpr (layer.Expr::FnCall call pos)) k (state_of t old scope held))
         (with_core (goes_on (local_of mid scope held)) (state_of t mid scope held))
     behind_begins mid charged = step_by rules _ _ (starts last (goes_on (local_of old scope held))) opened
         (let_through last mid charged (OpenExpr (layer.Expr::FnCall call pos)) k goes_on)
 
     -- or the limit has no room for it
     pub behind_spent : (e : EvalAltResult H) → IsSpent (limit_under rules) last old e →
-        Goes rules (at (OpenExpr (layer.Expr::FnCall call pos)) k (state_of t old scope held)) (at (Fail e) k (state_of t old scope held))
+        Leads (machine rules) (cut rules) (at (OpenExpr (layer.Expr::FnCall call pos)) k (state_of t old scope held))
+        (at (Fail e) k (state_of t old scope held))
     behind_spent e spent = step_by rules _ _ (starts last (goes_on (local_of old scope held))) opened
         (kept_out last e spent (OpenExpr (layer.Expr::FnCall call pos)) k (goes_on (local_of old scope held)))
 
@@ -302,11 +303,11 @@ pub behind_goes : {S H : Type 0} (rules : Rules S H) (offered : Offered H) → O
     (called : Outcome H) →
     Comes called (behind_call (globals_in offered) s.local.around s.local.scope s.local.this rules.setting.host_type last path
     operation.name args operation.at) →
-    GoesOut rules (purpose_of last operation (behind_path path)) args true operation.at s called s
-unfolding GoesOut
+    Goes rules (arguments_there rules.setting (purpose_of last operation (behind_path path)) args) s (came_out true operation.at called) s
+unfolding Goes
 behind_goes rules offered offers path behind operation last args s called comes k =
     let (root, rest, is) = rooted path.names behind in
-    subst (λ (c : Core _). Goes rules (with_core c s) (with_core (came_out true operation.at called k s.local) s))
+    subst (λ (c : Core _). Leads (machine rules) (cut rules) (with_core c s) (with_core (came_out true operation.at called k s.local) s))
     (sym (by_last rules.setting path root rest is operation k s.local last args))
     (came_told rules true operation.at k s called (behind_call (globals_of rules.setting.offer) s.local.around s.local.scope s.local.this
     rules.setting.host_type last path operation.name args operation.at)

@@ -1,6 +1,5 @@
 -- Calls whose arguments are there: where they lead.
-use Rattle.std.proofs.Common.{◌≡◌, ℕ, Bool, true, false, not, List, [], ◌∷◌, ◌++◌, Option, Some, None, Result, Ok, Err, refl, sym, subst}
-use Rattle.std.proofs.Common.{ap, ◌∙◌}
+use Rattle.std.proofs.Common.{◌≡◌, ℕ, Bool, true, false, not, List, [], ◌∷◌, ◌++◌, Option, Some, Result, Ok, Err, refl, sym, subst, ◌∙◌}
 use Rattle.std.specs.Prelude.{if◌then◌else◌}
 use Rattle.rhai_tree.specs.declared.position.Position.{Position}
 use Rattle.rhai_values.specs.declared.base.value.Dynamic.{Dynamic}
@@ -8,38 +7,39 @@ use Rattle.rhai_state.specs.declared.error.EvalAltResult.{EvalAltResult}
 use Rattle.rhai_state.specs.declared.error.EvalAltResult.TheVariants as error
 use Rattle.rhai_state.specs.Errors.{is_out_of_memory}
 use Rattle.rhai_functions.specs.declared.function.Function.{Function}
-use Rattle.rhai_machine.specs.machine.Memory.{◌⨾◌, here, out_before_step}
-use Rattle.rhai_machine.specs.language.Setting.{Rules, globals_of}
+use Rattle.rhai_machine.specs.machine.Memory.{◌⨾◌, here, out_before_step, Leads}
+use Rattle.rhai_machine.specs.language.Setting.{Rules, globals_of, cut}
 use Rattle.rhai_machine.specs.language.State.{Local, State}
 use Rattle.rhai_machine.specs.language.Variables.{Variable}
 use Rattle.rhai_machine.specs.language.Activations.{NoThis}
 use Rattle.rhai_machine.specs.language.Frames.{Operation, Lender, Dispatch, Call, Purpose, ToCall, ToCallOn, ToCallFunction, ToCallNumber}
 use Rattle.rhai_machine.specs.language.Frames.{Frame, core, on_value, ended, EnterFunction, Question, Fail}
 use Rattle.rhai_machine.specs.language.Calls.{args_given, call_of, dispatch_core, entry_of, plainly, races}
-use Rattle.rhai_machine.specs.language.Arguments.{arguments_there, call_on, linked_core, numbered_core}
-use Rattle.rhai_machine.specs.language.Language.{without_memory}
-use Rattle.rhai_machine.specs.language.Runs.{at, with_core, Goes, Runs, Steps}
+use Rattle.rhai_machine.specs.language.Arguments.{arguments_there, call_on, numbered_core}
+use Rattle.rhai_machine.specs.language.Language.{without_memory, machine}
+use Rattle.rhai_machine.specs.language.Runs.{at, with_core, Runs, Goes}
 use Rattle.rhai_steps.proofs.Pieces.{faulted}
-use Rattle.rhai_calls.specs.declared.dispatch.Dispatched.TheVariants.{Found}
-use Rattle.rhai_calls.specs.Called.{came_out, Calls, Ended, Enters, Outcome}
-use Rattle.rhai_calls.specs.Dispatch.{Dispatches}
+use Rattle.rhai_calls.specs.declared.dispatch.Called.TheVariants.{Ended, Enters}
+use Rattle.rhai_calls.specs.Called.{came_out, Outcome}
+use Rattle.rhai_calls.specs.Dispatch.{came_to}
 use Rattle.rhai_calls.specs.Lending.{lent_call}
-use Rattle.rhai_callees.specs.Going.{GoesOn, GoesOut}
 use Rattle.rhai_callees.specs.Linked.{linked_call, Comes}
 use Rattle.rhai_callees.proofs.Levels.{there_level, call_runs_out_at}
 
 module _ {S H : Type 0} (rules : Rules S H) where
   -- memory runs out once the arguments are there
   pub there_runs_out : (purpose : Purpose H) (args : List (Dynamic H)) (s : State S H) (e : EvalAltResult H) → is_out_of_memory e ≡ true →
-      GoesOn rules purpose args s (Err e) s
-  unfolding GoesOn
+      Goes rules (arguments_there rules.setting purpose args) s (core (ended (Err e))) s
+  unfolding Goes
   there_runs_out purpose args s (error.ErrorOutOfMemory pos) is_out k =
-      call_runs_out_at rules k s (arguments_there rules.setting purpose args k s.local) (there_level k s.local rules.setting purpose args) pos
+      call_runs_out_at rules k s (arguments_there rules.setting purpose args k s.local) (there_level k s.local rules.setting purpose args)
+      pos
   there_runs_out purpose args s e is_out k = cc
 
   pub there_runs_out_fresh : (purpose : Purpose H) (args : List (Dynamic H)) (is_fresh : Bool) (pos : Position) (s : State S H)
-      (e : EvalAltResult H) → is_out_of_memory e ≡ true → GoesOut rules purpose args is_fresh pos s (Ended (Err e)) s
-  unfolding GoesOut GoesOn
+      (e : EvalAltResult H) → is_out_of_memory e ≡ true →
+      Goes rules (arguments_there rules.setting purpose args) s (came_out is_fresh pos (Ended (Err e))) s
+  unfolding Goes
   there_runs_out_fresh purpose args is_fresh pos s e is_out k = there_runs_out purpose args s e is_out k
 
   -- ---- what came of a call, unless memory ran out
@@ -48,27 +48,29 @@ module _ {S H : Type 0} (rules : Rules S H) where
     runs_out_came : (called : Outcome H) (where_ : Position) →
         without_memory where_ (came_out is_fresh pos called k s.local) ≡ core (Fail (error.ErrorOutOfMemory where_)) k s.local
     runs_out_came (Ended r) where_ = refl
-    runs_out_came (Enters f args) where_ = refl
+    runs_out_came (Enters (f, args)) where_ = refl
 
     pub came_told : (called wanted : Outcome H) → Comes called wanted →
-        Goes rules (with_core (came_out is_fresh pos wanted k s.local) s) (with_core (came_out is_fresh pos called k s.local) s)
+        Leads (machine rules) (cut rules) (with_core (came_out is_fresh pos wanted k s.local) s)
+        (with_core (came_out is_fresh pos called k s.local) s)
     came_told (Ended (Ok v)) wanted comes = rw (← comes tt) here
-    came_told (Ended (Err (error.ErrorOutOfMemory there))) wanted comes = out_before_step {at = there} (rw (runs_out_came wanted there) here)
+    came_told (Ended (Err (error.ErrorOutOfMemory there))) wanted comes =
+        out_before_step {at = there} (rw (runs_out_came wanted there) here)
     came_told (Ended (Err e)) wanted comes = rw (← comes refl) here
-    came_told (Enters f args) wanted comes = rw (← comes tt) here
+    came_told (Enters (f, args)) wanted comes = rw (← comes tt) here
 
   -- a function that a pointer is linked to
   linked_is : (f : Function H) (all : List (Dynamic H)) (pos : Position) (k : List (Frame H)) (l : Local H) (b : Bool) →
       (if b then core (Fail (error.ErrorDataRace f.def.name pos)) k l
       else core (EnterFunction (entry_of f NoThis true all pos l)) k l)
-      ≡ came_out true pos (if b then Ended (Err (error.ErrorDataRace f.def.name pos)) else Enters f all) k l
+      ≡ came_out true pos (if b then Ended (Err (error.ErrorDataRace f.def.name pos)) else Enters (f, all)) k l
   linked_is f all pos k l true = refl
   linked_is f all pos k l false = refl
 
   pub linked_goes : (f : Function H) (pos : Position) (curried args : List (Dynamic H)) (s : State S H) (called : Outcome H) →
       Comes called (linked_call s.local.around.cells f (curried ++ args) pos) →
-      GoesOut rules (ToCallFunction f pos curried) args true pos s called s
-  unfolding GoesOut
+      Goes rules (arguments_there rules.setting (ToCallFunction f pos curried) args) s (came_out true pos called) s
+  unfolding Goes
   linked_goes f pos curried args s called comes k =
       rw (linked_is f (curried ++ args) pos k s.local (races s.local.around.cells (curried ++ args)))
       (came_told true pos k s called (linked_call s.local.around.cells f (curried ++ args) pos) comes)
@@ -76,31 +78,38 @@ module _ {S H : Type 0} (rules : Rules S H) where
   -- a function of a script gets the first argument before the others
   pub calls_given : (alone on_scope guarded : Bool) (operation : Operation) (lender : Option Lender) (v : Dynamic H)
       (args : List (Dynamic H)) (f : Function H) (old new : State S H) (called : Outcome H) →
-      Dispatches rules (plainly alone on_scope) (lent_call operation lender guarded (v ∷ args)) old (Found f) new →
-      Comes called (Enters f (args_given lender (v ∷ args))) →
-      Calls rules (plainly alone on_scope) (lent_call operation lender guarded (v ∷ args)) old called new
-  unfolding Calls Dispatches
+      Goes rules (dispatch_core rules.setting (plainly alone on_scope) (lent_call operation lender guarded (v ∷ args))) old
+      (came_to (plainly alone on_scope) (lent_call operation lender guarded (v ∷ args)) (Enters f)) new →
+      Comes called (Enters (f, args_given lender (v ∷ args))) →
+      Goes rules (dispatch_core rules.setting (plainly alone on_scope) (lent_call operation lender guarded (v ∷ args))) old
+      (came_out (not on_scope) (lent_call operation lender guarded (v ∷ args)).operation.at called) new
+  unfolding Goes
   calls_given alone on_scope guarded operation lender v args f old new called runs comes k =
-      runs k ⨾ came_told (not on_scope) operation.at k new called (Enters f (args_given lender (v ∷ args))) comes
+      runs k ⨾ came_told (not on_scope) operation.at k new called (Enters (f, args_given lender (v ∷ args))) comes
 
   -- ---- a call by name
 
   module _ (operation : Operation) (curried args all : List (Dynamic H)) (is : all ≡ curried ++ args) (old new : State S H) where
     -- behind what a pointer has already
-    pub calls_joined : (how : Dispatch) (called : Outcome H) → Calls rules how (call_of operation all) old called new →
-        GoesOut rules (ToCall operation curried how) args (not how.on_scope) operation.at old called new
-    unfolding GoesOut Calls
+    pub calls_joined : (how : Dispatch) (called : Outcome H) →
+        Goes rules (dispatch_core rules.setting how (call_of operation all)) old
+        (came_out (not how.on_scope) (call_of operation all).operation.at called) new →
+        Goes rules (arguments_there rules.setting (ToCall operation curried how) args) old (came_out (not how.on_scope) operation.at called)
+        new
+    unfolding Goes
     calls_joined how called goes k =
         subst (λ (xs : List (Dynamic H)).
-        Goes rules (with_core (dispatch_core rules.setting how (call_of operation xs) k old.local) old)
+        Leads (machine rules) (cut rules) (with_core (dispatch_core rules.setting how (call_of operation xs) k old.local) old)
         (with_core (came_out (not how.on_scope) operation.at called k new.local) new)) is (goes k)
 
     pub number_joined : (r : Result (Dynamic H) (EvalAltResult H)) (number : ℕ) →
-        GoesOn rules (ToCallNumber number operation []) all old r new → GoesOn rules (ToCallNumber number operation curried) args old r new
-    unfolding GoesOn
+        Goes rules (arguments_there rules.setting (ToCallNumber number operation []) all) old (core (ended r)) new →
+        Goes rules (arguments_there rules.setting (ToCallNumber number operation curried) args) old (core (ended r)) new
+    unfolding Goes
     number_joined r number goes k =
         subst (λ (xs : List (Dynamic H)).
-        Goes rules (with_core (numbered_core (record (call_of operation xs) { number = Some number }) k old.local) old)
+        Leads (machine rules) (cut rules)
+        (with_core (numbered_core (record (call_of operation xs) { number = Some number }) k old.local) old)
         (at (ended r) k new)) is (goes k)
 
   module _ (operation : Operation) (args all : List (Dynamic H)) (is : args ≡ all) (old new : State S H)
@@ -108,24 +117,25 @@ module _ {S H : Type 0} (rules : Rules S H) where
     -- a native's number is asked about
     pub number_asks : (number : ℕ) (found : Bool) → found ≡ races old.local.around.cells args → found ≡ false →
         Runs rules (Question (record (call_of operation all) { number = Some number })) old r new →
-        GoesOn rules (ToCallNumber number operation []) args old r new
-    unfolding GoesOn Steps
+        Goes rules (arguments_there rules.setting (ToCallNumber number operation []) args) old (core (ended r)) new
+    unfolding Goes
     number_asks number found races_is free runs k =
-        subst (λ (b : Bool). Goes rules
+        subst (λ (b : Bool). Leads (machine rules) (cut rules)
         (with_core (if b then core (Fail (error.ErrorDataRace operation.name operation.at)) k old.local
         else core (Question (record (call_of operation args) { number = Some number })) k old.local) old) (at (ended r) k new)) (sym
         free ∙ races_is)
         (subst (λ (xs : List (Dynamic H)).
-        Goes rules (at (Question (record (call_of operation xs) { number = Some number })) k old) (at (ended r) k new)) (sym is) (runs k))
+        Leads (machine rules) (cut rules) (at (Question (record (call_of operation xs) { number = Some number })) k old)
+        (at (ended r) k new)) (sym is) (runs k))
 
   -- unless an argument's cell is held
   pub number_races : (operation : Operation) (number : ℕ) (args : List (Dynamic H)) (s : State S H) (e : EvalAltResult H) (found : Bool) →
       found ≡ races s.local.around.cells args → found ≡ true → (is_out_of_memory e ≡ false →
       e ≡ error.ErrorDataRace operation.name operation.at) →
-      GoesOn rules (ToCallNumber number operation []) args s (Err e) s
-  unfolding GoesOn
+      Goes rules (arguments_there rules.setting (ToCallNumber number operation []) args) s (core (ended (Err e))) s
+  unfolding Goes
   number_races operation number args s e found races_is is held k =
-      subst (λ (b : Bool). Goes rules
+      subst (λ (b : Bool). Leads (machine rules) (cut rules)
       (with_core (if b then core (Fail (error.ErrorDataRace operation.name operation.at)) k s.local
       else core (Question (record (call_of operation args) { number = Some number })) k s.local) s) (at (Fail e) k s)) (sym is ∙ races_is)
       (faulted rules e (error.ErrorDataRace operation.name operation.at) held k s)
@@ -137,28 +147,33 @@ module _ {S H : Type 0} (rules : Rules S H) where
     abbrev asked : Result (Call H) (EvalAltResult H)
     asked = call_on (globals_of rules.setting.offer) old.local.around old.local.scope operation variable args
 
-    pub on_called : (call : Call H) → asked ≡ Ok call → (called : Outcome H) (new : State S H) → Calls rules how call old called new →
-        GoesOut rules (ToCallOn operation variable how) args (not how.on_scope) call.operation.at old called new
-    unfolding GoesOut Calls
+    pub on_called : (call : Call H) → asked ≡ Ok call →
+        (called : Outcome H) (new : State S H) →
+        Goes rules (dispatch_core rules.setting how call) old (came_out (not how.on_scope) call.operation.at called) new →
+        Goes rules (arguments_there rules.setting (ToCallOn operation variable how) args) old
+        (came_out (not how.on_scope) call.operation.at called) new
+    unfolding Goes
     on_called call is called new runs k =
         subst (λ (x : Result (Call H) (EvalAltResult H)).
-        Goes rules (with_core (on_value x (λ (c : Call H). dispatch_core rules.setting how c k old.local) k old.local) old)
+        Leads (machine rules) (cut rules)
+        (with_core (on_value x (λ (c : Call H). dispatch_core rules.setting how c k old.local) k old.local) old)
         (with_core (came_out (not how.on_scope) call.operation.at called k new.local) new))
         (sym is) (runs k)
 
     -- or why there is none
     pub on_refused : (x e : EvalAltResult H) → asked ≡ Err x → (is_out_of_memory e ≡ false → e ≡ x) → (is_fresh : Bool) (pos : Position) →
-        GoesOut rules (ToCallOn operation variable how) args is_fresh pos old (Ended (Err e)) old
-    unfolding GoesOut
+        Goes rules (arguments_there rules.setting (ToCallOn operation variable how) args) old (came_out is_fresh pos (Ended (Err e))) old
+    unfolding Goes
     on_refused x e is told is_fresh pos k =
         subst (λ (y : Result (Call H) (EvalAltResult H)).
-        Goes rules (with_core (on_value y (λ (c : Call H). dispatch_core rules.setting how c k old.local) k old.local) old)
+        Leads (machine rules) (cut rules)
+        (with_core (on_value y (λ (c : Call H). dispatch_core rules.setting how c k old.local) k old.local) old)
         (at (Fail e) k old))
         (sym is) (faulted rules e x told k old)
 
     -- or memory runs out there
     pub on_failed : (e : EvalAltResult H) → (is_out_of_memory e ≡ false → asked ≡ Err e) → (is_fresh : Bool) (pos : Position) →
-        GoesOut rules (ToCallOn operation variable how) args is_fresh pos old (Ended (Err e)) old
+        Goes rules (arguments_there rules.setting (ToCallOn operation variable how) args) old (came_out is_fresh pos (Ended (Err e))) old
     on_failed (error.ErrorOutOfMemory there) is is_fresh pos =
         there_runs_out_fresh (ToCallOn operation variable how) args is_fresh pos old (error.ErrorOutOfMemory there) refl
     on_failed e is is_fresh pos = on_refused e e (is refl) (λ m. refl) is_fresh pos

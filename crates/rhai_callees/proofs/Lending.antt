@@ -1,6 +1,6 @@
 -- A value that is lent from its entry and goes back there.
 use Rattle.std.proofs.Common.{◌≡◌, ℕ, zero, suc, List, [], ◌∷◌, map, Option, Some, None, slice_get, slice_set, refl, sym, ap}
-use Rattle.std.proofs.Common.{subst, ◌∙◌}
+use Rattle.std.proofs.Common.{not, subst, ◌∙◌}
 use Rattle.std.proofs.lemmas.List.{set-set}
 use Rattle.std.proofs.lemmas.Option.{get_or_from_slice_get}
 use Rattle.std.proofs.Math.Seq.{map-set_same}
@@ -13,8 +13,10 @@ use Rattle.rhai_steps.specs.States.{local_of, state_of}
 use Rattle.rhai_machine.specs.language.Setting.{Rules}
 use Rattle.rhai_machine.specs.language.State.{Held, State}
 use Rattle.rhai_machine.specs.language.Frames.{FromEntry, Dispatch, Call}
+use Rattle.rhai_machine.specs.language.Runs.{Goes}
+use Rattle.rhai_machine.specs.language.Calls.{dispatch_core}
 use Rattle.rhai_calls.specs.Lending.{back_in}
-use Rattle.rhai_calls.specs.Called.{Calls, Outcome}
+use Rattle.rhai_calls.specs.Called.{Outcome, came_out}
 
 get_set : {A : Type 0} (xs : List A) (i : ℕ) (x y : A) → slice_get xs i ≡ Some x → slice_get (slice_set xs i y) i ≡ Some y
 get_set [] i x y is = cc
@@ -61,7 +63,11 @@ module _ {H : Type 0} where
 
     pub lent_runs : {S : Type 0} (rules : Rules S H) (how : Dispatch) (call : Call H) (start : State S H) (called : Outcome H) (t : S)
         (global : GlobalRuntimeState H) (held : Held H) →
-        Calls rules how call start called (back_in (Some (FromEntry i)) v (state_of t global old held)) →
-        Calls rules how call start called (state_of t global new held)
+        Goes rules (dispatch_core rules.setting how call) start (came_out (not how.on_scope) call.operation.at called)
+        (back_in (Some (FromEntry i)) v (state_of t global old held)) →
+        Goes rules (dispatch_core rules.setting how call) start (came_out (not how.on_scope) call.operation.at called)
+        (state_of t global new held)
     lent_runs {S} rules how call start called t global held =
-        subst (λ (s : State S H). Calls rules how call start called s) (lent_state t global held)
+        subst (λ (s : State S H).
+        Goes rules (dispatch_core rules.setting how call) start (came_out (not how.on_scope) call.operation.at called) s)
+        (lent_state t global held)

@@ -6,9 +6,9 @@ use Rattle.rhai_tree.specs.declared.position.Position.{Position}
 use Rattle.rhai_values.specs.declared.base.value.Dynamic.{Dynamic}
 use Rattle.rhai_state.specs.declared.error.EvalAltResult.{EvalAltResult}
 use Rattle.rhai_state.specs.declared.error.EvalAltResult.TheVariants as error
-use Rattle.rhai_machine.specs.machine.Memory.{here, out_before_step}
+use Rattle.rhai_machine.specs.machine.Memory.{here, out_before_step, Leads}
 use Rattle.rhai_functions.specs.declared.function.Function.{Function}
-use Rattle.rhai_machine.specs.language.Setting.{Setting, Rules, globals_of}
+use Rattle.rhai_machine.specs.language.Setting.{Setting, Rules, globals_of, cut}
 use Rattle.rhai_machine.specs.language.State.{Local, State}
 use Rattle.rhai_machine.specs.language.Values.{through}
 use Rattle.rhai_machine.specs.language.Names.{bound_this}
@@ -19,7 +19,8 @@ use Rattle.rhai_machine.specs.language.Frames.{ToChain, Frame, Core, core, on_va
 use Rattle.rhai_machine.specs.language.Calls.{asks_function, by_name_core, call_of, called_function, dispatch_behind, dispatch_core}
 use Rattle.rhai_machine.specs.language.Calls.{call_races, enter_core, entry_of, found_core, function_behind, named_core, races}
 use Rattle.rhai_machine.specs.language.Arguments.{arguments_there, call_on, lent_this, linked_core, numbered_core}
-use Rattle.rhai_machine.specs.language.Runs.{at, with_core, Goes}
+use Rattle.rhai_machine.specs.language.Runs.{at, with_core}
+use Rattle.rhai_machine.specs.language.Language.{machine}
 
 -- a core on a stack in a state, whatever its control
 pub record IsLevel {H : Type 0} (k : List (Frame H)) (l : Local H) (c : Core H) : Type 0 where
@@ -96,5 +97,5 @@ module _ {H : Type 0} (k : List (Frame H)) (l : Local H) where
 
 -- memory may run out at such a core
 pub call_runs_out_at : {S H : Type 0} (rules : Rules S H) (k : List (Frame H)) (s : State S H) (c : Core H) → IsLevel k s.local c →
-    (pos : Position) → Goes rules (with_core c s) (at (Fail (error.ErrorOutOfMemory pos)) k s)
+    (pos : Position) → Leads (machine rules) (cut rules) (with_core c s) (at (Fail (error.ErrorOutOfMemory pos)) k s)
 call_runs_out_at rules k s c level pos = out_before_step {at = pos} (rw (level.stack, level.local) here)

@@ -12,7 +12,7 @@ use Rattle.rhai_state.specs.declared.scope.ScopeEntry.{ScopeEntry}
 use Rattle.rhai_state.specs.declared.error.EvalAltResult.{EvalAltResult}
 use Rattle.rhai_state.specs.declared.error.EvalAltResult.TheVariants as error
 use Rattle.rhai_state.specs.Scope.{value_in}
-use Rattle.rhai_functions.specs.declared.function.Offered.{Offered}
+use Rattle.rhai_state.specs.declared.session.Offered.{Offered}
 use Rattle.rhai_machine.specs.language.Setting.{Globals, Offer, globals_of}
 use Rattle.rhai_machine.specs.language.State.{Surroundings}
 use Rattle.rhai_machine.specs.language.Variables.{Variable}

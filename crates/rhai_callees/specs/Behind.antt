@@ -23,7 +23,8 @@ use Rattle.rhai_machine.specs.language.Frames.{Dispatch, Operation, Purpose, ToC
 use Rattle.rhai_machine.specs.language.Calls.{public_behind, types_of}
 use Rattle.rhai_machine.specs.language.Arguments.{this_in}
 use Rattle.rhai_steps.specs.Agreement.{Test, variable_is_good}
-use Rattle.rhai_calls.specs.Called.{Ended, Enters, Outcome}
+use Rattle.rhai_calls.specs.declared.dispatch.Called.TheVariants.{Ended, Enters}
+use Rattle.rhai_calls.specs.Called.{Outcome}
 use Rattle.rhai_callees.specs.Variables.{meaning_passed}
 
 -- the offset of a variable leads to the newest of its name
@@ -82,7 +83,7 @@ module _ {H : Type 0} where
 
   -- a function is entered with all arguments, or there is none
   abbrev pub enters : Result (Function H) (EvalAltResult H) → List (Dynamic H) → Outcome H
-  enters (Ok f) args = Enters f args
+  enters (Ok f) args = Enters (f, args)
   enters (Err e) args = Ended (Err e)
 
   module _ (globals : Globals H) (around : Surroundings H) where

@@ -1,5 +1,4 @@
 pub mod Behind
-pub mod Going
 pub mod Kept
 pub mod Linked
 pub mod Pointers

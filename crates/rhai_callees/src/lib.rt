@@ -10,73 +10,59 @@ pub mod pointer;
 pub mod this;
 pub mod variable;
 
-ghost use Rattle.std.specs.Prelude.{◌≤◌, ◌++◌, [], None, not};
+ghost use Rattle.std.specs.Prelude.{◌≤◌, ◌++◌, [], not};
 ghost use Rattle.rhai_values.specs.Cells.{cells_of};
 ghost use Rattle.rhai_machine.specs.language.Calls.{plainly};
-ghost use Rattle.rhai_machine.specs.language.Frames.{ToCall, ToCallNumber};
-ghost use Rattle.rhai_machine.specs.language.Setting.{rules_of};
+ghost use Rattle.rhai_machine.specs.language.Frames.{ToCall, ToCallNumber, core, ended};
+ghost use Rattle.rhai_machine.specs.language.Runs.{Goes};
+ghost use Rattle.rhai_machine.specs.language.Arguments.{arguments_there};
+ghost use Rattle.rhai_steps.specs.Operations.{operation_of};
 ghost use Rattle.rhai_steps.specs.Agreement.{KeepsSight};
+ghost use Rattle.rhai_steps.specs.Sessions.{under};
 ghost use Rattle.rhai_steps.specs.States.{state_of};
-ghost use Rattle.rhai_calls.specs.Called.{with_args};
-ghost use Rattle.rhai_steps.specs.Offers.{Offers};
-ghost use Rattle.rhai_callees.specs.Going.{GoesOn, GoesOut};
+ghost use Rattle.rhai_calls.specs.Called.{with_args, came_out};
 ghost use Rattle.rhai_callees.specs.Linked.{linked_call, Comes};
 
 use crate::arguments::join;
 use rhai_calls::dispatch::{Called, call_all, races};
 use rhai_calls::native::{call_number as call_number_first, call_number_alone};
 use rhai_few::Few;
-use rhai_functions::function::{Function, Offered};
+use rhai_functions::function::Function;
 use rhai_state::error::EvalAltResult;
-use rhai_state::limits::Limits;
+use rhai_state::errors::data_race_by;
+use rhai_state::session::Session;
 use rhai_state::state::GlobalRuntimeState;
 use rhai_state::table::NativeTable;
-use rhai_steps::errors::data_race_by;
+use rhai_steps::operation::Operation;
 use rhai_steps::values::let_go;
 use rhai_tree::Items;
 use rhai_tree::literal::NativeId;
 use rhai_tree::position::Position;
-use rhai_tree::token::Token;
 use rhai_values::base::value::{Dynamic, Host};
 use rhai_values::cells::CellStore;
 use std::alloc::Global;
 
 /// Makes a call by name with the values that a pointer has already before its arguments.
 fn call_curried<H: Host, T: NativeTable<H>>(
-    limits: &Limits,
-    alloc: Global,
-    offered: &Offered<'_, H>,
+    session: &Session<'_, H>,
     global: &mut GlobalRuntimeState<H>,
     table: &mut T,
     natives_alone: bool,
-    name: &str,
-    token: Option<Token>,
+    operation: &Operation<'_>,
     curried: Items<Dynamic<H>>,
     args: &mut Few<Dynamic<H>>,
-    pos: Position,
-) -> Called<H>
+) -> Called<Dynamic<H>, Function<H>, H>
     ensures counts { global.old.num_operations ≤ global.new.num_operations }
     ensures sight { KeepsSight global.old global.new }
-    ensures runs { (offer : _) (scope : _) (held : _) (on_scope : _) → Offers offer offered.now →
-        GoesOut (rules_of limits.now H.name_of offer T.natives)
-        (ToCall (record { name = name.now; token = token; at = pos }) curried
-        (plainly natives_alone on_scope)) args.old
-        (not on_scope) pos (state_of (T.state table.old) global.old scope held)
-        (with_args result args.new) (state_of (T.state table.new) global.new scope held) }
+    ensures runs { (scope : _) (held : _) (on_scope : _) → let rules = under H.name_of session.now T.natives in
+        Goes rules
+        (arguments_there rules.setting (ToCall (operation_of operation.now) curried (plainly natives_alone on_scope)) args.old)
+        (state_of (T.state table.old) global.old scope held)
+        (came_out (not on_scope) operation.now.at (with_args result args.new))
+        (state_of (T.state table.new) global.new scope held) }
 {
-    match join(curried, args, pos) {
-        Ok(()) => call_all(
-            limits,
-            alloc,
-            offered,
-            global,
-            table,
-            natives_alone,
-            name,
-            token,
-            args,
-            pos,
-        ),
+    match join(curried, args, operation.at) {
+        Ok(()) => call_all(session, global, table, natives_alone, operation, args),
         Err(error) => Called::Ended(Err(error)),
     }
 }
@@ -88,54 +74,35 @@ fn call_curried<H: Host, T: NativeTable<H>>(
 /// # Errors
 /// Those of `rhai_calls::dispatch::pass_call`.
 pub fn call_values<H: Host, T: NativeTable<H>>(
-    limits: &Limits,
-    alloc: Global,
-    offered: &Offered<'_, H>,
+    session: &Session<'_, H>,
     global: &mut GlobalRuntimeState<H>,
     table: &mut T,
     natives_alone: bool,
-    name: &str,
-    token: Option<Token>,
+    operation: &Operation<'_>,
     curried: Items<Dynamic<H>>,
     args: &mut Few<Dynamic<H>>,
-    pos: Position,
-) -> Called<H>
+) -> Called<Dynamic<H>, Function<H>, H>
     ensures counts { global.old.num_operations ≤ global.new.num_operations }
     ensures sight { KeepsSight global.old global.new }
-    ensures runs { (offer : _) (scope : _) (held : _) (on_scope : _) → Offers offer offered.now →
-        GoesOut (rules_of limits.now H.name_of offer T.natives)
-        (ToCall (record { name = name.now; token = token; at = pos }) curried
-        (plainly natives_alone on_scope))
-        args.old (not on_scope) pos (state_of (T.state table.old) global.old scope held)
-        (with_args result args.new) (state_of (T.state table.new) global.new scope held) }
+    ensures runs { (scope : _) (held : _) (on_scope : _) → let rules = under H.name_of session.now T.natives in
+        Goes rules
+        (arguments_there rules.setting (ToCall (operation_of operation.now) curried (plainly natives_alone on_scope)) args.old)
+        (state_of (T.state table.old) global.old scope held)
+        (came_out (not on_scope) operation.now.at (with_args result args.new))
+        (state_of (T.state table.new) global.new scope held) }
 {
     if curried.is_empty() {
         drop(curried);
-        return call_all(
-            limits,
-            alloc,
-            offered,
-            global,
-            table,
-            natives_alone,
-            name,
-            token,
-            args,
-            pos,
-        );
+        return call_all(session, global, table, natives_alone, operation, args);
     }
     call_curried(
-        limits,
-        alloc,
-        offered,
+        session,
         global,
         table,
         natives_alone,
-        name,
-        token,
+        operation,
         curried,
         args,
-        pos,
     )
 }
 
@@ -146,7 +113,7 @@ fn enter_linked<H: Host>(
     function: Function<H>,
     args: &mut Few<Dynamic<H>>,
     pos: Position,
-) -> Called<H>
+) -> Called<Dynamic<H>, Function<H>, H>
     ensures { Comes (with_args result args.new) (linked_call (cells_of cells.now) function args.old pos) }
 {
     if races(cells, args.as_slice()) {
@@ -170,7 +137,7 @@ pub fn call_function<H: Host>(
     curried: Items<Dynamic<H>>,
     args: &mut Few<Dynamic<H>>,
     pos: Position,
-) -> Called<H>
+) -> Called<Dynamic<H>, Function<H>, H>
     ensures { Comes (with_args result args.new)
         (linked_call (cells_of cells.now) function (curried ++ args.old) pos) }
 {
@@ -182,33 +149,30 @@ pub fn call_function<H: Host>(
 
 /// Calls a native by its number, whose arguments are there.
 fn call_number_all<H: Host, T: NativeTable<H>>(
-    limits: &Limits,
-    alloc: Global,
+    session: &Session<'_, H>,
     global: &mut GlobalRuntimeState<H>,
     table: &mut T,
     id: NativeId,
-    name: &str,
+    operation: &Operation<'_>,
     args: &mut Few<Dynamic<H>>,
-    pos: Position,
 ) -> Result<Dynamic<H>, EvalAltResult<H>>
     ensures counts { global.old.num_operations ≤ global.new.num_operations }
     ensures sight { KeepsSight global.old global.new }
-    ensures runs { (offer : _) (scope : _) (held : _) → GoesOn (rules_of limits.now H.name_of offer T.natives)
-        (ToCallNumber id.number (record { name = name.now; token = None; at = pos }) []) args.old
-        (state_of (T.state table.old) global.old scope held)
-        result (state_of (T.state table.new) global.new scope held) }
+    ensures runs { (scope : _) (held : _) → let rules = under H.name_of session.now T.natives in
+        Goes rules
+        (arguments_there rules.setting (ToCallNumber id.number (operation_of operation.now) []) args.old)
+        (state_of (T.state table.old) global.old scope held) (core (ended result))
+        (state_of (T.state table.new) global.new scope held) }
 {
     if races(&global.cells, args.as_slice()) {
-        return Err(data_race_by(alloc, name, pos));
+        return Err(data_race_by(session.alloc, operation.name, operation.at));
     }
     if args.is_empty() {
-        return call_number_alone(limits, alloc, global, table, id, name, pos);
+        return call_number_alone(session, global, table, id, operation);
     }
     let mut first = args.remove(0);
     let others = args.as_slice();
-    let result = call_number_first(
-        limits, alloc, global, table, id, name, &mut first, others, pos,
-    );
+    let result = call_number_first(session, global, table, id, operation, &mut first, others);
     let_go(first);
     result
 }
@@ -220,25 +184,24 @@ fn call_number_all<H: Host, T: NativeTable<H>>(
 /// `ErrorDataRace` at the call for an argument that is the handle of a cell which is held, and those of
 /// `rhai_calls::native::call_number`.
 pub fn call_number<H: Host, T: NativeTable<H>>(
-    limits: &Limits,
-    alloc: Global,
+    session: &Session<'_, H>,
     global: &mut GlobalRuntimeState<H>,
     table: &mut T,
     id: NativeId,
-    name: &str,
+    operation: &Operation<'_>,
     curried: Items<Dynamic<H>>,
     args: &mut Few<Dynamic<H>>,
-    pos: Position,
 ) -> Result<Dynamic<H>, EvalAltResult<H>>
     ensures counts { global.old.num_operations ≤ global.new.num_operations }
     ensures sight { KeepsSight global.old global.new }
-    ensures runs { (offer : _) (scope : _) (held : _) → GoesOn (rules_of limits.now H.name_of offer T.natives)
-        (ToCallNumber id.number (record { name = name.now; token = None; at = pos }) curried) args.old
-        (state_of (T.state table.old) global.old scope held)
-        result (state_of (T.state table.new) global.new scope held) }
+    ensures runs { (scope : _) (held : _) → let rules = under H.name_of session.now T.natives in
+        Goes rules
+        (arguments_there rules.setting (ToCallNumber id.number (operation_of operation.now) curried) args.old)
+        (state_of (T.state table.old) global.old scope held) (core (ended result))
+        (state_of (T.state table.new) global.new scope held) }
 {
-    match join(curried, args, pos) {
-        Ok(()) => call_number_all(limits, alloc, global, table, id, name, args, pos),
+    match join(curried, args, operation.at) {
+        Ok(()) => call_number_all(session, global, table, id, operation, args),
         Err(error) => Err(error),
     }
 }

@@ -16,10 +16,11 @@ ghost use Rattle.rhai_functions.specs.Qualified.{text_behind, path_text};
 ghost use Rattle.rhai_machine.specs.language.Calls.{public_or_unknown, signature, types_of};
 ghost use Rattle.rhai_machine.specs.language.Names.{looked_up, meant};
 ghost use Rattle.rhai_machine.specs.language.State.{Answers};
-ghost use Rattle.rhai_machine.specs.language.Variables.{path_of, variable_in, variable_named};
-ghost use Rattle.rhai_steps.specs.Agreement.{AgreesAt, KeepsSight, variable_is_good};
+ghost use Rattle.rhai_machine.specs.language.Variables.{path_of, variable_in};
+ghost use Rattle.rhai_steps.specs.Agreement.{AgreesAt, KeepsSight};
 ghost use Rattle.rhai_steps.specs.Offers.{globals_in};
 ghost use Rattle.rhai_steps.specs.States.{surroundings_of};
+ghost use Rattle.rhai_steps.specs.Variables.{offset_is_good, variable_told};
 ghost use Rattle.rhai_context.specs.Ends.{error_in};
 ghost use Rattle.rhai_calls.specs.Called.{with_args};
 ghost use Rattle.rhai_calls.specs.Dispatch.{Means};
@@ -34,24 +35,24 @@ use rhai_call_forms::arguments::this_in;
 use rhai_calls::dispatch::{Called, is_held};
 use rhai_context::outcomes::charge_expr;
 use rhai_few::Few;
-use rhai_functions::function::{Function, Offered, share_function};
+use rhai_functions::function::{Function, share_function};
 use rhai_functions::key::FnKey;
 use rhai_functions::paths::{find_down, find_public, find_root};
 use rhai_state::error::EvalAltResult;
+use rhai_state::errors::data_race_of;
 use rhai_state::limits::Limits;
 use rhai_state::scope::Scope;
+use rhai_state::session::Session;
 use rhai_state::state::GlobalRuntimeState;
-use rhai_steps::errors::data_race_of;
 use rhai_steps::qualified::{full_text, no_module};
 use rhai_steps::replies::{function_not_found, nullary_function_not_found};
-use rhai_steps::variables::{entry_of_variable, read_this};
+use rhai_steps::variables::{Variable, entry_of_variable, read_this};
 use rhai_tree::expr::{Expr, Namespace};
 use rhai_tree::position::Position;
 use rhai_tree::{Shared, Text};
 use rhai_values::base::value::{Dynamic, Host, Module, ModuleFn};
 use rhai_values::cells::CellStore;
 use std::alloc::Global;
-use std::num::NonZeroUsize;
 
 /// Tells whether an argument is a variable.
 fn is_variable(arg: &Expr) -> bool
@@ -127,37 +128,50 @@ fn pass_entry<H: Host>(
 
 /// Copies what a variable means, as it is passed by itself.
 fn pass_variable<H: Host>(
-    alloc: Global,
-    offered: &Offered<'_, H>,
+    session: &Session<'_, H>,
     global: &GlobalRuntimeState<H>,
     scope: &Scope<H>,
-    offset: Option<NonZeroUsize>,
-    name: &Shared<Text>,
-    namespace: &Namespace,
-    pos: Position,
+    variable: &Variable<'_>,
 ) -> Result<Dynamic<H>, EvalAltResult<H>>
-    requires { AgreesAt global.now scope.now (variable_is_good offset name.now namespace.now.path) }
-    ensures { Answers result (meaning_passed (cells_of global.now.cells) pos
-        (meant (globals_in offered.now) (surroundings_of global.now) (entries_of scope.now)
-        (variable_named name.now namespace.now pos))) }
+    requires { AgreesAt global.now scope.now (offset_is_good variable.now) }
+    ensures { Answers result (meaning_passed (cells_of global.now.cells) variable.now.at
+        (meant (globals_in session.now.offered) (surroundings_of global.now) (entries_of scope.now)
+        (variable_told variable.now))) }
 {
-    match entry_of_variable(global, scope, offset, name, namespace) {
-        Some(index) => pass_entry(alloc, &global.cells, scope.value_at(index), name, pos),
-        None => pass_beside(alloc, offered, global, name, namespace, pos),
+    match entry_of_variable(
+        global,
+        scope,
+        variable.offset,
+        variable.name,
+        variable.namespace,
+    ) {
+        Some(index) => pass_entry(
+            session.alloc,
+            &global.cells,
+            scope.value_at(index),
+            variable.name,
+            variable.at,
+        ),
+        None => pass_beside(
+            session,
+            global,
+            variable.name,
+            variable.namespace,
+            variable.at,
+        ),
     }
 }
 
 /// Reads what is read last. None where it is neither a variable nor `this`.
 fn read_last_value<H: Host>(
-    alloc: Global,
-    offered: &Offered<'_, H>,
+    session: &Session<'_, H>,
     global: &GlobalRuntimeState<H>,
     scope: &Scope<H>,
     this: &Option<Dynamic<H>>,
     last: &Expr,
 ) -> Option<Result<Dynamic<H>, EvalAltResult<H>>>
     requires { AgreesAt global.now scope.now (form_is_good (out-Expr last.now)) }
-    ensures { Means result (value_at (globals_in offered.now) (surroundings_of global.now)
+    ensures { Means result (value_at (globals_in session.now.offered) (surroundings_of global.now)
         (entries_of scope.now) this.now (out-Expr last.now)) }
 {
     match last {
@@ -167,9 +181,17 @@ fn read_last_value<H: Host>(
             namespace,
             pos,
         } => Some(pass_variable(
-            alloc, offered, global, scope, *offset, name, namespace, *pos,
+            session,
+            global,
+            scope,
+            &Variable {
+                offset: *offset,
+                name,
+                namespace,
+                at: *pos,
+            },
         )),
-        Expr::ThisPtr(pos) => Some(read_this(alloc, this, *pos)),
+        Expr::ThisPtr(pos) => Some(read_this(session.alloc, this, *pos)),
         _ => None,
     }
 }
@@ -191,8 +213,7 @@ fn put_first<H: Host>(
 
 /// Reads what is read last, if anything is, and puts it before the other arguments.
 fn prepend_last<H: Host>(
-    alloc: Global,
-    offered: &Offered<'_, H>,
+    session: &Session<'_, H>,
     global: &GlobalRuntimeState<H>,
     scope: &Scope<H>,
     this: &Option<Dynamic<H>>,
@@ -201,16 +222,16 @@ fn prepend_last<H: Host>(
     pos: Position,
 ) -> Result<(), EvalAltResult<H>>
     requires { AgreesAt global.now scope.now (last_is_good (option_copied last)) }
-    ensures led { OnOk result (led_by (last_value (globals_in offered.now) (surroundings_of global.now)
+    ensures led { OnOk result (led_by (last_value (globals_in session.now.offered) (surroundings_of global.now)
         (entries_of scope.now) this.now (option_copied last.entry)) args.old ≡ Ok args.new) }
     ensures refused { IfErr result (λ e. is_out_of_memory e ≡ false →
-        led_by (last_value (globals_in offered.now) (surroundings_of global.now)
+        led_by (last_value (globals_in session.now.offered) (surroundings_of global.now)
         (entries_of scope.now) this.now (option_copied last.entry)) args.old ≡ Err e) }
 {
     let Some(last) = last else {
         return Ok(());
     };
-    match read_last_value(alloc, offered, global, scope, this, last) {
+    match read_last_value(session, global, scope, this, last) {
         Some(Ok(first)) => put_first(args, first, pos),
         Some(Err(error)) => Err(error),
         None => Ok(()),
@@ -278,23 +299,26 @@ fn share_found<H: Host>(
 /// Finds the public function of a name behind a path. It takes so many arguments and no `this` of a certain
 /// type.
 fn public_function<H: Host>(
-    alloc: Global,
-    offered: &Offered<'_, H>,
+    session: &Session<'_, H>,
     global: &GlobalRuntimeState<H>,
     namespace: &Namespace,
     name: &str,
     args: &[Dynamic<H>],
     pos: Position,
 ) -> Result<Function<H>, EvalAltResult<H>>
-    ensures { Answers result (public_for (globals_in offered.now) (surroundings_of global.now) H.name_of
+    ensures { Answers result (public_for (globals_in session.now.offered) (surroundings_of global.now) H.name_of
         (path_of namespace.now) name.now pos args.now) }
 {
     let path = namespace.path.as_slice();
     let [root, rest @ ..] = path else {
-        return Err(no_module(alloc, path, namespace.position));
+        return Err(no_module(session.alloc, path, namespace.position));
     };
     let imports = global.imports.as_slice();
-    match find_root(imports, offered.global_sub_modules, root.get().as_str()) {
+    match find_root(
+        imports,
+        session.offered.global_sub_modules,
+        root.get().as_str(),
+    ) {
         Some(root) => {
             let key = FnKey {
                 name,
@@ -302,26 +326,25 @@ fn public_function<H: Host>(
                 this_type: None,
             };
             let found = find_public_down(root, rest, key);
-            share_found(alloc, &global.cells, found, path, name, args, pos)
+            share_found(session.alloc, &global.cells, found, path, name, args, pos)
         }
-        None => Err(no_module(alloc, path, namespace.position)),
+        None => Err(no_module(session.alloc, path, namespace.position)),
     }
 }
 
 /// Makes a call behind a path whose arguments are all there.
 fn call_public<H: Host>(
-    alloc: Global,
-    offered: &Offered<'_, H>,
+    session: &Session<'_, H>,
     global: &GlobalRuntimeState<H>,
     namespace: &Namespace,
     name: &str,
     args: &[Dynamic<H>],
     pos: Position,
-) -> Called<H>
-    ensures { Comes (with_args result args.now) (public_call (globals_in offered.now)
+) -> Called<Dynamic<H>, Function<H>, H>
+    ensures { Comes (with_args result args.now) (public_call (globals_in session.now.offered)
         (surroundings_of global.now) H.name_of (path_of namespace.now) name.now pos (Ok args.now)) }
 {
-    match public_function(alloc, offered, global, namespace, name, args, pos) {
+    match public_function(session, global, namespace, name, args, pos) {
         Ok(function) => Called::Enters(function),
         Err(error) => Called::Ended(Err(error)),
     }
@@ -337,8 +360,7 @@ fn call_public<H: Host>(
 /// nothing has its first name; and `ErrorFunctionNotFound` at the call, with the path, the name and the types
 /// of the arguments.
 pub fn call_behind<H: Host>(
-    alloc: Global,
-    offered: &Offered<'_, H>,
+    session: &Session<'_, H>,
     global: &GlobalRuntimeState<H>,
     scope: &Scope<H>,
     this: &Option<Dynamic<H>>,
@@ -347,16 +369,16 @@ pub fn call_behind<H: Host>(
     name: &str,
     args: &mut Few<Dynamic<H>>,
     pos: Position,
-) -> Called<H>
+) -> Called<Dynamic<H>, Function<H>, H>
     requires { AgreesAt global.now scope.now (last_is_good (option_copied last)) }
-    ensures { Comes (with_args result args.new) (behind_call (globals_in offered.now)
+    ensures { Comes (with_args result args.new) (behind_call (globals_in session.now.offered)
         (surroundings_of global.now) (entries_of scope.now) this.now H.name_of (option_copied last.entry)
         (path_of namespace.now) name.now args.old pos) }
 {
-    match prepend_last(alloc, offered, global, scope, this, last, args, pos) {
+    match prepend_last(session, global, scope, this, last, args, pos) {
         Ok(()) => {
             let all = args.as_slice();
-            call_public(alloc, offered, global, namespace, name, all, pos)
+            call_public(session, global, namespace, name, all, pos)
         }
         Err(error) => Called::Ended(Err(error)),
     }

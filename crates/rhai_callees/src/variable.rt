@@ -1,45 +1,48 @@
 //! A call by name whose first argument is a variable, which is read last.
 
-ghost use Rattle.std.specs.Prelude.{◌≡◌, ◌≤◌, ◌<◌, ◌∷◌, IsTrue, None, Some, false, length, not, true};
+ghost use Rattle.std.specs.Prelude.{◌≡◌, ◌≤◌, ◌<◌, ◌∷◌, None, Some, false, length, not, true};
 ghost use Rattle.rhai_values.specs.Cells.{cells_of};
 ghost use Rattle.rhai_values.specs.Copy.{copy_of};
 ghost use Rattle.rhai_state.specs.Scope.{entries_of, names_in, value_in};
 ghost use Rattle.rhai_machine.specs.language.State.{Answers};
 ghost use Rattle.rhai_machine.specs.language.Values.{flat};
-ghost use Rattle.rhai_machine.specs.language.Calls.{plainly};
+ghost use Rattle.rhai_machine.specs.language.Calls.{plainly, dispatch_core};
 ghost use Rattle.rhai_machine.specs.language.Frames.{FromEntry, ToCallOn};
 ghost use Rattle.rhai_machine.specs.language.Names.{entry_named, value_beside};
-ghost use Rattle.rhai_machine.specs.language.Setting.{rules_of};
 ghost use Rattle.rhai_machine.specs.language.Variables.{Path, variable_named};
-ghost use Rattle.rhai_steps.specs.Agreement.{AgreesAt, KeepsSight, variable_is_good};
-ghost use Rattle.rhai_steps.specs.Offers.{Offers, globals_in};
+ghost use Rattle.rhai_machine.specs.language.Runs.{Goes};
+ghost use Rattle.rhai_machine.specs.language.Arguments.{arguments_there};
+ghost use Rattle.rhai_steps.specs.Operations.{operation_of};
+ghost use Rattle.rhai_steps.specs.Agreement.{AgreesAt, KeepsSight};
+ghost use Rattle.rhai_steps.specs.Offers.{globals_in};
+ghost use Rattle.rhai_steps.specs.Sessions.{under};
 ghost use Rattle.rhai_steps.specs.States.{local_of, state_of, surroundings_of};
-ghost use Rattle.rhai_calls.specs.Called.{Calls, Enters, with_args};
+ghost use Rattle.rhai_steps.specs.Variables.{offset_is_good, variable_told};
+ghost use Rattle.rhai_calls.specs.Called.{with_args, came_out};
+ghost use Rattle.rhai_calls.specs.declared.dispatch.Called.TheVariants.{Enters};
 ghost use Rattle.rhai_calls.specs.Lending.{back_in, lent_call, Stands};
-ghost use Rattle.rhai_callees.specs.Going.{GoesOut};
 ghost use Rattle.rhai_callees.specs.Linked.{Comes};
 ghost use Rattle.rhai_callees.specs.Variables.{copy_passed, is_lendable as lendable};
 
-use rhai_calls::dispatch::{Called, Dispatched, Seeks, is_held, pass_call};
+use rhai_calls::dispatch::{Called, Seeks, is_held, pass_call};
 use rhai_calls::native::{Passing, drop_changed};
 use rhai_few::Few;
-use rhai_functions::function::{Function, Offered};
+use rhai_functions::function::Function;
 use rhai_state::error::EvalAltResult;
-use rhai_state::limits::Limits;
+use rhai_state::errors::data_race_of;
 use rhai_state::scope::Scope;
+use rhai_state::session::Session;
 use rhai_state::state::GlobalRuntimeState;
 use rhai_state::table::NativeTable;
-use rhai_steps::errors::data_race_of;
+use rhai_steps::operation::Operation;
 use rhai_steps::values::{copy, flatten, is_bare_handle, let_go, unit_value};
-use rhai_steps::variables::{entry_of_variable, read_beside};
+use rhai_steps::variables::{Variable, entry_of_variable, read_beside};
 use rhai_tree::expr::Namespace;
 use rhai_tree::position::Position;
-use rhai_tree::token::Token;
 use rhai_tree::{Shared, Text};
 use rhai_values::base::value::{AccessMode, Dynamic, Host};
 use rhai_values::cells::CellStore;
 use std::alloc::Global;
-use std::num::NonZeroUsize;
 
 /// Tells whether a variable's value may be lent: it is no handle and no constant.
 #[inline(always)]
@@ -67,19 +70,18 @@ pub(crate) fn pass_value<H: Host>(
 
 /// Copies what a variable means that is no entry, as it is passed by itself.
 pub(crate) fn pass_beside<H: Host>(
-    alloc: Global,
-    offered: &Offered<'_, H>,
+    session: &Session<'_, H>,
     global: &GlobalRuntimeState<H>,
     variable: &Shared<Text>,
     namespace: &Namespace,
     pos: Position,
 ) -> Result<Dynamic<H>, EvalAltResult<H>>
     ensures { Answers result (copy_passed (cells_of global.now.cells) pos
-        (value_beside (globals_in offered.now) (surroundings_of global.now)
+        (value_beside (globals_in session.now.offered) (surroundings_of global.now)
         (variable_named variable.now namespace.now pos))) }
 {
-    let value = read_beside(alloc, offered, global, variable, namespace, pos)?;
-    let passed = pass_value(alloc, &global.cells, &value, pos);
+    let value = read_beside(session, global, variable, namespace, pos)?;
+    let passed = pass_value(session.alloc, &global.cells, &value, pos);
     let_go(value);
     passed
 }
@@ -91,8 +93,8 @@ pub(crate) fn enter_with<H: Host>(
     first: Dynamic<H>,
     args: &mut Few<Dynamic<H>>,
     pos: Position,
-) -> Called<H>
-    ensures { Comes (with_args result args.new) (Enters function (first ∷ args.old)) }
+) -> Called<Dynamic<H>, Function<H>, H>
+    ensures { Comes (with_args result args.new) (Enters (function, first ∷ args.old)) }
 {
     match args.insert(0, first) {
         Ok(()) => Called::Enters(function),
@@ -111,8 +113,8 @@ pub(crate) fn enter_with_copy<H: Host>(
     first: &Dynamic<H>,
     args: &mut Few<Dynamic<H>>,
     pos: Position,
-) -> Called<H>
-    ensures { Comes (with_args result args.new) (Enters function (copy_of first.now ∷ args.old)) }
+) -> Called<Dynamic<H>, Function<H>, H>
+    ensures { Comes (with_args result args.new) (Enters (function, copy_of first.now ∷ args.old)) }
 {
     match copy(alloc, first, pos) {
         Ok(first) => enter_with(function, first, args, pos),
@@ -126,44 +128,36 @@ pub(crate) fn enter_with_copy<H: Host>(
 /// Makes a call whose first argument is lent from the entry of a variable. It is taken out of there, and put
 /// back on every way out.
 fn call_lent<H: Host, T: NativeTable<H>>(
-    limits: &Limits,
-    alloc: Global,
-    offered: &Offered<'_, H>,
+    session: &Session<'_, H>,
     global: &mut GlobalRuntimeState<H>,
     table: &mut T,
     scope: &mut Scope<H>,
     index: usize,
     natives_alone: bool,
-    name: &str,
-    token: Option<Token>,
+    operation: &Operation<'_>,
     args: &mut Few<Dynamic<H>>,
-    pos: Position,
-) -> Called<H>
+) -> Called<Dynamic<H>, Function<H>, H>
     requires { index < length (entries_of scope.old) }
     ensures counts { global.old.num_operations ≤ global.new.num_operations }
     ensures sight { KeepsSight global.old global.new }
     ensures names { names_in scope.new ≡ names_in scope.old }
-    ensures runs { (offer : _) (held : _) (on_scope : _) (v : _) → Offers offer offered.now →
-        value_in (entries_of scope.old) (Some index) ≡ Some v →
-        Calls (rules_of limits.now H.name_of offer T.natives) (plainly natives_alone on_scope)
-        (lent_call (record { name = name.now; token = token; at = pos }) (Some (FromEntry index)) true
-        (v ∷ args.old))
+    ensures runs { (held : _) (on_scope : _) (v : _) → value_in (entries_of scope.old) (Some index) ≡ Some v →
+        let rules = under H.name_of session.now T.natives in
+        Goes rules
+        (dispatch_core rules.setting (plainly natives_alone on_scope) (lent_call (operation_of operation.now) (Some (FromEntry index)) true (v ∷ args.old)))
         (state_of (T.state table.old) global.old scope.old held)
-        (with_args result args.new) (state_of (T.state table.new) global.new scope.new held) }
+        (came_out (not on_scope) operation.now.at (with_args result args.new))
+        (state_of (T.state table.new) global.new scope.new held) }
 {
     let mut first = scope.replace_value(index, unit_value());
     let called = call_first(
-        limits,
-        alloc,
-        offered,
+        session,
         global,
         table,
         natives_alone,
-        name,
-        token,
+        operation,
         &mut first,
         args,
-        pos,
     );
     let_go(scope.replace_value(index, first));
     called
@@ -172,26 +166,22 @@ fn call_lent<H: Host, T: NativeTable<H>>(
 /// Makes a call by name with its first argument before the others, which may be lent. A function of a script
 /// gets a copy of it.
 pub(crate) fn call_first<H: Host, T: NativeTable<H>>(
-    limits: &Limits,
-    alloc: Global,
-    offered: &Offered<'_, H>,
+    session: &Session<'_, H>,
     global: &mut GlobalRuntimeState<H>,
     table: &mut T,
     natives_alone: bool,
-    name: &str,
-    token: Option<Token>,
+    operation: &Operation<'_>,
     first: &mut Dynamic<H>,
     args: &mut Few<Dynamic<H>>,
-    pos: Position,
-) -> Called<H>
+) -> Called<Dynamic<H>, Function<H>, H>
     ensures counts { global.old.num_operations ≤ global.new.num_operations }
     ensures sight { KeepsSight global.old global.new }
-    ensures runs { (offer : _) (scope : _) (held : _) (lender : _) (on_scope : _) → Offers offer offered.now →
-        Stands (Some lender) first.old (local_of global.old scope held) →
-        Calls (rules_of limits.now H.name_of offer T.natives) (plainly natives_alone on_scope)
-        (lent_call (record { name = name.now; token = token; at = pos }) (Some lender) true
-        (first.old ∷ args.old))
-        (state_of (T.state table.old) global.old scope held) (with_args result args.new)
+    ensures runs { (scope : _) (held : _) (lender : _) (on_scope : _) → Stands (Some lender) first.old (local_of global.old scope held) →
+        let rules = under H.name_of session.now T.natives in
+        Goes rules
+        (dispatch_core rules.setting (plainly natives_alone on_scope) (lent_call (operation_of operation.now) (Some lender) true (first.old ∷ args.old)))
+        (state_of (T.state table.old) global.old scope held)
+        (came_out (not on_scope) operation.now.at (with_args result args.new))
         (back_in (Some lender) first.new (state_of (T.state table.new) global.new scope held)) }
 {
     let seeks = Seeks {
@@ -204,34 +194,37 @@ pub(crate) fn call_first<H: Host, T: NativeTable<H>>(
     };
     let rest = args.as_slice();
     match pass_call(
-        limits, alloc, offered, global, table, seeks, name, token, first, rest, passing, pos,
+        session, global, table, seeks, operation, first, rest, passing,
     ) {
-        Dispatched::Ended(result) => Called::Ended(drop_changed(result)),
-        Dispatched::Found(function) => enter_with_copy(alloc, function, first, args, pos),
+        Called::Ended(result) => Called::Ended(drop_changed(result)),
+        Called::Enters(function) => enter_with_copy(
+            session.alloc,
+            function,
+            first,
+            args,
+            operation.at,
+        ),
     }
 }
 
 /// Makes a call by name with a value of its own before the other arguments.
 fn call_passed<H: Host, T: NativeTable<H>>(
-    limits: &Limits,
-    alloc: Global,
-    offered: &Offered<'_, H>,
+    session: &Session<'_, H>,
     global: &mut GlobalRuntimeState<H>,
     table: &mut T,
     natives_alone: bool,
-    name: &str,
-    token: Option<Token>,
+    operation: &Operation<'_>,
     first: Dynamic<H>,
     args: &mut Few<Dynamic<H>>,
-    pos: Position,
-) -> Called<H>
+) -> Called<Dynamic<H>, Function<H>, H>
     ensures counts { global.old.num_operations ≤ global.new.num_operations }
     ensures sight { KeepsSight global.old global.new }
-    ensures runs { (offer : _) (scope : _) (held : _) (on_scope : _) → Offers offer offered.now →
-        Calls (rules_of limits.now H.name_of offer T.natives) (plainly natives_alone on_scope)
-        (lent_call (record { name = name.now; token = token; at = pos }) None false (first ∷ args.old))
+    ensures runs { (scope : _) (held : _) (on_scope : _) → let rules = under H.name_of session.now T.natives in
+        Goes rules
+        (dispatch_core rules.setting (plainly natives_alone on_scope) (lent_call (operation_of operation.now) None false (first ∷ args.old)))
         (state_of (T.state table.old) global.old scope held)
-        (with_args result args.new) (state_of (T.state table.new) global.new scope held) }
+        (came_out (not on_scope) operation.now.at (with_args result args.new))
+        (state_of (T.state table.new) global.new scope held) }
 {
     let mut first = first;
     let seeks = Seeks {
@@ -244,79 +237,65 @@ fn call_passed<H: Host, T: NativeTable<H>>(
     };
     let rest = args.as_slice();
     match pass_call(
-        limits, alloc, offered, global, table, seeks, name, token, &mut first, rest, passing, pos,
+        session, global, table, seeks, operation, &mut first, rest, passing,
     ) {
-        Dispatched::Ended(result) => {
+        Called::Ended(result) => {
             let_go(first);
             Called::Ended(drop_changed(result))
         }
-        Dispatched::Found(function) => enter_with(function, first, args, pos),
+        Called::Enters(function) => enter_with(function, first, args, operation.at),
     }
 }
 
 /// Makes a call on the variable at an entry.
 fn call_found<H: Host, T: NativeTable<H>>(
-    limits: &Limits,
-    alloc: Global,
-    offered: &Offered<'_, H>,
+    session: &Session<'_, H>,
     global: &mut GlobalRuntimeState<H>,
     table: &mut T,
     scope: &mut Scope<H>,
     index: usize,
     natives_alone: bool,
-    name: &str,
-    token: Option<Token>,
-    variable: &Shared<Text>,
-    variable_at: Position,
+    operation: &Operation<'_>,
+    variable: &Variable<'_>,
     args: &mut Few<Dynamic<H>>,
-    pos: Position,
-) -> Called<H>
+) -> Called<Dynamic<H>, Function<H>, H>
     requires { index < length (entries_of scope.old) }
     ensures counts { global.old.num_operations ≤ global.new.num_operations }
     ensures sight { KeepsSight global.old global.new }
     ensures names { names_in scope.new ≡ names_in scope.old }
-    ensures runs { (offer : _) (held : _) (on_scope : _) (path : Path) → Offers offer offered.now →
-        entry_named path.names variable.now (entries_of scope.old) ≡ Some index →
-        GoesOut (rules_of limits.now H.name_of offer T.natives)
-        (ToCallOn (record { name = name.now; token = token; at = pos })
-        (record { path = path; name = variable.now; at = variable_at }) (plainly natives_alone on_scope))
-        args.old (not on_scope) pos
+    ensures runs { (held : _) (on_scope : _) (path : Path) → entry_named path.names variable.now.name.now (entries_of scope.old) ≡ Some index →
+        let rules = under H.name_of session.now T.natives in
+        Goes rules
+        (arguments_there rules.setting (ToCallOn (operation_of operation.now) (record { path = path; name = variable.now.name.now; at = variable.now.at }) (plainly natives_alone on_scope)) args.old)
         (state_of (T.state table.old) global.old scope.old held)
-        (with_args result args.new) (state_of (T.state table.new) global.new scope.new held) }
+        (came_out (not on_scope) operation.now.at (with_args result args.new))
+        (state_of (T.state table.new) global.new scope.new held) }
 {
     let value = scope.value_at(index);
     if is_held(&global.cells, value) {
-        return Called::Ended(Err(data_race_of(variable, variable_at)));
+        return Called::Ended(Err(data_race_of(variable.name, variable.at)));
     }
     if is_lendable(value) {
         return call_lent(
-            limits,
-            alloc,
-            offered,
+            session,
             global,
             table,
             scope,
             index,
             natives_alone,
-            name,
-            token,
+            operation,
             args,
-            pos,
         );
     }
-    match pass_value(alloc, &global.cells, value, variable_at) {
+    match pass_value(session.alloc, &global.cells, value, variable.at) {
         Ok(first) => call_passed(
-            limits,
-            alloc,
-            offered,
+            session,
             global,
             table,
             natives_alone,
-            name,
-            token,
+            operation,
             first,
             args,
-            pos,
         ),
         Err(error) => Called::Ended(Err(error)),
     }
@@ -325,44 +304,39 @@ fn call_found<H: Host, T: NativeTable<H>>(
 /// Makes a call on a variable that no entry has. Its name means a constant or a function, or a constant
 /// behind its path.
 fn call_beside<H: Host, T: NativeTable<H>>(
-    limits: &Limits,
-    alloc: Global,
-    offered: &Offered<'_, H>,
+    session: &Session<'_, H>,
     global: &mut GlobalRuntimeState<H>,
     table: &mut T,
     natives_alone: bool,
-    name: &str,
-    token: Option<Token>,
-    variable: &Shared<Text>,
-    namespace: &Namespace,
-    variable_at: Position,
+    operation: &Operation<'_>,
+    variable: &Variable<'_>,
     args: &mut Few<Dynamic<H>>,
-    pos: Position,
-) -> Called<H>
+) -> Called<Dynamic<H>, Function<H>, H>
     ensures counts { global.old.num_operations ≤ global.new.num_operations }
     ensures sight { KeepsSight global.old global.new }
-    ensures runs { (offer : _) (scope : _) (held : _) (on_scope : _) → Offers offer offered.now →
-        entry_named namespace.now.path variable.now (entries_of scope) ≡ None →
-        GoesOut (rules_of limits.now H.name_of offer T.natives)
-        (ToCallOn (record { name = name.now; token = token; at = pos })
-        (variable_named variable.now namespace.now variable_at) (plainly natives_alone on_scope))
-        args.old (not on_scope) pos
+    ensures runs { (scope : _) (held : _) (on_scope : _) → entry_named variable.now.namespace.now.path variable.now.name.now (entries_of scope) ≡ None →
+        let rules = under H.name_of session.now T.natives in
+        Goes rules
+        (arguments_there rules.setting (ToCallOn (operation_of operation.now) (variable_told variable.now) (plainly natives_alone on_scope)) args.old)
         (state_of (T.state table.old) global.old scope held)
-        (with_args result args.new) (state_of (T.state table.new) global.new scope held) }
+        (came_out (not on_scope) operation.now.at (with_args result args.new))
+        (state_of (T.state table.new) global.new scope held) }
 {
-    match pass_beside(alloc, offered, &*global, variable, namespace, variable_at) {
+    match pass_beside(
+        session,
+        &*global,
+        variable.name,
+        variable.namespace,
+        variable.at,
+    ) {
         Ok(first) => call_passed(
-            limits,
-            alloc,
-            offered,
+            session,
             global,
             table,
             natives_alone,
-            name,
-            token,
+            operation,
             first,
             args,
-            pos,
         ),
         Err(error) => Called::Ended(Err(error)),
     }
@@ -378,65 +352,52 @@ fn call_beside<H: Host, T: NativeTable<H>>(
 /// At the variable: `ErrorDataRace` where it is the handle of a cell that is held, and those of
 /// `rhai_steps::variables::read_beside`. All others are those of `rhai_calls::dispatch::pass_call`.
 pub fn call_on_variable<H: Host, T: NativeTable<H>>(
-    limits: &Limits,
-    alloc: Global,
-    offered: &Offered<'_, H>,
+    session: &Session<'_, H>,
     global: &mut GlobalRuntimeState<H>,
     table: &mut T,
     scope: &mut Scope<H>,
     natives_alone: bool,
-    name: &str,
-    token: Option<Token>,
-    offset: Option<NonZeroUsize>,
-    variable: &Shared<Text>,
-    namespace: &Namespace,
-    variable_at: Position,
+    operation: &Operation<'_>,
+    variable: &Variable<'_>,
     args: &mut Few<Dynamic<H>>,
-    pos: Position,
-) -> Called<H>
-    requires { AgreesAt global.old scope.old (variable_is_good offset variable.now namespace.now.path) }
+) -> Called<Dynamic<H>, Function<H>, H>
+    requires { AgreesAt global.old scope.old (offset_is_good variable.now) }
     ensures counts { global.old.num_operations ≤ global.new.num_operations }
     ensures sight { KeepsSight global.old global.new }
     ensures names { names_in scope.new ≡ names_in scope.old }
-    ensures runs { (offer : _) (held : _) (on_scope : _) → Offers offer offered.now →
-        GoesOut (rules_of limits.now H.name_of offer T.natives)
-        (ToCallOn (record { name = name.now; token = token; at = pos })
-        (variable_named variable.now namespace.now variable_at) (plainly natives_alone on_scope))
-        args.old (not on_scope) pos
+    ensures runs { (held : _) (on_scope : _) → let rules = under H.name_of session.now T.natives in
+        Goes rules
+        (arguments_there rules.setting (ToCallOn (operation_of operation.now) (variable_told variable.now) (plainly natives_alone on_scope)) args.old)
         (state_of (T.state table.old) global.old scope.old held)
-        (with_args result args.new) (state_of (T.state table.new) global.new scope.new held) }
+        (came_out (not on_scope) operation.now.at (with_args result args.new))
+        (state_of (T.state table.new) global.new scope.new held) }
 {
-    match entry_of_variable(&*global, &*scope, offset, variable, namespace) {
+    match entry_of_variable(
+        &*global,
+        &*scope,
+        variable.offset,
+        variable.name,
+        variable.namespace,
+    ) {
         None => call_beside(
-            limits,
-            alloc,
-            offered,
+            session,
             global,
             table,
             natives_alone,
-            name,
-            token,
+            operation,
             variable,
-            namespace,
-            variable_at,
             args,
-            pos,
         ),
         Some(index) => call_found(
-            limits,
-            alloc,
-            offered,
+            session,
             global,
             table,
             scope,
             index,
             natives_alone,
-            name,
-            token,
+            operation,
             variable,
-            variable_at,
             args,
-            pos,
         ),
     }
 }

@@ -1,5 +1,6 @@
 -- A call by name whose arguments are there.
 use Rattle.std.proofs.Common.{arith, sym, ◌≡◌, ◌+◌, ◌-◌, suc, ℕ, Bool, true, false, List, [], ◌∷◌, Option, Some, None, Result, Err, refl}
+use Rattle.std.proofs.Common.{not}
 use Rattle.std.proofs.Common.{ap, ◌∙◌}
 use Rattle.std.specs.Prelude.{ℤ, pos, ◌&&◌, codes, if◌then◌else◌, IfOk, Ok}
 use Rattle.std.specs.Str.{bytes_eq}
@@ -11,25 +12,24 @@ use Rattle.rhai_state.specs.declared.error.EvalAltResult.{EvalAltResult}
 use Rattle.rhai_state.specs.declared.error.EvalAltResult.TheVariants as error
 use Rattle.rhai_state.specs.Errors.{is_out_of_memory}
 use Rattle.rhai_functions.specs.declared.function.Function.{Function}
-use Rattle.rhai_machine.specs.machine.Memory.{here, out_before_step}
-use Rattle.rhai_machine.specs.language.Setting.{Setting, Rules}
-use Rattle.rhai_machine.specs.language.State.{State, Local}
+use Rattle.rhai_machine.specs.machine.Memory.{here, out_before_step, Leads}
+use Rattle.rhai_machine.specs.language.Setting.{Setting, Rules, cut}
+use Rattle.rhai_machine.specs.language.State.{State, Local, HasMemory}
 use Rattle.rhai_machine.specs.language.Values.{bool_value, through}
 use Rattle.rhai_machine.specs.language.Variables.{no_path}
 use Rattle.rhai_machine.specs.language.Frames.{Operation, Dispatch, Call, Frame, Core, core, ended, ended_or_changed, Ask, Back, Fail}
 use Rattle.rhai_machine.specs.language.Calls.{asks_function, by_name_core, call_of, called_core, called_function, dispatch_core, found_core}
 use Rattle.rhai_machine.specs.language.Calls.{knows_asked, knows_function, named_core, names_function, plainly, call_races}
-use Rattle.rhai_machine.specs.language.Runs.{at, with_core, Goes, Steps}
+use Rattle.rhai_machine.specs.language.Runs.{at, with_core, Steps, Goes}
+use Rattle.rhai_machine.specs.language.Language.{machine}
 use Rattle.rhai_steps.proofs.Operating.{dispatch_runs_out}
 use Rattle.rhai_steps.proofs.Pieces.{faulted, told}
-use Rattle.rhai_calls.specs.declared.dispatch.Dispatched.TheVariants.{Ended, Found}
+use Rattle.rhai_calls.specs.declared.dispatch.Called.TheVariants.{Ended, Enters}
 use Rattle.rhai_calls.specs.declared.dispatch.Seeks.{Seeks}
-use Rattle.rhai_calls.specs.Called as called
-use Rattle.rhai_calls.specs.Called.{Calls, Enters}
-use Rattle.rhai_calls.specs.Dispatch.{how_of, knows, meant, number_of, script_function, seen_number, seen_text, text_of, told_of}
-use Rattle.rhai_calls.specs.Dispatch.{Dispatches, IfEnded}
-use Rattle.rhai_calls.specs.Dispatch.{Means}
-use Rattle.rhai_calls.specs.ToldChanges.{with_changed, without_changed, MarkedRuns}
+use Rattle.rhai_calls.specs.Called.{came_out}
+use Rattle.rhai_calls.specs.Dispatch.{came_to, ended_early, how_of, knows, meant, number_of, script_function, seen_number, seen_text}
+use Rattle.rhai_calls.specs.Dispatch.{text_of, told_of, IfEnded, Means}
+use Rattle.rhai_calls.specs.ToldChanges.{with_changed, without_changed}
 use Rattle.rhai_calls.proofs.NativeCalls.{plain_ends, plain_changed}
 
 -- a method's arguments without its focus, and a call's with its first
@@ -122,23 +122,42 @@ module _ {H : Type 0} where
   of_ended (Ok v) h = h
   of_ended (Err e) h = tt
 
+  -- what a name means, unless memory ran out
+  pub means_this : (o : Option (Result (Dynamic H) (EvalAltResult H))) (r : Result (Dynamic H) (EvalAltResult H)) → Means (Some r) o →
+      HasMemory r → Some r ≡ o
+  means_this None r means m = absurd means
+  means_this (Some x) r means m = ap (λ (y : Result (Dynamic H) (EvalAltResult H)). Some y) (means m)
+
+  -- it means nothing but a function
+  pub means_none : (o : Option (Result (Dynamic H) (EvalAltResult H))) → Means None o → o ≡ None
+  means_none None means = refl
+  means_none (Some x) means = absurd means
+
   module _ (s : Setting H) (how : Dispatch) (call : Call H) (k : List (Frame H)) (l : Local H) where
     abbrev race : Core H
     race = core (Fail (error.ErrorDataRace call.operation.name call.operation.at)) k l
 
-    name_races : call_races how.of_method l.around.cells call.args ≡ true → by_name_core s how call k l ≡ race
-    name_races is = ap (λ (b : Bool). if b then race else named_core s how call.args call k l) is
+    abbrev told_meaning : Option (Result (Dynamic H) (EvalAltResult H))
+    told_meaning = meant s.offer l.around call.operation s.host_type call.args
 
-    name_is : call_races how.of_method l.around.cells call.args ≡ false →
-        by_name_core s how call k l
-        ≡ leads_to k l (meant s.offer l.around call.operation s.host_type call.args) (called_core s how call k l)
-    name_is is =
-        ap (λ (b : Bool). if b then race else named_core s how call.args call k l) is ∙ named_is s how call.args call k l
+    early_or_called : (raced : Bool) →
+        (if raced then race else named_core s how call.args call k l)
+        ≡ leads_to k l (ended_early raced told_meaning call.operation) (called_core s how call k l)
+    early_or_called true = refl
+    early_or_called false = named_is s how call.args call k l
+
+    -- a call that is no function's is at its end
+    name_leads : by_name_core s how call k l
+        ≡ leads_to k l (ended_early (call_races how.of_method l.around.cells call.args) told_meaning call.operation)
+        (called_core s how call k l)
+    name_leads = early_or_called (call_races how.of_method l.around.cells call.args)
 
 module _ {S H : Type 0} (rules : Rules S H) (how : Dispatch) (call : Call H) (s : State S H) where
   -- memory runs out before a call is dispatched
-  pub calls_run_out : (at : Position) → Calls rules how call s (called.Ended (Err (error.ErrorOutOfMemory at))) s
-  unfolding Calls
+  pub calls_run_out : (at : Position) →
+      Goes rules (dispatch_core rules.setting how call) s
+      (came_out (not how.on_scope) call.operation.at (Ended (Err (error.ErrorOutOfMemory at)))) s
+  unfolding Goes
   calls_run_out at k =
       out_before_step {at = at} (rw (dispatch_runs_out rules.setting how call k s.local at) here)
 
@@ -147,11 +166,6 @@ module _ {S H : Type 0} (rules : Rules S H) (how : Dispatch) (call : Call H) (s 
   meant_changes_none (Ok v) = refl
   meant_changes_none (Err e) = refl
 
-  means_one : (o : Option (Result (Dynamic H) (EvalAltResult H))) (r : Result (Dynamic H) (EvalAltResult H)) → Means (Some r) o →
-      (c : Core H) (k : List (Frame H)) → Goes rules (with_core (leads_to k s.local o c) s) (at (ended r) k s)
-  means_one None r means c k = absurd means
-  means_one (Some x) r means c k = told rules r x means k s
-
 module _ {S H : Type 0} (rules : Rules S H) (seeks : Seeks) (on_scope : Bool) (call : Call H) (s : State S H) where
   abbrev meaning : Option (Result (Dynamic H) (EvalAltResult H))
   meaning = meant rules.setting.offer s.local.around call.operation rules.setting.host_type call.args
@@ -159,70 +173,65 @@ module _ {S H : Type 0} (rules : Rules S H) (seeks : Seeks) (on_scope : Bool) (c
   abbrev wanted : Option (Function H)
   wanted = script_function rules.setting.offer s.local.around rules.setting.host_type seeks call.operation.name call.args
 
-  -- an argument's cell is held
-  dispatch_held : call_races seeks.of_method s.local.around.cells call.args ≡ true → (e : EvalAltResult H) →
-      (is_out_of_memory e ≡ false → e ≡ error.ErrorDataRace call.operation.name call.operation.at) →
-      Dispatches rules (how_of seeks on_scope) call s (Ended (Err e)) s
-  unfolding Dispatches
-  dispatch_held is e race_told k = rw (name_races rules.setting (how_of seeks on_scope) call k s.local is)
-      (faulted rules e (error.ErrorDataRace call.operation.name call.operation.at) race_told k s)
+  -- how it ends for which no function is looked for
+  abbrev early : Option (Result (Dynamic H) (EvalAltResult H))
+  early = ended_early (call_races seeks.of_method s.local.around.cells call.args) meaning call.operation
 
-  -- a call that fails, or that has no memory
-  pub resolved_fails : (e : EvalAltResult H) → (is_out_of_memory e ≡ false →
-      (call_races seeks.of_method s.local.around.cells call.args ≡ true)
-      × (e ≡ error.ErrorDataRace call.operation.name call.operation.at)) → Dispatches rules (how_of seeks on_scope) call s (Ended (Err e)) s
-  unfolding Dispatches
-  resolved_fails (error.ErrorOutOfMemory at) h k = out_before_step {at = at}
+  early_ends : (r : Result (Dynamic H) (EvalAltResult H)) → Some r ≡ early → (k : List (Frame H)) →
+      Leads (machine rules) (cut rules) (with_core (dispatch_core rules.setting (how_of seeks on_scope) call k s.local) s)
+      (at (ended r) k s)
+  early_ends r is k = rw (name_leads rules.setting (how_of seeks on_scope) call k s.local, ← is) here
+
+  early_or_out : (r : Result (Dynamic H) (EvalAltResult H)) → (HasMemory r → Some r ≡ early) → (k : List (Frame H)) →
+      Leads (machine rules) (cut rules) (with_core (dispatch_core rules.setting (how_of seeks on_scope) call k s.local) s)
+      (at (ended r) k s)
+  early_or_out (Ok v) h k = early_ends (Ok v) (h tt) k
+  early_or_out (Err (error.ErrorOutOfMemory at)) h k = out_before_step {at = at}
       (rw (dispatch_runs_out rules.setting (how_of seeks on_scope) call k s.local at) here)
-  resolved_fails e h k = dispatch_held (h refl).0 e (λ m. (h refl).1) k
+  early_or_out (Err e) h k = early_ends (Err e) (h refl) k
 
-  -- one whose name means no function
-  pub resolved_means : (r : Result (Dynamic H) (EvalAltResult H)) (q : Result (Dynamic H × Bool) (EvalAltResult H)) →
-      q ≡ with_changed false r → (call_races seeks.of_method s.local.around.cells call.args ≡ false) × Means (Some r) meaning →
-      Dispatches rules (how_of seeks on_scope) call s (Ended q) s
-  unfolding Dispatches
-  resolved_means r q is h k =
-      let how : Dispatch = how_of seeks on_scope in
-      rw (is, meant_changes_none rules how call s r, name_is rules.setting how call k s.local h.0) (means_one rules how call s _ r h.1 _ k)
-
-  means_none : (o : Option (Result (Dynamic H) (EvalAltResult H))) → Means None o → o ≡ None
-  means_none None means = refl
-  means_none (Some x) means = absurd means
+  -- one that has ended, or that has no memory
+  pub resolved_ends : (r : Result (Dynamic H) (EvalAltResult H)) (q : Result (Dynamic H × Bool) (EvalAltResult H)) →
+      q ≡ with_changed false r → (HasMemory r → Some r ≡ early) →
+      Goes rules (dispatch_core rules.setting (how_of seeks on_scope) call) s (came_to (how_of seeks on_scope) call (Ended q)) s
+  unfolding Goes
+  resolved_ends r q is h k = rw (is, meant_changes_none rules (how_of seeks on_scope) call s r) (early_or_out r h k)
 
   -- one that is a function's leads to where that is found, or is not
-  looked_for : (found : Option (Function H)) → call_races seeks.of_method s.local.around.cells call.args ≡ false → Means None meaning →
-      found ≡ wanted →
+  looked_for : (found : Option (Function H)) → early ≡ None → found ≡ wanted →
       (k : List (Frame H)) → dispatch_core rules.setting (how_of seeks on_scope) call k s.local
       ≡ found_core rules.setting found (how_of seeks on_scope) call k s.local
-  looked_for found free means is k =
-      name_is rules.setting (how_of seeks on_scope) call k s.local free
-      ∙ ap (λ o. leads_to k s.local o (called_core rules.setting (how_of seeks on_scope) call k s.local)) (means_none meaning means)
+  looked_for found none is k =
+      name_leads rules.setting (how_of seeks on_scope) call k s.local
+      ∙ ap (λ o. leads_to k s.local o (called_core rules.setting (how_of seeks on_scope) call k s.local)) none
       ∙ ap (λ o. found_core rules.setting o (how_of seeks on_scope) call k s.local)
       (sym (is ∙ function_is rules.setting seeks on_scope call s.local))
 
-  pub resolved_found : (f : Function H) →
-      (call_races seeks.of_method s.local.around.cells call.args ≡ false) × Means None meaning × (Some f ≡ wanted) →
-      Dispatches rules (how_of seeks on_scope) call s (Found f) s
-  unfolding Dispatches
-  resolved_found f h k = rw (looked_for (Some f) h.0 h.1 h.2 k) here
+  pub resolved_found : (f : Function H) → (early ≡ None) × (Some f ≡ wanted) →
+      Goes rules (dispatch_core rules.setting (how_of seeks on_scope) call) s (came_to (how_of seeks on_scope) call (Enters f)) s
+  unfolding Goes
+  resolved_found f h k = rw (looked_for (Some f) h.0 h.1 k) here
 
-  pub resolved_asks : (call_races seeks.of_method s.local.around.cells call.args ≡ false) × Means None meaning × (None ≡ wanted) →
-      (r : Result (Dynamic H × Bool) (EvalAltResult H)) (new : State S H) → MarkedRuns rules (Ask call) s r new →
-      Dispatches rules (how_of seeks on_scope) call s (Ended r) new
-  unfolding Dispatches Steps
-  resolved_asks h r new runs k = rw (looked_for None h.0 h.1 h.2 k) (runs k)
+  pub resolved_asks : (early ≡ None) × (None ≡ wanted) →
+      (r : Result (Dynamic H × Bool) (EvalAltResult H)) (new : State S H) → Steps rules (Ask call) s (ended_or_changed r) new →
+      Goes rules (dispatch_core rules.setting (how_of seeks on_scope) call) s (came_to (how_of seeks on_scope) call (Ended r)) new
+  unfolding Goes
+  resolved_asks h r new runs k = rw (looked_for None h.0 h.1 k) (runs k)
 
 module _ {S H : Type 0} (rules : Rules S H) (s new : State S H) where
   -- a call that lends nothing and does not tell what it changed ends as it would by itself
   pub calls_ended : (how : Dispatch) (call : Call H) (r : Result (Dynamic H × Bool) (EvalAltResult H))
       (q : Result (Dynamic H) (EvalAltResult H)) → IfEnded (Ended r) (λ answer. false ≡ false → answer.1 ≡ false) → q ≡ without_changed r →
-      Dispatches rules how call s (Ended r) new → Calls rules how call s (called.Ended q) new
-  unfolding Calls Dispatches
+      Goes rules (dispatch_core rules.setting how call) s (came_to how call (Ended r)) new →
+      Goes rules (dispatch_core rules.setting how call) s (came_out (not how.on_scope) call.operation.at (Ended q)) new
+  unfolding Goes
   calls_ended how call r q plain is runs k = rw (is, ← plain_ends r (of_ended r plain)) (runs k)
 
   -- or it enters the function that was found
   pub calls_entered : (alone on_scope : Bool) (operation : Operation) (args : List (Dynamic H)) (f : Function H) →
-      Dispatches rules (plainly alone on_scope) (call_of operation args) s (Found f) new →
-      Calls rules (plainly alone on_scope) (call_of operation args) s (Enters f args) new
-  unfolding Calls Dispatches
+      Goes rules (dispatch_core rules.setting (plainly alone on_scope) (call_of operation args)) s
+      (came_to (plainly alone on_scope) (call_of operation args) (Enters f)) new →
+      Goes rules (dispatch_core rules.setting (plainly alone on_scope) (call_of operation args)) s
+      (came_out (not on_scope) (call_of operation args).operation.at (Enters (f, args))) new
+  unfolding Goes
   calls_entered alone on_scope operation args f runs k = runs k

@@ -19,22 +19,25 @@ use Rattle.rhai_state.specs.declared.error.EvalAltResult.TheVariants as error
 use Rattle.rhai_state.specs.Errors.{is_out_of_memory}
 use Rattle.rhai_state.specs.Native.{MayLeave, Request, Reply, Missing, Gives, Faults, Obeys, effect, purity_of, request}
 use Rattle.rhai_machine.specs.machine.Point.{after}
-use Rattle.rhai_machine.specs.machine.Memory.{here, next, out_in_native, ◌⨾◌}
-use Rattle.rhai_machine.specs.language.Setting.{Rules, limit_under}
+use Rattle.rhai_machine.specs.machine.Memory.{here, next, out_in_native, ◌⨾◌, Leads}
+use Rattle.rhai_machine.specs.language.Setting.{Rules, limit_under, cut}
 use Rattle.rhai_machine.specs.language.State.{Held, State, HasMemory, Answers}
 use Rattle.rhai_machine.specs.language.Values.{Cells, is_handle}
 use Rattle.rhai_machine.specs.language.Places.{Place, InCell, is_barred}
-use Rattle.rhai_machine.specs.language.Frames.{Operation, Lender, FromEntry, FromThis, FromFocus, Call, Control, Frame, core, ended, ended_or_changed}
+use Rattle.rhai_machine.specs.language.Frames.{Operation, Lender, FromEntry, FromThis, FromFocus, Call, Control, Frame, core, ended}
+use Rattle.rhai_machine.specs.language.Frames.{ended_or_changed}
 use Rattle.rhai_machine.specs.language.Frames.{Ask, Question, Fire, Fail}
 use Rattle.rhai_machine.specs.language.Calls.{answered, barred_call, fire_first, first_of, noted, place_of, put_left, question_first}
 use Rattle.rhai_machine.specs.language.Calls.{replied}
 use Rattle.rhai_machine.specs.language.Calls.{while_from}
-use Rattle.rhai_machine.specs.language.Runs.{at, with_core, Goes, Runs, Steps}
+use Rattle.rhai_machine.specs.language.Runs.{at, with_core, Runs, Steps, Goes}
+use Rattle.rhai_machine.specs.language.Language.{machine}
 use Rattle.rhai_steps.specs.States.{local_of, state_of}
 use Rattle.rhai_steps.proofs.Pieces.{step_by, charged, faulted, or_runs_out, passed, refused}
 use Rattle.rhai_calls.specs.Lending.{back_in, Stands}
-use Rattle.rhai_calls.specs.ToldChanges.{gives, with_changed, without_changed, MarkedRuns}
-use Rattle.rhai_calls.specs.Natives.{is_barred_from, is_pure_on, lends_from, native_call, native_key, native_number, Bars, CallsOn, CallsInCell}
+use Rattle.rhai_calls.specs.ToldChanges.{gives, with_changed, without_changed}
+use Rattle.rhai_calls.specs.Natives.{is_barred_from, is_pure_on, lends_from, native_call, native_key, native_number, Bars, CallsOn}
+use Rattle.rhai_calls.specs.Natives.{CallsInCell}
 use Rattle.rhai_calls.specs.Natives.{Gives as GivesOn}
 use Rattle.rhai_calls.proofs.Lent.{back_is, back_same, cells_back, first_cell, first_held, first_plain, own_named, put_same, stands_at}
 use Rattle.rhai_calls.proofs.Lent.{back_lender, number_same, while_lender}
@@ -100,26 +103,29 @@ module _ {S H : Type 0} (rules : Rules S H) where
   -- a call that does not tell what it changed ends as it would by itself
   pub runs_plainly : (c : Control H) (old new : State S H) (r : Result (Dynamic H × Bool) (EvalAltResult H))
       (q : Result (Dynamic H) (EvalAltResult H)) →
-      IfOk r (λ answer. false ≡ false → answer.1 ≡ false) → q ≡ without_changed r → MarkedRuns rules c old r new → Runs rules c old q new
-  unfolding Steps
+      IfOk r (λ answer. false ≡ false → answer.1 ≡ false) → q ≡ without_changed r → Steps rules c old (ended_or_changed r) new →
+      Runs rules c old q new
+  unfolding Goes
   runs_plainly c old new r q plain is runs k = rw (is, ← plain_ends r plain) (runs k)
 
   -- an error on the way out ends a call that tells what it changed, too
   pub exits_telling : (c : Control H) (old new : State S H) (r : Result (Dynamic H × Bool) (EvalAltResult H)) (e : EvalAltResult H) →
-      IsErr r × IsErrAnd r (λ y. y ≡ e) → Steps rules c old (Fail e) new → MarkedRuns rules c old r new
+      IsErr r × IsErrAnd r (λ y. y ≡ e) → Steps rules c old (Fail e) new → Steps rules c old (ended_or_changed r) new
   exits_telling c old new r e is go = rw (passed r is) go
 
   -- an answer, or that memory ran out, with whether it changed its first argument
   told_with_changed : (m : Bool) (r : Reply H) (result wanted : Result (Dynamic H) (EvalAltResult H)) → Answers result wanted →
       (k : List (Frame H)) (s : State S H) →
-      Goes rules (at (answered m r wanted) k s) (at (ended_or_changed (with_changed (m && gives (Some r)) result)) k s)
+      Leads (machine rules) (cut rules) (at (answered m r wanted) k s)
+      (at (ended_or_changed (with_changed (m && gives (Some r)) result)) k s)
   told_with_changed m r (Ok v) wanted a k s = rw (← a tt, answer_is m r (Ok v)) here
   told_with_changed m r (Err e) wanted a k s = or_runs_out rules (answered m r wanted) k s e (λ h. rw (← a h, answer_is m r (Err e)) here)
 
   -- a call that is charged stands before the question of its native
   pub charges_call : (t : S) (old mid : GlobalRuntimeState H) (scope : Scope H) (held : Held H) (call : Call H) →
       old.num_operations < limit_under rules → mid ≡ record old { num_operations = old.num_operations + 1 } →
-      (k : List (Frame H)) → Goes rules (at (Ask call) k (state_of t old scope held)) (at (Question call) k (state_of t mid scope held))
+      (k : List (Frame H)) →
+      Leads (machine rules) (cut rules) (at (Ask call) k (state_of t old scope held)) (at (Question call) k (state_of t mid scope held))
   charges_call t old mid scope held call room is k =
       charged rules t old mid scope held (Ask call) (Question call) call.operation.at (λ j. refl) room is k
 
@@ -127,7 +133,8 @@ module _ {S H : Type 0} (rules : Rules S H) where
   pub refuses_call : (t : S) (old new : GlobalRuntimeState H) (scope : Scope H) (held : Held H) (call : Call H)
       (x : EvalAltResult H) →
       limit_under rules ≤ old.num_operations → x ≡ error.ErrorTooManyOperations call.operation.at → new ≡ old →
-      (k : List (Frame H)) → Goes rules (at (Ask call) k (state_of t old scope held)) (at (Fail x) k (state_of t new scope held))
+      (k : List (Frame H)) →
+      Leads (machine rules) (cut rules) (at (Ask call) k (state_of t old scope held)) (at (Fail x) k (state_of t new scope held))
   refuses_call t old new scope held call x full is same k =
       refused rules t old new scope held (Ask call) (Question call) call.operation.at (λ j. refl) x full is same k
 
@@ -149,7 +156,7 @@ module _ {S H : Type 0} (rules : Rules S H) where
     -- nothing can be lent for it
     question_races : first_of cells (made marks) x ≡ Err (error.ErrorDataRace operation.name operation.at) → (e : EvalAltResult H) →
         (is_out_of_memory e ≡ false → e ≡ error.ErrorDataRace operation.name operation.at) →
-        Goes rules (at (Question (made marks)) k now) (at (Fail e) k now)
+        Leads (machine rules) (cut rules) (at (Question (made marks)) k now) (at (Fail e) k now)
     question_races is e race =
         step_by rules _ _ _ (ap (λ r. question_first rules.setting (made marks) rest r k now.local) is) here
         ⨾ faulted rules e (error.ErrorDataRace operation.name operation.at) race k now
@@ -161,12 +168,13 @@ module _ {S H : Type 0} (rules : Rules S H) where
           (1 + length rest))
 
       questions : (barred : Bool) → (guarded && is_barred pure v) ≡ barred →
-          Goes rules (at (Question (made marks)) k now) (with_core (barred_call rules.setting barred pure (made marks) k now.local) now)
+          Leads (machine rules) (cut rules) (at (Question (made marks)) k now)
+          (with_core (barred_call rules.setting barred pure (made marks) k now.local) now)
       questions barred asked =
           step_by rules _ _ _ (ap (λ r. question_first rules.setting (made marks) rest r k now.local) is) (rw asked here)
 
       let_through : (p : Bool) → pure ≡ p →
-          Goes rules (with_core (barred_call rules.setting false pure (made marks) k now.local) now) (at
+          Leads (machine rules) (cut rules) (with_core (barred_call rules.setting false pure (made marks) k now.local) now) (at
           (Fire (made (marks && not p))) k now)
       let_through p same = rw (made_noted marks pure, same) here
 
@@ -189,7 +197,8 @@ module _ {S H : Type 0} (rules : Rules S H) where
       fires : (m : Bool) (r : Reply H) (left : Option (Dynamic H)) (t : S) (result : Result (Dynamic H) (EvalAltResult H)) →
           rules.natives.gives now.table (request lending (native_key operation.name id) (Some v) rest operation.at) ≡ effect r left t →
           Wanted left r result →
-          Goes rules (at (Fire (made m)) k now) (at (ended_or_changed (with_changed (m && gives (Some r)) result)) k (left_in left t))
+          Leads (machine rules) (cut rules) (at (Fire (made m)) k now)
+          (at (ended_or_changed (with_changed (m && gives (Some r)) result)) k (left_in left t))
       fires m r left t result obeys told =
           step_by rules _ _ _ (ap (λ f. fire_first rules.setting (made m) rest f k now.local) is)
           (rw obeys (told_with_changed m r result _ told k (left_in left t)))
@@ -201,7 +210,7 @@ module _ {S H : Type 0} (rules : Rules S H) where
 
       -- a native that has no memory may have changed its first argument and the table
       fires_out_of_memory : (m : Bool) (left : Option (Dynamic H)) (t : S) (pos : Position) → May left t →
-          Goes rules (at (Fire (made m)) k now) (at (Fail (error.ErrorOutOfMemory pos)) k (left_in left t))
+          Leads (machine rules) (cut rules) (at (Fire (made m)) k now) (at (Fail (error.ErrorOutOfMemory pos)) k (left_in left t))
       fires_out_of_memory m left t pos may =
           out_in_native {call = request lending (native_key operation.name id) (Some v) rest operation.at}
           {f = λ reply given. core (answered m reply
@@ -212,7 +221,7 @@ module _ {S H : Type 0} (rules : Rules S H) where
 
       fires_told_out : (m mark : Bool) (left : Option (Dynamic H)) (t : S) (result : Result (Dynamic H) (EvalAltResult H)) → May left t →
           (HasMemory result → false ≡ true) →
-          Goes rules (at (Fire (made m)) k now) (at (ended_or_changed (with_changed mark result)) k (left_in left t))
+          Leads (machine rules) (cut rules) (at (Fire (made m)) k now) (at (ended_or_changed (with_changed mark result)) k (left_in left t))
       fires_told_out m mark left t (Ok w) may memory = absurd (false≢true (memory tt))
       fires_told_out m mark left t (Err (error.ErrorOutOfMemory pos)) may memory = fires_out_of_memory m left t pos may
       fires_told_out m mark left t (Err e) may memory = absurd (false≢true (memory refl))
@@ -221,7 +230,8 @@ module _ {S H : Type 0} (rules : Rules S H) where
           (result : Result (Dynamic H) (EvalAltResult H)) →
           Obeys (rules.natives.gives now.table (request lending (native_key operation.name id) (Some v) rest operation.at)) answer left t →
           May left t → IfSome answer (λ r. Wanted left r result) → (HasMemory result → is_some answer ≡ true) →
-          Goes rules (at (Fire (made m)) k now) (at (ended_or_changed (with_changed (m && gives answer) result)) k (left_in left t))
+          Leads (machine rules) (cut rules) (at (Fire (made m)) k now)
+          (at (ended_or_changed (with_changed (m && gives answer) result)) k (left_in left t))
       fires_told m None left t result obeys may answers memory = fires_told_out m (m && false) left t result may memory
       fires_told m (Some r) left t result obeys may answers memory = fires m r left t result obeys answers
 
@@ -251,7 +261,7 @@ module _ {S H : Type 0} (rules : Rules S H) where
     pub calls_barred : (e : EvalAltResult H) (left : Dynamic H) (t' : S) (result : Result (Dynamic H × Bool) (EvalAltResult H)) →
         Bars rules.natives rules.setting.host_type (native_key operation.name id) guarded lent rest t t' left e operation.name
         operation.at → result ≡ Err e → CallsOn rules cells later operation id guarded marks lent left rest t t' result
-    unfolding CallsOn Steps
+    unfolding CallsOn Goes
     calls_barred e left t' result (is, same, kept, bars) fails lender from x count l stands meanwhile back first k =
         rw (fails, same, kept, put_same from lent l stands)
         (questions operation id lender guarded marks x rest k (record { table = t; count = count; local = l }) from lent first true
@@ -266,7 +276,7 @@ module _ {S H : Type 0} (rules : Rules S H) where
         IfSome answer (λ r. Answers q (replied rules.setting.limits rules.setting.host_type r (Some left) rest operation by_number later)) →
         (HasMemory q → is_some answer ≡ true) → result ≡ with_changed changed q →
         CallsOn rules cells later operation id guarded marks lent left rest t t' result
-    unfolding CallsOn Steps
+    unfolding CallsOn Goes
     calls_on answer left t' changed by_number q result (is, leaves, does) numbered answers memory tells_it lender from x count l stands
         meanwhile back first k =
         rw (tells_it, does)
@@ -305,8 +315,8 @@ module _ {S H : Type 0} (rules : Rules S H) where
     -- that is no handle
     pub first_by_itself : (left : Dynamic H) → is_handle x.value ≡ false →
         CallsOn rules (cells_of global.cells) (cells_of global.cells) operation id guarded marks x left rest t t' result →
-        MarkedRuns rules (Question (native_call operation id lender guarded marks (x ∷ rest))) (state_of t global scope held) result
-        (back_in lender left (state_of t' global scope held))
+        Steps rules (Question (native_call operation id lender guarded marks (x ∷ rest))) (state_of t global scope held)
+        (ended_or_changed result) (back_in lender left (state_of t' global scope held))
     unfolding CallsOn
     first_by_itself left plain calls =
         rw (← back_is lender left (state_of t' global scope held))
@@ -320,8 +330,8 @@ module _ {S H : Type 0} (rules : Rules S H) where
         new ≡ record global { cells = new.cells } →
         CallsInCell rules operation id guarded marks cell rest (cells_of global.cells) (cells_of new.cells) t t' result →
         Stands lender x (local_of new scope held) →
-        MarkedRuns rules (Question (native_call operation id lender guarded marks (x ∷ rest))) (state_of t global scope held) result
-        (back_in lender x (state_of t' new scope held))
+        Steps rules (Question (native_call operation id lender guarded marks (x ∷ rest))) (state_of t global scope held)
+        (ended_or_changed result) (back_in lender x (state_of t' new scope held))
     unfolding CallsInCell
     first_in_cell new cell is same calls there =
         rw (back_same lender x (state_of t' new scope held) there, same)
@@ -331,9 +341,9 @@ module _ {S H : Type 0} (rules : Rules S H) where
     pub first_races : (cell : CellId) → x.value ≡ value.Cell cell → t' ≡ t →
         lends_from (value_of_cell (cells_of global.cells) cell.number) ≡ false → (e : EvalAltResult H) → result ≡ Err e →
         (is_out_of_memory e ≡ false → e ≡ error.ErrorDataRace operation.name operation.at) →
-        MarkedRuns rules (Question (native_call operation id lender guarded marks (x ∷ rest))) (state_of t global scope held) result
-        (back_in lender x (state_of t' global scope held))
-    unfolding Steps
+        Steps rules (Question (native_call operation id lender guarded marks (x ∷ rest))) (state_of t global scope held)
+        (ended_or_changed result) (back_in lender x (state_of t' global scope held))
+    unfolding Goes
     first_races cell is same lends e fails race k =
         rw (back_same lender x (state_of t' global scope held) stands, same, fails)
         (question_races operation id lender guarded marks x rest k (state_of t global scope held)
@@ -356,7 +366,7 @@ module _ {S H : Type 0} (rules : Rules S H) where
     abbrev lone_pure : Bool
     lone_pure = rules.natives.pure now.table (purity_of (native_key operation.name id) [] 0)
 
-    lone_asked : (m : Bool) → Goes rules (at (Question (lone m)) k now) (at (Fire (lone (m && not lone_pure))) k now)
+    lone_asked : (m : Bool) → Leads (machine rules) (cut rules) (at (Question (lone m)) k now) (at (Fire (lone (m && not lone_pure))) k now)
     lone_asked m = step_by rules _ _ _ refl (rw (lone_noted m lone_pure) here)
 
     lone_fires : (m : Bool) (answer : Option (Reply H)) (t : S) (q : Result (Dynamic H) (EvalAltResult H)) →
@@ -364,7 +374,8 @@ module _ {S H : Type 0} (rules : Rules S H) where
         MayLeave rules.setting.host_type rules.natives now.table lone_request None t →
         IfSome answer (λ r. Answers q (replied rules.setting.limits rules.setting.host_type r None [] operation (is_some (native_number id))
         now.local.around.cells)) → (HasMemory q → is_some answer ≡ true) →
-        Goes rules (at (Fire (lone m)) k now) (at (ended_or_changed (with_changed (m && gives answer) q)) k (record now { table = t }))
+        Leads (machine rules) (cut rules) (at (Fire (lone m)) k now)
+        (at (ended_or_changed (with_changed (m && gives answer) q)) k (record now { table = t }))
     unfolding after
     lone_fires m (Some r) t q obeys may answers memory =
         next (rw obeys (told_with_changed m r q _ answers k (record now { table = t })))
@@ -380,7 +391,7 @@ module _ {S H : Type 0} (rules : Rules S H) where
         by_number ≡ is_some id → IfSome answer (λ r. Answers q (replied rules.setting.limits rules.setting.host_type r None [] operation
         by_number now.local.around.cells)) → (HasMemory q → is_some answer ≡ true) →
         result ≡ with_changed ((marks && not lone_pure) && gives answer) q →
-        Goes rules (at (Question (lone marks)) k now) (at (ended_or_changed result) k (record now { table = t }))
+        Leads (machine rules) (cut rules) (at (Question (lone marks)) k now) (at (ended_or_changed result) k (record now { table = t }))
     fires_alone marks by_number answer t q result obeys may numbered answers memory is =
         rw is (lone_asked marks ⨾ lone_fires (marks && not lone_pure) answer t q obeys may (rw (numbered ∙ number_same id) at
         answers) memory)

@@ -8,22 +8,18 @@ use Rattle.rhai_values.specs.declared.base.value.Union.{Union}
 use Rattle.rhai_values.specs.declared.base.value.Union.TheVariants as value
 use Rattle.rhai_state.specs.declared.error.EvalAltResult.{EvalAltResult}
 use Rattle.rhai_state.specs.declared.error.EvalAltResult.TheVariants as error
-use Rattle.rhai_state.specs.Errors.{is_out_of_memory}
 use Rattle.rhai_values.specs.Copy.{plain}
 use Rattle.rhai_values.specs.TypeNames.{type_name_of}
 use Rattle.rhai_functions.specs.declared.function.Function.{Function}
-use Rattle.rhai_machine.specs.language.Setting.{Offer, Rules}
-use Rattle.rhai_machine.specs.language.State.{Local, State, Surroundings, Answers}
+use Rattle.rhai_machine.specs.language.Setting.{Offer}
+use Rattle.rhai_machine.specs.language.State.{Local, Surroundings, Answers, HasMemory}
 use Rattle.rhai_machine.specs.language.Values.{Cells, bool_value, through}
 use Rattle.rhai_machine.specs.language.Functions.{found_function, key_by}
 use Rattle.rhai_machine.specs.language.Variables.{no_path}
 use Rattle.rhai_machine.specs.language.Frames.{Operation, Dispatch, Call, Frame, Core, core, ended_or_changed}
-use Rattle.rhai_machine.specs.language.Calls.{call_races, dispatch_core, enter_core, first_type, signature, types_of}
-use Rattle.rhai_machine.specs.language.Runs.{with_core, Goes}
-use Rattle.rhai_calls.specs.declared.dispatch.Dispatched.{Dispatched}
-use Rattle.rhai_calls.specs.declared.dispatch.Dispatched.TheVariants.{Ended, Found}
-use Rattle.rhai_calls.specs.declared.dispatch.Resolved.{Resolved}
-use Rattle.rhai_calls.specs.declared.dispatch.Resolved.TheVariants.{Failed, Meant, Found as FoundFunction, Native as OfNative}
+use Rattle.rhai_machine.specs.language.Calls.{call_races, enter_core, first_type, signature, types_of}
+use Rattle.rhai_calls.specs.declared.dispatch.Called.{Called}
+use Rattle.rhai_calls.specs.declared.dispatch.Called.TheVariants.{Ended, Enters}
 use Rattle.rhai_calls.specs.declared.dispatch.Seeks.{Seeks}
 
 -- a call that looks for these functions of scripts is dispatched so
@@ -111,39 +107,41 @@ module _ {H : Type 0} where
   Means (Some result) (Some wanted) = Answers result wanted
   Means _ _ = ⊥
 
-  -- what a call means before anything is done for it: it fails for an argument in a held cell, unless memory ran out; it is no
-  -- function's; it is a function of a script; or it is a native's
-  abbrev pub Resolves : (races : Bool) → (meant : Option (Result (Dynamic H) (EvalAltResult H))) → (found : Option (Function H)) →
-      Operation → Resolved H → Type 0
-  Resolves raced meaning found operation (Failed e) =
-      is_out_of_memory e ≡ false → (raced ≡ true) × (e ≡ error.ErrorDataRace operation.name operation.at)
-  Resolves raced meaning found operation (Meant r) = (raced ≡ false) × Means (Some r) meaning
-  Resolves raced meaning found operation (FoundFunction function) = (raced ≡ false) × Means None meaning × (Some function ≡ found)
-  Resolves raced meaning found operation OfNative = (raced ≡ false) × Means None meaning × (None ≡ found)
+  -- how a call ends for which no function is looked for: in a race, where an argument is in a held cell, and else with what its name
+  -- means
+  abbrev pub ended_early : (raced : Bool) → (meant : Option (Result (Dynamic H) (EvalAltResult H))) → Operation →
+      Option (Result (Dynamic H) (EvalAltResult H))
+  ended_early true meaning operation = Some (Err (error.ErrorDataRace operation.name operation.at))
+  ended_early false meaning operation = meaning
+
+  -- what a call means before anything is done for it: it has ended, unless memory ran out; it is of a function of a script; or, where
+  -- that is None, of a native
+  abbrev pub Resolves : (early : Option (Result (Dynamic H) (EvalAltResult H))) → (found : Option (Function H)) →
+      Option (Called (Dynamic H) (Function H) H) → Type 0
+  Resolves early found (Some (Ended r)) = HasMemory r → Some r ≡ early
+  Resolves early found (Some (Enters function)) = (early ≡ None) × (Some function ≡ found)
+  Resolves early found None = (early ≡ None) × (None ≡ found)
 
   -- what a call with these arguments means, given the functions that are offered and what surrounds it
-  abbrev pub ResolvesCall : Offer H → Surroundings H → (H → List ℕ) → Seeks → Operation → List (Dynamic H) → Resolved H → Type 0
-  ResolvesCall offer around host seeks operation args resolved = Resolves (call_races seeks.of_method around.cells args) (meant offer around operation host args)
-      (script_function offer around host seeks operation.name args) operation resolved
+  abbrev pub ResolvesCall : Offer H → Surroundings H → (H → List ℕ) → Seeks → Operation → List (Dynamic H) →
+      Option (Called (Dynamic H) (Function H) H) → Type 0
+  ResolvesCall offer around host seeks operation args resolved =
+      Resolves (ended_early (call_races seeks.of_method around.cells args) (meant offer around operation host args) operation)
+      (script_function offer around host seeks operation.name args) resolved
 
   -- ---- what a call comes to
 
   -- what holds of the answer of a call that has ended
-  abbrev pub IfEnded : Dispatched H → (Dynamic H × Bool → Type 0) → Type 0
+  abbrev pub IfEnded : Called (Dynamic H × Bool) (Function H) H → (Dynamic H × Bool → Type 0) → Type 0
   IfEnded (Ended (Ok answer)) P = P answer
   IfEnded _ P = ⊤
 
-  -- what holds where a function of a script was found
-  abbrev pub IfFound : Dispatched H → Type 0 → Type 0
-  IfFound (Found function) P = P
-  IfFound _ P = ⊤
+  -- what holds of a call that enters a function of a script
+  abbrev pub IfEnters : Called (Dynamic H × Bool) (Function H) H → Type 0 → Type 0
+  IfEnters (Enters function) P = P
+  IfEnters _ P = ⊤
 
-  -- a call that ended comes back with whether it changed its first argument, and a function that was found is entered
-  abbrev pub came_to : Dispatch → Call H → Dispatched H → List (Frame H) → Local H → Core H
+  -- a call that ended comes back with whether it changed its first argument, and a function is entered
+  abbrev pub came_to : Dispatch → Call H → Called (Dynamic H × Bool) (Function H) H → List (Frame H) → Local H → Core H
   came_to how call (Ended r) k l = core (ended_or_changed r) k l
-  came_to how call (Found function) k l = enter_core how.of_method function how call k l
-
-  -- from where a call is dispatched, over any stack, to what it came to
-  unfoldable pub Dispatches : {S : Type 0} → Rules S H → Dispatch → Call H → State S H → Dispatched H → State S H → Type 0
-  Dispatches {S} rules how call old dispatched new = (k : List (Frame H)) →
-      Goes rules (with_core (dispatch_core rules.setting how call k old.local) old) (with_core (came_to how call dispatched k new.local) new)
+  came_to how call (Enters function) k l = enter_core how.of_method function how call k l

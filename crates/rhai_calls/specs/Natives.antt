@@ -18,10 +18,15 @@ use Rattle.rhai_machine.specs.language.State.{Local}
 use Rattle.rhai_machine.specs.language.Values.{Cells, is_handle}
 use Rattle.rhai_state.specs.Scope.{value_in}
 use Rattle.rhai_machine.specs.language.Places.{Place, InEntry, InCell, InThis, InFocus, is_barred}
-use Rattle.rhai_machine.specs.language.Frames.{Operation, Lender, Call, Question}
+use Rattle.rhai_machine.specs.language.Frames.{Operation, Lender, Call, Question, ended_or_changed}
 use Rattle.rhai_machine.specs.language.Calls.{first_of, key_by, put_left, while_from}
+use Rattle.rhai_machine.specs.language.Runs.{Steps}
 use Rattle.rhai_calls.specs.Lending.{passed_call}
-use Rattle.rhai_calls.specs.ToldChanges.{gives, MarkedRuns}
+use Rattle.rhai_calls.specs.ToldChanges.{gives}
+
+-- a local state over these cells
+abbrev pub over_cells : {H : Type 0} → Cells H → Local H → Local H
+over_cells cells l = record l { around = record l.around { cells = cells } }
 
 -- the number of a native that is called by it
 abbrev pub native_number : Option NativeId → Option ℕ
@@ -69,7 +74,8 @@ module _ {H : Type 0} where
 
   -- a call of a native by its name, or by its number: its first argument may be lent or guarded, its answer may tell if it changed that
   abbrev pub native_call : Operation → Option NativeId → Option Lender → (guarded marks : Bool) → List (Dynamic H) → Call H
-  native_call operation id lender guarded marks args = record (passed_call operation lender guarded marks args) { number = native_number id }
+  native_call operation id lender guarded marks args =
+      record (passed_call operation lender guarded marks args) { number = native_number id }
 
   -- a value stands in the place that it is lent from, if there is one
   abbrev pub StandsAt : (from : Option Place) → Dynamic H → Local H → Type 0
@@ -87,15 +93,13 @@ module _ {H : Type 0} where
       (lender : Option Lender) (from : Option Place) (x : Dynamic H) (count : ℕ) (l : Local H) →
       StandsAt from lent l → cells ≡ while_from from l.around.cells → later ≡ (put_left from (Some left) l).around.cells →
       first_of l.around.cells (native_call operation id lender guarded marks (x ∷ rest)) x ≡ Ok (record { from = from; value = lent }) →
-      MarkedRuns rules (Question (native_call operation id lender guarded marks (x ∷ rest)))
-      (record { table = t; count = count; local = l }) result
-      (record { table = t'; count = count; local = put_left from (Some left) l })
+      Steps rules (Question (native_call operation id lender guarded marks (x ∷ rest))) (record { table = t; count = count; local = l })
+      (ended_or_changed result) (record { table = t'; count = count; local = put_left from (Some left) l })
 
   -- a native is called with the value of a cell, which is held so long: with these cells before and after
   unfoldable pub CallsInCell : {S : Type 0} → Rules S H → Operation → Option NativeId → (guarded marks : Bool) → CellId →
       (rest : List (Dynamic H)) → (cells cells' : Cells H) → (t t' : S) → Result (Dynamic H × Bool) (EvalAltResult H) → Type 0
   CallsInCell {S} rules operation id guarded marks cell rest cells cells' t t' result =
       (lender : Option Lender) (x : Dynamic H) (count : ℕ) (l : Local H) → x.value ≡ value.Cell cell → cells ≡ l.around.cells →
-      MarkedRuns rules (Question (native_call operation id lender guarded marks (x ∷ rest)))
-      (record { table = t; count = count; local = l }) result
-      (record { table = t'; count = count; local = record l { around = record l.around { cells = cells' } } })
+      Steps rules (Question (native_call operation id lender guarded marks (x ∷ rest))) (record { table = t; count = count; local = l })
+      (ended_or_changed result) (record { table = t'; count = count; local = record l { around = record l.around { cells = cells' } } })

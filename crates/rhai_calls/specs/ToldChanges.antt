@@ -3,10 +3,6 @@ use Rattle.std.specs.Prelude.{Bool, true, false, Option, Some, Result, Ok, Err}
 use Rattle.rhai_values.specs.declared.base.value.Dynamic.{Dynamic}
 use Rattle.rhai_state.specs.declared.error.EvalAltResult.{EvalAltResult}
 use Rattle.rhai_state.specs.Native.{Reply, Gives}
-use Rattle.rhai_machine.specs.language.Setting.{Rules}
-use Rattle.rhai_machine.specs.language.State.{State}
-use Rattle.rhai_machine.specs.language.Frames.{Control, ended_or_changed}
-use Rattle.rhai_machine.specs.language.Runs.{Steps}
 
 module _ {H : Type 0} where
   -- a result that tells, too, whether the call changed its first argument
@@ -23,8 +19,3 @@ module _ {H : Type 0} where
   abbrev pub gives : Option (Reply H) → Bool
   gives (Some (Gives v)) = true
   gives _ = false
-
-  -- from a control to the value, with whether the call changed its first argument, or to the error that came of it
-  abbrev pub MarkedRuns : {S : Type 0} → Rules S H → Control H → State S H → Result (Dynamic H × Bool) (EvalAltResult H) → State S H →
-      Type 0
-  MarkedRuns rules c old result new = Steps rules c old (ended_or_changed result) new

@@ -1,45 +1,45 @@
 //! Calls by name whose arguments are there. Ports what upstream's `exec_fn_call` does up to where a function
 //! of a script is entered. The contracts cite specs/Dispatch.antt, specs/Called.antt and specs/Lending.antt.
 
-ghost use Rattle.std.specs.Prelude.{◌≡◌, ◌≤◌, ◌∷◌, [], Ok, IfOk, None, false, if◌then◌else◌};
+ghost use Rattle.std.specs.Prelude.{◌≡◌, ◌≤◌, ◌∷◌, [], Ok, IfOk, None, false, if◌then◌else◌, not};
 ghost use Rattle.std.specs.Option.{option_copied};
 ghost use Rattle.rhai_values.specs.Cells.{cells_of};
 ghost use Rattle.rhai_values.specs.Copy.{plain};
 ghost use Rattle.rhai_values.specs.TypeNames.{type_name_of};
 ghost use Rattle.rhai_values.specs.declared.base.value.Union.TheVariants as kind;
-ghost use Rattle.rhai_machine.specs.language.Calls.{call_of, is_held as held_in, plainly};
+ghost use Rattle.rhai_machine.specs.language.Calls.{call_of, is_held as held_in, plainly, dispatch_core};
 ghost use Rattle.rhai_machine.specs.language.Calls.{call_races as call_races_in, is_same_cell as same_cell};
 ghost use Rattle.rhai_machine.specs.language.Calls.{leads_there as leads_there_in, races as races_in};
-ghost use Rattle.rhai_machine.specs.language.Frames.{Ask};
-ghost use Rattle.rhai_machine.specs.language.Setting.{rules_of};
+ghost use Rattle.rhai_machine.specs.language.Frames.{Ask, ended_or_changed};
 ghost use Rattle.rhai_machine.specs.language.State.{Answers};
 ghost use Rattle.rhai_machine.specs.language.Values.{through};
+ghost use Rattle.rhai_machine.specs.language.Runs.{Goes, Steps};
+ghost use Rattle.rhai_steps.specs.Operations.{operation_of};
 ghost use Rattle.rhai_steps.specs.Agreement.{KeepsSight};
+ghost use Rattle.rhai_steps.specs.Sessions.{offer_of, under};
 ghost use Rattle.rhai_steps.specs.States.{local_of, state_of, surroundings_of};
-ghost use Rattle.rhai_calls.specs.Called.{Calls, with_args};
-ghost use Rattle.rhai_calls.specs.Dispatch.{knows, meant, meant_of, meant_of_two, method_found, plain_found};
+ghost use Rattle.rhai_calls.specs.Called.{with_args, came_out};
+ghost use Rattle.rhai_calls.specs.Dispatch.{knows, meant, meant_of, meant_of_two, method_found, plain_found, came_to};
 ghost use Rattle.rhai_calls.specs.Dispatch.{script_function, seen_number, seen_text, how_of};
-ghost use Rattle.rhai_calls.specs.Dispatch.{Dispatches, IfEnded, IfFound};
+ghost use Rattle.rhai_calls.specs.Dispatch.{IfEnded, IfEnters};
 ghost use Rattle.rhai_calls.specs.Dispatch.{Means, ResolvesCall};
-ghost use Rattle.rhai_steps.specs.Offers.{Offers};
-ghost use Rattle.rhai_calls.specs.ToldChanges.{MarkedRuns};
 ghost use Rattle.rhai_calls.specs.Lending.{back_in, passed_call, Stands};
 
 use crate::native::{Passing, drop_changed, pass_native, pass_native_alone, tell_changed};
 use rhai_few::Few;
-use rhai_functions::function::{Function, Offered, called_function};
+use rhai_functions::function::{Function, called_function};
 use rhai_functions::key::FnKey;
 use rhai_functions::lookup::find_function;
 use rhai_state::error::EvalAltResult;
-use rhai_state::limits::Limits;
+use rhai_state::errors::{data_race_by, shared_text};
+use rhai_state::session::Session;
 use rhai_state::state::GlobalRuntimeState;
 use rhai_state::table::NativeTable;
-use rhai_steps::errors::{data_race_by, shared_text};
+use rhai_steps::operation::Operation;
 use rhai_steps::replies::function_not_found;
 use rhai_steps::values::bool_value;
 use rhai_tree::Items;
 use rhai_tree::position::Position;
-use rhai_tree::token::Token;
 use rhai_values::base::value::{Dynamic, Host, Union};
 use rhai_values::cells::CellStore;
 use std::alloc::{AllocError, Global};
@@ -53,34 +53,13 @@ pub struct Seeks {
     pub natives_alone: bool,
 }
 
-/// What a call by name comes to, whose arguments are there.
+/// What a call comes to: it has ended, or it enters a function of a script.
 #[derive(Drop)]
-pub enum Dispatched<H> {
-    /// It has ended. With a value it tells whether a native may have changed the first argument.
-    Ended(Result<(Dynamic<H>, bool), EvalAltResult<H>>),
-    /// It is a call of a function of a script, and nothing is done yet.
-    Found(Function<H>),
-}
-
-/// What a call by name means, before anything is done for it.
-#[derive(Drop)]
-enum Resolved<H> {
-    /// Nothing: an argument is the handle of a cell that is held.
-    Failed(EvalAltResult<H>),
-    /// No function: this is its answer.
-    Meant(Result<Dynamic<H>, EvalAltResult<H>>),
-    /// A function of a script.
-    Found(Function<H>),
-    /// The native of the name.
-    Native,
-}
-
-/// What a call by name comes to that lends no argument.
-#[derive(Drop)]
-pub enum Called<H> {
-    Ended(Result<Dynamic<H>, EvalAltResult<H>>),
-    /// A function of a script is to be entered with the arguments that the list of the call has then.
-    Enters(Function<H>),
+pub enum Called<A, F, H> {
+    /// It has ended with this answer, or with an error.
+    Ended(Result<A, EvalAltResult<H>>),
+    /// It enters this function, and nothing is done for that yet.
+    Enters(F),
 }
 
 /// Tells whether a value is the handle of a cell that is held.
@@ -174,13 +153,12 @@ fn integer_through<H: Host>(cells: &CellStore<H>, value: &Dynamic<H>) -> Option<
 
 /// Tells whether a function of a script has a name and so many parameters.
 fn is_defined<H: Host>(
-    offered: &Offered<'_, H>,
+    session: &Session<'_, H>,
     global: &GlobalRuntimeState<H>,
     name: &str,
     count: i64,
 ) -> bool
-    ensures { (offer : _) → Offers offer offered.now →
-        result ≡ knows offer (surroundings_of global.now) name.now count }
+    ensures { result ≡ knows (offer_of session.now) (surroundings_of global.now) name.now count }
 {
     let Ok(arity) = usize::try_from(count) else {
         return false;
@@ -193,9 +171,9 @@ fn is_defined<H: Host>(
     let found = find_function(
         key,
         global.lib.as_slice(),
-        offered.global_modules,
+        session.offered.global_modules,
         global.imports.as_slice(),
-        offered.global_sub_modules.values(),
+        session.offered.global_sub_modules.values(),
     );
     found.is_some()
 }
@@ -220,21 +198,26 @@ fn type_of<H: Host>(
 fn meaning_of<H: Host>(
     alloc: Global,
     cells: &CellStore<H>,
-    name: &str,
-    token: Option<Token>,
+    operation: &Operation<'_>,
     value: &Dynamic<H>,
-    pos: Position,
 ) -> Option<Result<Dynamic<H>, EvalAltResult<H>>>
     ensures { Means result (meant_of (cells_of cells.now)
-        (record { name = name.now; token = token; at = pos }) H.name_of value.now) }
+        (operation_of operation.now) H.name_of value.now) }
 {
-    if name == "type_of" {
-        return Some(type_of(alloc, cells, value, pos));
+    if operation.name == "type_of" {
+        return Some(type_of(alloc, cells, value, operation.at));
     }
-    if name == "eval" {
+    if operation.name == "eval" {
         let rest = Items::new(alloc);
         let rest = rest.as_slice();
-        return Some(Err(function_not_found(alloc, cells, name, value, rest, pos)));
+        return Some(Err(function_not_found(
+            alloc,
+            cells,
+            operation.name,
+            value,
+            rest,
+            operation.at,
+        )));
     }
     None
 }
@@ -242,56 +225,49 @@ fn meaning_of<H: Host>(
 /// Tells what a name means with two arguments: whether they say a function of the script. None where it is a
 /// function's.
 fn meaning_of_two<H: Host>(
-    offered: &Offered<'_, H>,
+    session: &Session<'_, H>,
     global: &GlobalRuntimeState<H>,
-    name: &str,
-    token: Option<Token>,
+    operation: &Operation<'_>,
     first: &Dynamic<H>,
     second: &Dynamic<H>,
-    pos: Position,
 ) -> Option<Result<Dynamic<H>, EvalAltResult<H>>>
-    ensures { (offer : _) → Offers offer offered.now →
-        Means result (meant_of_two offer (surroundings_of global.now)
-        (record { name = name.now; token = token; at = pos }) first.now second.now) }
+    ensures { Means result (meant_of_two (offer_of session.now) (surroundings_of global.now)
+        (operation_of operation.now) first.now second.now) }
 {
-    if name != "is_def_fn" {
+    if operation.name != "is_def_fn" {
         return None;
     }
     let asked = text_in(&global.cells, first)?;
     let count = integer_through(&global.cells, second)?;
-    Some(Ok(bool_value(is_defined(offered, global, asked, count))))
+    Some(Ok(bool_value(is_defined(session, global, asked, count))))
 }
 
 /// Tells what a name means with these arguments. None where it is a function's.
 fn meaning<H: Host>(
-    alloc: Global,
-    offered: &Offered<'_, H>,
+    session: &Session<'_, H>,
     global: &GlobalRuntimeState<H>,
-    name: &str,
-    token: Option<Token>,
+    operation: &Operation<'_>,
     first: &Dynamic<H>,
     rest: &[Dynamic<H>],
-    pos: Position,
 ) -> Option<Result<Dynamic<H>, EvalAltResult<H>>>
-    ensures { (offer : _) → Offers offer offered.now → Means result (meant offer (surroundings_of global.now)
-        (record { name = name.now; token = token; at = pos }) H.name_of (first.now ∷ rest.now)) }
+    ensures { Means result (meant (offer_of session.now) (surroundings_of global.now)
+        (operation_of operation.now) H.name_of (first.now ∷ rest.now)) }
 {
     match rest {
-        [] => meaning_of(alloc, &global.cells, name, token, first, pos),
-        [second] => meaning_of_two(offered, global, name, token, first, second, pos),
+        [] => meaning_of(session.alloc, &global.cells, operation, first),
+        [second] => meaning_of_two(session, global, operation, first, second),
         _ => None,
     }
 }
 
 /// Finds the function of a script that has a name and so many parameters.
 fn function_by<H: Host>(
-    offered: &Offered<'_, H>,
+    session: &Session<'_, H>,
     global: &GlobalRuntimeState<H>,
     name: &str,
     arity: usize,
 ) -> Result<Option<Function<H>>, AllocError>
-    ensures { (offer : _) → Offers offer offered.now →
-        IfOk result (λ found. found ≡ plain_found offer (surroundings_of global.now) name.now arity) }
+    ensures { IfOk result (λ found. found ≡ plain_found (offer_of session.now) (surroundings_of global.now) name.now arity) }
 {
     let key = FnKey {
         name,
@@ -300,7 +276,7 @@ fn function_by<H: Host>(
     };
     called_function(
         key,
-        offered,
+        &session.offered,
         global.lib.as_slice(),
         global.imports.as_slice(),
     )
@@ -309,15 +285,14 @@ fn function_by<H: Host>(
 /// Finds the function of a script that a method means. One for the type of the focus is looked for first, and
 /// then one for any type.
 fn method_by<H: Host>(
-    offered: &Offered<'_, H>,
+    session: &Session<'_, H>,
     global: &GlobalRuntimeState<H>,
     name: &str,
     this_type: &str,
     arity: usize,
 ) -> Result<Option<Function<H>>, AllocError>
-    ensures { (offer : _) → Offers offer offered.now →
-        IfOk result (λ found.
-        found ≡ method_found offer (surroundings_of global.now) name.now this_type.now arity) }
+    ensures { IfOk result (λ found.
+        found ≡ method_found (offer_of session.now) (surroundings_of global.now) name.now this_type.now arity) }
 {
     let key = FnKey {
         name,
@@ -326,27 +301,26 @@ fn method_by<H: Host>(
     };
     match called_function(
         key,
-        offered,
+        &session.offered,
         global.lib.as_slice(),
         global.imports.as_slice(),
     )? {
         Some(function) => Ok(Some(function)),
-        None => function_by(offered, global, name, arity),
+        None => function_by(session, global, name, arity),
     }
 }
 
 /// Finds the function of a script that a call means. None where its native is meant.
 fn function_of<H: Host>(
-    offered: &Offered<'_, H>,
+    session: &Session<'_, H>,
     global: &GlobalRuntimeState<H>,
     seeks: Seeks,
     name: &str,
     first: &Dynamic<H>,
     rest: &[Dynamic<H>],
 ) -> Result<Option<Function<H>>, AllocError>
-    ensures { (offer : _) → Offers offer offered.now →
-        IfOk result (λ found.
-        found ≡ script_function offer (surroundings_of global.now) H.name_of seeks name.now
+    ensures { IfOk result (λ found.
+        found ≡ script_function (offer_of session.now) (surroundings_of global.now) H.name_of seeks name.now
         (first.now ∷ rest.now)) }
 {
     if seeks.natives_alone {
@@ -354,37 +328,34 @@ fn function_of<H: Host>(
     }
     if seeks.of_method {
         let this_type = first.type_name(&global.cells);
-        return method_by(offered, global, name, this_type, rest.len());
+        return method_by(session, global, name, this_type, rest.len());
     }
-    function_by(offered, global, name, 1 + rest.len())
+    function_by(session, global, name, 1 + rest.len())
 }
 
-/// Decides what a call by name means whose arguments are there.
+/// Decides what a call by name means whose arguments are there, before anything is done for it. None where it
+/// is a native's.
 fn resolve<H: Host>(
-    alloc: Global,
-    offered: &Offered<'_, H>,
+    session: &Session<'_, H>,
     global: &GlobalRuntimeState<H>,
     seeks: Seeks,
-    name: &str,
-    token: Option<Token>,
+    operation: &Operation<'_>,
     first: &Dynamic<H>,
     rest: &[Dynamic<H>],
-    pos: Position,
-) -> Resolved<H>
-    ensures { (offer : _) → Offers offer offered.now →
-        ResolvesCall offer (surroundings_of global.now) H.name_of seeks
-        (record { name = name.now; token = token; at = pos }) (first.now ∷ rest.now) result }
+) -> Option<Called<Dynamic<H>, Function<H>, H>>
+    ensures { ResolvesCall (offer_of session.now) (surroundings_of global.now) H.name_of seeks
+        (operation_of operation.now) (first.now ∷ rest.now) result }
 {
     if call_races(&global.cells, seeks.of_method, first, rest) {
-        return Resolved::Failed(data_race_by(alloc, name, pos));
+        return Some(Called::Ended(Err(data_race_by(session.alloc, operation.name, operation.at))));
     }
-    if let Some(result) = meaning(alloc, offered, global, name, token, first, rest, pos) {
-        return Resolved::Meant(result);
+    if let Some(result) = meaning(session, global, operation, first, rest) {
+        return Some(Called::Ended(result));
     }
-    match function_of(offered, global, seeks, name, first, rest) {
-        Ok(Some(function)) => Resolved::Found(function),
-        Ok(None) => Resolved::Native,
-        Err(_) => Resolved::Failed(EvalAltResult::ErrorOutOfMemory(pos)),
+    match function_of(session, global, seeks, operation.name, first, rest) {
+        Ok(Some(function)) => Some(Called::Enters(function)),
+        Ok(None) => None,
+        Err(_) => Some(Called::Ended(Err(EvalAltResult::ErrorOutOfMemory(operation.at)))),
     }
 }
 
@@ -398,123 +369,107 @@ fn resolve<H: Host>(
 /// At the call: `ErrorDataRace` for an argument that is the handle of a cell which is held;
 /// `ErrorFunctionNotFound` for `eval`; those of `rhai_calls::native::pass_native`.
 pub fn pass_call<H: Host, T: NativeTable<H>>(
-    limits: &Limits,
-    alloc: Global,
-    offered: &Offered<'_, H>,
+    session: &Session<'_, H>,
     global: &mut GlobalRuntimeState<H>,
     table: &mut T,
     seeks: Seeks,
-    name: &str,
-    token: Option<Token>,
+    operation: &Operation<'_>,
     first: &mut Dynamic<H>,
     rest: &[Dynamic<H>],
     passing: Passing,
-    pos: Position,
-) -> Dispatched<H>
+) -> Called<(Dynamic<H>, bool), Function<H>, H>
     ensures counts { global.old.num_operations ≤ global.new.num_operations }
     ensures sight { KeepsSight global.old global.new }
-    ensures runs { (offer : _) (scope : _) (held : _) (lender : _) (on_scope : _) → Offers offer offered.now →
-        Stands lender first.old (local_of global.old scope held) →
-        Dispatches (rules_of limits.now H.name_of offer T.natives) (how_of seeks on_scope)
-        (passed_call (record { name = name.now; token = token; at = pos }) lender passing.guarded
-        passing.marks (first.old ∷ rest.now))
+    ensures runs { (scope : _) (held : _) (lender : _) (on_scope : _) → Stands lender first.old (local_of global.old scope held) →
+        let rules = under H.name_of session.now T.natives in
+        Goes rules
+        (dispatch_core rules.setting (how_of seeks on_scope) (passed_call (operation_of operation.now) lender passing.guarded passing.marks (first.old ∷ rest.now)))
         (state_of (T.state table.old) global.old scope held)
-        result (back_in lender first.new (state_of (T.state table.new) global.new scope held)) }
-    ensures same { IfFound result (first.new ≡ first.old) }
+        (came_to (how_of seeks on_scope) (passed_call (operation_of operation.now) lender passing.guarded passing.marks (first.old ∷ rest.now)) result)
+        (back_in lender first.new (state_of (T.state table.new) global.new scope held)) }
+    ensures same { IfEnters result (first.new ≡ first.old) }
     ensures untold { IfEnded result (λ answer. passing.marks ≡ false → answer.1 ≡ false) }
 {
-    match resolve(
-        alloc, offered, &*global, seeks, name, token, &*first, rest, pos,
-    ) {
-        Resolved::Failed(error) => Dispatched::Ended(Err(error)),
-        Resolved::Meant(result) => Dispatched::Ended(tell_changed(result, false)),
-        Resolved::Found(function) => Dispatched::Found(function),
-        Resolved::Native => Dispatched::Ended(pass_native(
-            limits, alloc, global, table, name, token, first, rest, passing, pos,
-        )),
+    match resolve(session, &*global, seeks, operation, &*first, rest) {
+        Some(called) => match called {
+            Called::Ended(result) => Called::Ended(tell_changed(result, false)),
+            Called::Enters(function) => Called::Enters(function),
+        },
+        None => Called::Ended(pass_native(session, global, table, operation, first, rest, passing)),
     }
 }
 
 /// Finds the function of a script that a call without arguments means. None where its native is meant.
 fn function_alone<H: Host>(
-    offered: &Offered<'_, H>,
+    session: &Session<'_, H>,
     global: &GlobalRuntimeState<H>,
     natives_alone: bool,
     name: &str,
 ) -> Result<Option<Function<H>>, AllocError>
-    ensures { (offer : _) → Offers offer offered.now →
-        IfOk result (λ found. found ≡ (if natives_alone then None
-        else plain_found offer (surroundings_of global.now) name.now 0)) }
+    ensures { IfOk result (λ found. found ≡ (if natives_alone then None
+        else plain_found (offer_of session.now) (surroundings_of global.now) name.now 0)) }
 {
     if natives_alone {
         return Ok(None);
     }
-    function_by(offered, global, name, 0)
+    function_by(session, global, name, 0)
 }
 
-/// Decides what a call by name means that is no method's, with any number of arguments.
+/// Decides what a call by name means that is no method's, with any number of arguments. None where it is a
+/// native's.
 fn resolve_all<H: Host>(
-    alloc: Global,
-    offered: &Offered<'_, H>,
+    session: &Session<'_, H>,
     global: &GlobalRuntimeState<H>,
     natives_alone: bool,
-    name: &str,
-    token: Option<Token>,
+    operation: &Operation<'_>,
     args: &[Dynamic<H>],
-    pos: Position,
-) -> Resolved<H>
-    ensures { (offer : _) → Offers offer offered.now →
-        ResolvesCall offer (surroundings_of global.now) H.name_of
+) -> Option<Called<Dynamic<H>, Function<H>, H>>
+    ensures { ResolvesCall (offer_of session.now) (surroundings_of global.now) H.name_of
         (record { of_method = false; natives_alone = natives_alone })
-        (record { name = name.now; token = token; at = pos }) args.now result }
+        (operation_of operation.now) args.now result }
 {
     match args {
-        [] => match function_alone(offered, global, natives_alone, name) {
-            Ok(Some(function)) => Resolved::Found(function),
-            Ok(None) => Resolved::Native,
-            Err(_) => Resolved::Failed(EvalAltResult::ErrorOutOfMemory(pos)),
+        [] => match function_alone(session, global, natives_alone, operation.name) {
+            Ok(Some(function)) => Some(Called::Enters(function)),
+            Ok(None) => None,
+            Err(_) => Some(Called::Ended(Err(EvalAltResult::ErrorOutOfMemory(operation.at)))),
         },
         [first, rest @ ..] => {
             let seeks = Seeks {
                 of_method: false,
                 natives_alone,
             };
-            resolve(alloc, offered, global, seeks, name, token, first, rest, pos)
+            resolve(session, global, seeks, operation, first, rest)
         }
     }
 }
 
 /// Calls the native of a name, with any number of arguments, none of which is lent.
 fn call_native_all<H: Host, T: NativeTable<H>>(
-    limits: &Limits,
-    alloc: Global,
+    session: &Session<'_, H>,
     global: &mut GlobalRuntimeState<H>,
     table: &mut T,
-    name: &str,
-    token: Option<Token>,
+    operation: &Operation<'_>,
     args: &mut [Dynamic<H>],
     marks: bool,
-    pos: Position,
 ) -> Result<(Dynamic<H>, bool), EvalAltResult<H>>
     ensures counts { global.old.num_operations ≤ global.new.num_operations }
     ensures sight { KeepsSight global.old global.new }
-    ensures runs { (offer : _) (scope : _) (held : _) →
-        MarkedRuns (rules_of limits.now H.name_of offer T.natives)
-        (Ask (passed_call (record { name = name.now; token = token; at = pos }) None false marks args.old))
-        (state_of (T.state table.old) global.old scope held)
-        result (state_of (T.state table.new) global.new scope held) }
+    ensures runs { (scope : _) (held : _) →
+        Steps (under H.name_of session.now T.natives)
+        (Ask (passed_call (operation_of operation.now) None false marks args.old))
+        (state_of (T.state table.old) global.old scope held) (ended_or_changed result)
+        (state_of (T.state table.new) global.new scope held) }
     ensures untold { IfOk result (λ answer. marks ≡ false → answer.1 ≡ false) }
 {
     let [first, rest @ ..] = args else {
-        return pass_native_alone(limits, alloc, global, table, name, token, marks, pos);
+        return pass_native_alone(session, global, table, operation, marks);
     };
     let passing = Passing {
         guarded: false,
         marks,
     };
-    pass_native(
-        limits, alloc, global, table, name, token, first, rest, passing, pos,
-    )
+    pass_native(session, global, table, operation, first, rest, passing)
 }
 
 /// Makes a call by name as `pass_call` does, with any number of arguments, none of which is lent. Where a
@@ -523,44 +478,31 @@ fn call_native_all<H: Host, T: NativeTable<H>>(
 /// # Errors
 /// Those of `pass_call`.
 pub fn pass_all<H: Host, T: NativeTable<H>>(
-    limits: &Limits,
-    alloc: Global,
-    offered: &Offered<'_, H>,
+    session: &Session<'_, H>,
     global: &mut GlobalRuntimeState<H>,
     table: &mut T,
     natives_alone: bool,
-    name: &str,
-    token: Option<Token>,
+    operation: &Operation<'_>,
     args: &mut [Dynamic<H>],
     marks: bool,
-    pos: Position,
-) -> Dispatched<H>
+) -> Called<(Dynamic<H>, bool), Function<H>, H>
     ensures counts { global.old.num_operations ≤ global.new.num_operations }
     ensures sight { KeepsSight global.old global.new }
-    ensures runs { (offer : _) (scope : _) (held : _) (on_scope : _) → Offers offer offered.now →
-        Dispatches (rules_of limits.now H.name_of offer T.natives) (plainly natives_alone on_scope)
-        (passed_call (record { name = name.now; token = token; at = pos }) None false marks args.old)
+    ensures runs { (scope : _) (held : _) (on_scope : _) → let rules = under H.name_of session.now T.natives in
+        Goes rules
+        (dispatch_core rules.setting (plainly natives_alone on_scope) (passed_call (operation_of operation.now) None false marks args.old))
         (state_of (T.state table.old) global.old scope held)
-        result (state_of (T.state table.new) global.new scope held) }
-    ensures same { IfFound result (args.new ≡ args.old) }
+        (came_to (plainly natives_alone on_scope) (passed_call (operation_of operation.now) None false marks args.old) result)
+        (state_of (T.state table.new) global.new scope held) }
+    ensures same { IfEnters result (args.new ≡ args.old) }
     ensures untold { IfEnded result (λ answer. marks ≡ false → answer.1 ≡ false) }
 {
-    match resolve_all(
-        alloc,
-        offered,
-        &*global,
-        natives_alone,
-        name,
-        token,
-        &*args,
-        pos,
-    ) {
-        Resolved::Failed(error) => Dispatched::Ended(Err(error)),
-        Resolved::Meant(result) => Dispatched::Ended(tell_changed(result, false)),
-        Resolved::Found(function) => Dispatched::Found(function),
-        Resolved::Native => Dispatched::Ended(call_native_all(
-            limits, alloc, global, table, name, token, args, marks, pos,
-        )),
+    match resolve_all(session, &*global, natives_alone, operation, &*args) {
+        Some(called) => match called {
+            Called::Ended(result) => Called::Ended(tell_changed(result, false)),
+            Called::Enters(function) => Called::Enters(function),
+        },
+        None => Called::Ended(call_native_all(session, global, table, operation, args, marks)),
     }
 }
 
@@ -570,40 +512,33 @@ pub fn pass_all<H: Host, T: NativeTable<H>>(
 /// # Errors
 /// Those of `pass_call`.
 pub fn call_all<H: Host, T: NativeTable<H>>(
-    limits: &Limits,
-    alloc: Global,
-    offered: &Offered<'_, H>,
+    session: &Session<'_, H>,
     global: &mut GlobalRuntimeState<H>,
     table: &mut T,
     natives_alone: bool,
-    name: &str,
-    token: Option<Token>,
+    operation: &Operation<'_>,
     args: &mut Few<Dynamic<H>>,
-    pos: Position,
-) -> Called<H>
+) -> Called<Dynamic<H>, Function<H>, H>
     ensures counts { global.old.num_operations ≤ global.new.num_operations }
     ensures sight { KeepsSight global.old global.new }
-    ensures runs { (offer : _) (scope : _) (held : _) (on_scope : _) → Offers offer offered.now →
-        Calls (rules_of limits.now H.name_of offer T.natives) (plainly natives_alone on_scope)
-        (call_of (record { name = name.now; token = token; at = pos }) args.old)
+    ensures runs { (scope : _) (held : _) (on_scope : _) → let rules = under H.name_of session.now T.natives in
+        Goes rules
+        (dispatch_core rules.setting (plainly natives_alone on_scope) (call_of (operation_of operation.now) args.old))
         (state_of (T.state table.old) global.old scope held)
-        (with_args result args.new) (state_of (T.state table.new) global.new scope held) }
+        (came_out (not on_scope) operation.now.at (with_args result args.new))
+        (state_of (T.state table.new) global.new scope held) }
 {
     let values = args.as_mut_slice();
     match pass_all(
-        limits,
-        alloc,
-        offered,
+        session,
         global,
         table,
         natives_alone,
-        name,
-        token,
+        operation,
         values,
         false,
-        pos,
     ) {
-        Dispatched::Ended(result) => Called::Ended(drop_changed(result)),
-        Dispatched::Found(function) => Called::Enters(function),
+        Called::Ended(result) => Called::Ended(drop_changed(result)),
+        Called::Enters(function) => Called::Enters(function),
     }
 }

@@ -5,29 +5,30 @@ ghost use Rattle.std.specs.Prelude.{◌≡◌, ◌≤◌, ◌+◌, ◌&&◌, ◌
 ghost use Rattle.rhai_values.specs.Cells.{cells_of, value_of_cell, IsNoHandle};
 ghost use Rattle.rhai_state.specs.Native.{Leaves, Obeys, purity_of, reply_of, request};
 ghost use Rattle.rhai_machine.specs.language.Calls.{call_of};
-ghost use Rattle.rhai_machine.specs.language.Frames.{Ask, Question};
-ghost use Rattle.rhai_machine.specs.language.Runs.{Runs};
-ghost use Rattle.rhai_machine.specs.language.Setting.{rules_of};
+ghost use Rattle.rhai_machine.specs.language.Frames.{Ask, Question, ended_or_changed};
+ghost use Rattle.rhai_machine.specs.language.Runs.{Runs, Steps};
+ghost use Rattle.rhai_steps.specs.Operations.{operation_of};
 ghost use Rattle.rhai_steps.specs.Agreement.{KeepsSight};
+ghost use Rattle.rhai_steps.specs.Sessions.{under};
 ghost use Rattle.rhai_steps.specs.States.{local_of, state_of};
 ghost use Rattle.rhai_calls.specs.Lending.{back_in, lent_call, passed_call, Stands};
-ghost use Rattle.rhai_calls.specs.ToldChanges.{gives, with_changed, without_changed, MarkedRuns};
+ghost use Rattle.rhai_calls.specs.ToldChanges.{gives, with_changed, without_changed};
 ghost use Rattle.rhai_calls.specs.Natives.{Bars, CallsInCell, CallsOn, cell_in, Gives, is_barred_from};
 ghost use Rattle.rhai_calls.specs.Natives.{is_pure_on};
-ghost use Rattle.rhai_calls.specs.Natives.{lends_from, native_call, native_key};
+ghost use Rattle.rhai_calls.specs.Natives.{lends_from, native_call, native_key, over_cells};
 
 use rhai_state::error::EvalAltResult;
-use rhai_state::limits::Limits;
+use rhai_state::errors::{data_race_by, non_pure};
+use rhai_state::session::Session;
 use rhai_state::state::GlobalRuntimeState;
 use rhai_state::table::{Answer, NativeTable};
 use rhai_steps::charges::track_operation;
-use rhai_steps::errors::{data_race_by, non_pure};
+use rhai_steps::operation::Operation;
 use rhai_steps::replies::{replied, settle_lone_reply};
 use rhai_steps::values::is_bare_handle;
 use rhai_tree::Items;
 use rhai_tree::literal::NativeId;
 use rhai_tree::position::Position;
-use rhai_tree::token::Token;
 use rhai_values::base::value::{AccessMode, CellId, Dynamic, Host, Union};
 use rhai_values::cells::{CellStore, put_back};
 use std::alloc::Global;
@@ -195,57 +196,60 @@ fn ask_native<H: Host, T: NativeTable<H>>(
     alloc: Global,
     cells: &CellStore<H>,
     table: &mut T,
-    name: &str,
+    operation: &Operation<'_>,
     id: Option<NativeId>,
     first: &mut Dynamic<H>,
     rest: &[Dynamic<H>],
     passing: Passing,
-    pos: Position,
 ) -> Result<(Answer<H>, bool), EvalAltResult<H>>
     requires { IsNoHandle first.old.value }
-    ensures barred { IfErr result (λ e. Bars T.natives H.name_of (native_key name.now id) passing.guarded
-        first.old rest.now (T.state table.old) (T.state table.new) first.new e name.now pos) }
+    ensures barred { IfErr result (λ e. Bars T.natives H.name_of (native_key operation.now.name.now id) passing.guarded
+        first.old rest.now (T.state table.old) (T.state table.new) first.new e operation.now.name.now operation.now.at) }
     ensures asked { IfOk result (λ answer. Gives T.natives H.name_of (cells_of cells.now)
-        (native_key name.now id) passing.guarded passing.marks first.old rest.now pos
+        (native_key operation.now.name.now id) passing.guarded passing.marks first.old rest.now operation.now.at
         (T.state table.old) (T.state table.new) (reply_of answer.0) first.new answer.1) }
 {
-    if is_barred(&*table, name, id, first, rest, passing.guarded) {
-        return Err(non_pure(alloc, name, pos));
+    if is_barred(&*table, operation.name, id, first, rest, passing.guarded) {
+        return Err(non_pure(alloc, operation.name, operation.at));
     }
-    let changes = may_change(&*table, name, id, first, rest, passing.marks);
-    let answer = answer_of(table, cells, name, id, first, rest, pos);
+    let changes = may_change(&*table, operation.name, id, first, rest, passing.marks);
+    let answer = answer_of(table, cells, operation.name, id, first, rest, operation.at);
     let changed = has_changed(changes, &answer);
     Ok((answer, changed))
 }
 
 /// Calls a native on a value that is no handle, unless the native is barred from it.
 fn call_value<H: Host, T: NativeTable<H>>(
-    limits: &Limits,
-    alloc: Global,
+    session: &Session<'_, H>,
     cells: &CellStore<H>,
     table: &mut T,
-    name: &str,
+    operation: &Operation<'_>,
     id: Option<NativeId>,
-    token: Option<Token>,
     first: &mut Dynamic<H>,
     rest: &[Dynamic<H>],
     passing: Passing,
-    pos: Position,
 ) -> Result<(Dynamic<H>, bool), EvalAltResult<H>>
     requires { IsNoHandle first.old.value }
-    ensures runs { (offer : _) → CallsOn (rules_of limits.now H.name_of offer T.natives)
-        (cells_of cells.now) (cells_of cells.now) (record { name = name.now; token = token; at = pos }) id
+    ensures runs { CallsOn (under H.name_of session.now T.natives)
+        (cells_of cells.now) (cells_of cells.now) (operation_of operation.now) id
         passing.guarded passing.marks first.old first.new rest.now
         (T.state table.old) (T.state table.new) result }
     ensures untold { IfOk result (λ answer. passing.marks ≡ false → answer.1 ≡ false) }
 {
-    match ask_native(alloc, cells, table, name, id, first, rest, passing, pos) {
+    match ask_native(
+        session.alloc,
+        cells,
+        table,
+        operation,
+        id,
+        first,
+        rest,
+        passing,
+    ) {
         Err(error) => Err(error),
         Ok((answer, changed)) => {
             let by_number = id.is_some();
-            let result = replied(
-                alloc, limits, cells, answer, name, by_number, token, first, rest, pos,
-            );
+            let result = replied(session, cells, answer, operation, by_number, first, rest);
             tell_changed(result, changed)
         }
     }
@@ -274,21 +278,18 @@ fn lends<H: Host>(cells: &CellStore<H>, id: CellId) -> bool
 /// Calls a native on the value of a cell, which is held so long. What becomes of its answer is told once the
 /// value is back.
 fn call_in_cell<H: Host, T: NativeTable<H>>(
-    limits: &Limits,
-    alloc: Global,
+    session: &Session<'_, H>,
     cells: &mut CellStore<H>,
     table: &mut T,
-    name: &str,
+    operation: &Operation<'_>,
     id: Option<NativeId>,
-    token: Option<Token>,
     cell: CellId,
     rest: &[Dynamic<H>],
     passing: Passing,
-    pos: Position,
 ) -> Result<(Dynamic<H>, bool), EvalAltResult<H>>
     requires { lends_from (value_of_cell (cells_of cells.old) cell.number) ≡ true }
-    ensures runs { (offer : _) → CallsInCell (rules_of limits.now H.name_of offer T.natives)
-        (record { name = name.now; token = token; at = pos }) id passing.guarded passing.marks cell
+    ensures runs { CallsInCell (under H.name_of session.now T.natives)
+        (operation_of operation.now) id passing.guarded passing.marks cell
         rest.now (cells_of cells.old) (cells_of cells.new) (T.state table.old) (T.state table.new)
         result }
     ensures untold { IfOk result (λ answer. passing.marks ≡ false → answer.1 ≡ false) }
@@ -297,7 +298,14 @@ fn call_in_cell<H: Host, T: NativeTable<H>>(
         Some(lent) => {
             let mut lent = lent;
             let asked = ask_native(
-                alloc, &*cells, table, name, id, &mut lent, rest, passing, pos,
+                session.alloc,
+                &*cells,
+                table,
+                operation,
+                id,
+                &mut lent,
+                rest,
+                passing,
             );
             put_back(cells, cell, lent);
             match asked {
@@ -306,7 +314,7 @@ fn call_in_cell<H: Host, T: NativeTable<H>>(
                     let by_number = id.is_some();
                     let left = cells.get(cell).unwrap();
                     let result = replied(
-                        alloc, limits, &*cells, answer, name, by_number, token, left, rest, pos,
+                        session, &*cells, answer, operation, by_number, left, rest,
                     );
                     tell_changed(result, changed)
                 }
@@ -318,78 +326,72 @@ fn call_in_cell<H: Host, T: NativeTable<H>>(
 
 /// Calls a native on its first argument. A handle stands for the value of its cell.
 fn call_first<H: Host, T: NativeTable<H>>(
-    limits: &Limits,
-    alloc: Global,
+    session: &Session<'_, H>,
     global: &mut GlobalRuntimeState<H>,
     table: &mut T,
-    name: &str,
+    operation: &Operation<'_>,
     id: Option<NativeId>,
-    token: Option<Token>,
     first: &mut Dynamic<H>,
     rest: &[Dynamic<H>],
     passing: Passing,
-    pos: Position,
 ) -> Result<(Dynamic<H>, bool), EvalAltResult<H>>
     ensures counts { global.new.num_operations ≡ global.old.num_operations }
     ensures sight { KeepsSight global.old global.new }
-    ensures runs { (offer : _) (scope : _) (held : _) (lender : _) →
+    ensures runs { (scope : _) (held : _) (lender : _) →
         Stands lender first.old (local_of global.old scope held) →
-        MarkedRuns (rules_of limits.now H.name_of offer T.natives)
-        (Question (native_call (record { name = name.now; token = token; at = pos }) id lender
-        passing.guarded passing.marks (first.old ∷ rest.now)))
-        (state_of (T.state table.old) global.old scope held)
-        result (back_in lender first.new (state_of (T.state table.new) global.new scope held)) }
+        Steps (under H.name_of session.now T.natives)
+        (Question (native_call (operation_of operation.now) id lender passing.guarded passing.marks (first.old ∷ rest.now)))
+        (state_of (T.state table.old) global.old scope held) (ended_or_changed result)
+        (back_in lender first.new (state_of (T.state table.new) global.new scope held)) }
     ensures untold { IfOk result (λ answer. passing.marks ≡ false → answer.1 ≡ false) }
 {
     let Some(cell) = handle_of(first) else {
         let cells = &global.cells;
-        return call_value(
-            limits, alloc, cells, table, name, id, token, first, rest, passing, pos,
-        );
+        return call_value(session, cells, table, operation, id, first, rest, passing);
     };
     if !lends(&global.cells, cell) {
-        return Err(data_race_by(alloc, name, pos));
+        return Err(data_race_by(session.alloc, operation.name, operation.at));
     }
     call_in_cell(
-        limits,
-        alloc,
+        session,
         &mut global.cells,
         table,
-        name,
+        operation,
         id,
-        token,
         cell,
         rest,
         passing,
-        pos,
     )
 }
 
 /// Calls a native without arguments.
 fn call_alone<H: Host, T: NativeTable<H>>(
-    limits: &Limits,
-    alloc: Global,
+    session: &Session<'_, H>,
     cells: &CellStore<H>,
     table: &mut T,
-    name: &str,
+    operation: &Operation<'_>,
     id: Option<NativeId>,
-    token: Option<Token>,
     marks: bool,
-    pos: Position,
 ) -> Result<(Dynamic<H>, bool), EvalAltResult<H>>
-    ensures runs { (offer : _) (count : _) (l : _) → l.around.cells ≡ cells_of cells.now →
-        MarkedRuns (rules_of limits.now H.name_of offer T.natives)
-        (Question (native_call (record { name = name.now; token = token; at = pos }) id None
-        false marks []))
-        (record { table = T.state table.old; count = count; local = l }) result
-        (record { table = T.state table.new; count = count; local = l }) }
+    ensures runs { (count : _) (l : _) → let before = over_cells (cells_of cells.now) l in
+        Steps (under H.name_of session.now T.natives)
+        (Question (native_call (operation_of operation.now) id None false marks []))
+        (record { table = T.state table.old; count = count; local = before }) (ended_or_changed result)
+        (record { table = T.state table.new; count = count; local = before }) }
     ensures untold { IfOk result (λ answer. marks ≡ false → answer.1 ≡ false) }
 {
-    let changes = alone_may_change(&*table, name, id, marks);
-    let answer = answer_alone(alloc, table, cells, name, id, pos);
+    let changes = alone_may_change(&*table, operation.name, id, marks);
+    let answer = answer_alone(
+        session.alloc,
+        table,
+        cells,
+        operation.name,
+        id,
+        operation.at,
+    );
     let changed = has_changed(changes, &answer);
     let by_number = id.is_some();
-    let result = settle_lone_reply(alloc, limits, answer, name, by_number, token, pos);
+    let result = settle_lone_reply(session, answer, operation, by_number);
     tell_changed(result, changed)
 }
 
@@ -406,31 +408,27 @@ fn call_alone<H: Host, T: NativeTable<H>>(
 /// where there is no such native; its own fault where that says no position; `ErrorDataTooLarge` for
 /// an answer above a limit.
 pub fn pass_native<H: Host, T: NativeTable<H>>(
-    limits: &Limits,
-    alloc: Global,
+    session: &Session<'_, H>,
     global: &mut GlobalRuntimeState<H>,
     table: &mut T,
-    name: &str,
-    token: Option<Token>,
+    operation: &Operation<'_>,
     first: &mut Dynamic<H>,
     rest: &[Dynamic<H>],
     passing: Passing,
-    pos: Position,
 ) -> Result<(Dynamic<H>, bool), EvalAltResult<H>>
     ensures counts { global.old.num_operations ≤ global.new.num_operations }
     ensures sight { KeepsSight global.old global.new }
-    ensures runs { (offer : _) (scope : _) (held : _) (lender : _) →
+    ensures runs { (scope : _) (held : _) (lender : _) →
         Stands lender first.old (local_of global.old scope held) →
-        MarkedRuns (rules_of limits.now H.name_of offer T.natives)
-        (Ask (passed_call (record { name = name.now; token = token; at = pos }) lender passing.guarded
-        passing.marks (first.old ∷ rest.now)))
-        (state_of (T.state table.old) global.old scope held)
-        result (back_in lender first.new (state_of (T.state table.new) global.new scope held)) }
+        Steps (under H.name_of session.now T.natives)
+        (Ask (passed_call (operation_of operation.now) lender passing.guarded passing.marks (first.old ∷ rest.now)))
+        (state_of (T.state table.old) global.old scope held) (ended_or_changed result)
+        (back_in lender first.new (state_of (T.state table.new) global.new scope held)) }
     ensures untold { IfOk result (λ answer. passing.marks ≡ false → answer.1 ≡ false) }
 {
-    track_operation(limits, global, pos)?;
+    track_operation(&session.limits, global, operation.at)?;
     call_first(
-        limits, alloc, global, table, name, None, token, first, rest, passing, pos,
+        session, global, table, operation, None, first, rest, passing,
     )
 }
 
@@ -439,27 +437,24 @@ pub fn pass_native<H: Host, T: NativeTable<H>>(
 /// # Errors
 /// Those of `pass_native` but for a race and a constant.
 pub fn pass_native_alone<H: Host, T: NativeTable<H>>(
-    limits: &Limits,
-    alloc: Global,
+    session: &Session<'_, H>,
     global: &mut GlobalRuntimeState<H>,
     table: &mut T,
-    name: &str,
-    token: Option<Token>,
+    operation: &Operation<'_>,
     marks: bool,
-    pos: Position,
 ) -> Result<(Dynamic<H>, bool), EvalAltResult<H>>
     ensures counts { global.old.num_operations ≤ global.new.num_operations }
     ensures sight { KeepsSight global.old global.new }
-    ensures runs { (offer : _) (scope : _) (held : _) →
-        MarkedRuns (rules_of limits.now H.name_of offer T.natives)
-        (Ask (passed_call (record { name = name.now; token = token; at = pos }) None false marks []))
-        (state_of (T.state table.old) global.old scope held)
-        result (state_of (T.state table.new) global.new scope held) }
+    ensures runs { (scope : _) (held : _) →
+        Steps (under H.name_of session.now T.natives)
+        (Ask (passed_call (operation_of operation.now) None false marks []))
+        (state_of (T.state table.old) global.old scope held) (ended_or_changed result)
+        (state_of (T.state table.new) global.new scope held) }
     ensures untold { IfOk result (λ answer. marks ≡ false → answer.1 ≡ false) }
 {
-    track_operation(limits, global, pos)?;
+    track_operation(&session.limits, global, operation.at)?;
     let cells = &global.cells;
-    call_alone(limits, alloc, cells, table, name, None, token, marks, pos)
+    call_alone(session, cells, table, operation, None, marks)
 }
 
 /// Calls a native as `pass_native` does. The answer does not tell whether the native changed its first
@@ -468,23 +463,20 @@ pub fn pass_native_alone<H: Host, T: NativeTable<H>>(
 /// # Errors
 /// Those of `pass_native`.
 pub fn call_native<H: Host, T: NativeTable<H>>(
-    limits: &Limits,
-    alloc: Global,
+    session: &Session<'_, H>,
     global: &mut GlobalRuntimeState<H>,
     table: &mut T,
-    name: &str,
-    token: Option<Token>,
+    operation: &Operation<'_>,
     first: &mut Dynamic<H>,
     rest: &[Dynamic<H>],
     guarded: bool,
-    pos: Position,
 ) -> Result<Dynamic<H>, EvalAltResult<H>>
     ensures counts { global.old.num_operations ≤ global.new.num_operations }
     ensures sight { KeepsSight global.old global.new }
-    ensures runs { (offer : _) (scope : _) (held : _) (lender : _) →
+    ensures runs { (scope : _) (held : _) (lender : _) →
         Stands lender first.old (local_of global.old scope held) →
-        Runs (rules_of limits.now H.name_of offer T.natives)
-        (Ask (lent_call (record { name = name.now; token = token; at = pos }) lender guarded
+        Runs (under H.name_of session.now T.natives)
+        (Ask (lent_call (operation_of operation.now) lender guarded
         (first.old ∷ rest.now)))
         (state_of (T.state table.old) global.old scope held)
         result (back_in lender first.new (state_of (T.state table.new) global.new scope held)) }
@@ -493,9 +485,7 @@ pub fn call_native<H: Host, T: NativeTable<H>>(
         guarded,
         marks: false,
     };
-    drop_changed(pass_native(
-        limits, alloc, global, table, name, token, first, rest, passing, pos,
-    ))
+    drop_changed(pass_native(session, global, table, operation, first, rest, passing))
 }
 
 /// Calls the native of a number, with the name under which it was called. It charges nothing, and
@@ -504,20 +494,18 @@ pub fn call_native<H: Host, T: NativeTable<H>>(
 /// # Errors
 /// Those of `pass_native` but for the charge and a constant.
 pub fn call_number<H: Host, T: NativeTable<H>>(
-    limits: &Limits,
-    alloc: Global,
+    session: &Session<'_, H>,
     global: &mut GlobalRuntimeState<H>,
     table: &mut T,
     id: NativeId,
-    name: &str,
+    operation: &Operation<'_>,
     first: &mut Dynamic<H>,
     rest: &[Dynamic<H>],
-    pos: Position,
 ) -> Result<Dynamic<H>, EvalAltResult<H>>
     ensures counts { global.old.num_operations ≤ global.new.num_operations }
     ensures sight { KeepsSight global.old global.new }
-    ensures runs { (offer : _) (scope : _) (held : _) → Runs (rules_of limits.now H.name_of offer T.natives)
-        (Question (record (call_of (record { name = name.now; token = None; at = pos })
+    ensures runs { (scope : _) (held : _) → Runs (under H.name_of session.now T.natives)
+        (Question (record (call_of (operation_of operation.now)
         (first.old ∷ rest.now)) { number = Some id.number }))
         (state_of (T.state table.old) global.old scope held)
         result (state_of (T.state table.new) global.new scope held) }
@@ -527,17 +515,14 @@ pub fn call_number<H: Host, T: NativeTable<H>>(
         marks: false,
     };
     drop_changed(call_first(
-        limits,
-        alloc,
+        session,
         global,
         table,
-        name,
+        operation,
         Some(id),
-        None,
         first,
         rest,
         passing,
-        pos,
     ))
 }
 
@@ -547,42 +532,36 @@ pub fn call_number<H: Host, T: NativeTable<H>>(
 /// # Errors
 /// Those of `pass_native` but for the charge.
 pub fn call_number_on<H: Host, T: NativeTable<H>>(
-    limits: &Limits,
-    alloc: Global,
+    session: &Session<'_, H>,
     global: &mut GlobalRuntimeState<H>,
     table: &mut T,
     id: NativeId,
-    name: &str,
+    operation: &Operation<'_>,
     first: &mut Dynamic<H>,
     rest: &[Dynamic<H>],
-    pos: Position,
 ) -> Result<(Dynamic<H>, bool), EvalAltResult<H>>
     ensures counts { global.old.num_operations ≤ global.new.num_operations }
     ensures sight { KeepsSight global.old global.new }
-    ensures runs { (offer : _) (scope : _) (held : _) (lender : _) →
+    ensures runs { (scope : _) (held : _) (lender : _) →
         Stands lender first.old (local_of global.old scope held) →
-        MarkedRuns (rules_of limits.now H.name_of offer T.natives)
-        (Question (native_call (record { name = name.now; token = None; at = pos }) (Some id) lender
-        true false (first.old ∷ rest.now)))
-        (state_of (T.state table.old) global.old scope held)
-        result (back_in lender first.new (state_of (T.state table.new) global.new scope held)) }
+        Steps (under H.name_of session.now T.natives)
+        (Question (native_call (operation_of operation.now) (Some id) lender true false (first.old ∷ rest.now)))
+        (state_of (T.state table.old) global.old scope held) (ended_or_changed result)
+        (back_in lender first.new (state_of (T.state table.new) global.new scope held)) }
 {
     let passing = Passing {
         guarded: true,
         marks: false,
     };
     call_first(
-        limits,
-        alloc,
+        session,
         global,
         table,
-        name,
+        operation,
         Some(id),
-        None,
         first,
         rest,
         passing,
-        pos,
     )
 }
 
@@ -591,32 +570,20 @@ pub fn call_number_on<H: Host, T: NativeTable<H>>(
 /// # Errors
 /// Those of `call_number` but for a race.
 pub fn call_number_alone<H: Host, T: NativeTable<H>>(
-    limits: &Limits,
-    alloc: Global,
+    session: &Session<'_, H>,
     global: &mut GlobalRuntimeState<H>,
     table: &mut T,
     id: NativeId,
-    name: &str,
-    pos: Position,
+    operation: &Operation<'_>,
 ) -> Result<Dynamic<H>, EvalAltResult<H>>
     ensures counts { global.old.num_operations ≤ global.new.num_operations }
     ensures sight { KeepsSight global.old global.new }
-    ensures runs { (offer : _) (scope : _) (held : _) → Runs (rules_of limits.now H.name_of offer T.natives)
-        (Question (record (call_of (record { name = name.now; token = None; at = pos }) [])
+    ensures runs { (scope : _) (held : _) → Runs (under H.name_of session.now T.natives)
+        (Question (record (call_of (operation_of operation.now) [])
         { number = Some id.number }))
         (state_of (T.state table.old) global.old scope held)
         result (state_of (T.state table.new) global.new scope held) }
 {
     let cells = &global.cells;
-    drop_changed(call_alone(
-        limits,
-        alloc,
-        cells,
-        table,
-        name,
-        Some(id),
-        None,
-        false,
-        pos,
-    ))
+    drop_changed(call_alone(session, cells, table, operation, Some(id), false))
 }

@@ -2,31 +2,32 @@
 //! upstream's `func/call.rs` does for operators. The contracts cite specs/Operates.antt and
 //! specs/Called.antt.
 
-ghost use Rattle.std.specs.Prelude.{◌≡◌, ◌≤◌, ◌∷◌, [], IsTrue, false};
-ghost use Rattle.rhai_machine.specs.language.Calls.{call_at, plainly};
-ghost use Rattle.rhai_machine.specs.language.Setting.{rules_of};
+ghost use Rattle.std.specs.Prelude.{◌≡◌, ◌≤◌, ◌∷◌, [], IsTrue, false, true};
+ghost use Rattle.rhai_machine.specs.language.Calls.{call_at, call_of, plainly, dispatch_core};
+ghost use Rattle.rhai_machine.specs.language.Runs.{Goes};
 ghost use Rattle.rhai_steps.specs.Agreement.{KeepsSight};
+ghost use Rattle.rhai_steps.specs.Operations.{operation_of};
+ghost use Rattle.rhai_steps.specs.Sessions.{under};
 ghost use Rattle.rhai_steps.specs.States.{state_of};
-ghost use Rattle.rhai_calls.specs.Called.{Calls, with_args};
-ghost use Rattle.rhai_steps.specs.Offers.{Offers};
-ghost use Rattle.rhai_calls.specs.Operates.{Operates};
+ghost use Rattle.rhai_calls.specs.Called.{with_args, came_out};
+ghost use Rattle.rhai_calls.specs.Operates.{operator_there};
 
 use crate::dispatch::{Called, call_all};
 use rhai_context::ends::take_value;
 use rhai_few::Few;
-use rhai_functions::function::Offered;
+use rhai_functions::function::Function;
 use rhai_operators::{builtin_binary, builtin_unary};
 use rhai_state::error::EvalAltResult;
-use rhai_state::limits::Limits;
+use rhai_state::session::Session;
 use rhai_state::state::GlobalRuntimeState;
 use rhai_state::table::NativeTable;
+use rhai_steps::operation::Operation;
 use rhai_steps::replies::applied;
 use rhai_steps::values::let_go;
 use rhai_tree::expr::FnCallExpr;
 use rhai_tree::position::Position;
 use rhai_tree::token::Token;
 use rhai_values::base::value::{Dynamic, Host};
-use std::alloc::Global;
 
 /// Puts one value into a list without items. Tells whether there was memory for it.
 fn one<H: Host>(list: &mut Few<Dynamic<H>>, value: Dynamic<H>) -> bool
@@ -50,33 +51,27 @@ fn push_two<H: Host>(list: &mut Few<Dynamic<H>>, left: Dynamic<H>, right: Dynami
 
 /// Calls an operator that is no built-in of its operands, if there was memory for their list.
 fn call_listed<H: Host, T: NativeTable<H>>(
-    limits: &Limits,
-    alloc: Global,
-    offered: &Offered<'_, H>,
+    session: &Session<'_, H>,
     global: &mut GlobalRuntimeState<H>,
     table: &mut T,
-    name: &str,
-    token: Token,
+    operation: &Operation<'_>,
     operands: &mut Few<Dynamic<H>>,
     are_there: bool,
-    pos: Position,
-) -> Called<H>
+) -> Called<Dynamic<H>, Function<H>, H>
     ensures counts { global.old.num_operations ≤ global.new.num_operations }
     ensures sight { KeepsSight global.old global.new }
-    ensures runs { (offer : _) (scope : _) (held : _) (values : _) → Offers offer offered.now →
-        (IsTrue are_there → operands.old ≡ values) →
-        Calls (rules_of limits.now H.name_of offer T.natives) (plainly false false)
-        (call_at name.now token pos values)
+    ensures runs { (scope : _) (held : _) (values : _) → (IsTrue are_there → operands.old ≡ values) →
+        let rules = under H.name_of session.now T.natives in
+        Goes rules
+        (dispatch_core rules.setting (plainly false false) (call_of (operation_of operation.now) values))
         (state_of (T.state table.old) global.old scope held)
-        (with_args result operands.new) (state_of (T.state table.new) global.new scope held) }
+        (came_out true operation.now.at (with_args result operands.new))
+        (state_of (T.state table.new) global.new scope held) }
 {
     if !are_there {
-        return Called::Ended(Err(EvalAltResult::ErrorOutOfMemory(pos)));
+        return Called::Ended(Err(EvalAltResult::ErrorOutOfMemory(operation.at)));
     }
-    let token = Some(token);
-    call_all(
-        limits, alloc, offered, global, table, false, name, token, operands, pos,
-    )
+    call_all(session, global, table, false, operation, operands)
 }
 
 /// Applies a unary operator whose operand is the value of a run. It is the built-in, or else a call of its
@@ -87,9 +82,7 @@ fn call_listed<H: Host, T: NativeTable<H>>(
 /// The built-in's at the operator. `ErrorDataTooLarge` for a value above a limit. Of the call those
 /// of `rhai_calls::dispatch::call_all`, at the operator.
 pub fn operate_one<H: Host, T: NativeTable<H>>(
-    limits: &Limits,
-    alloc: Global,
-    offered: &Offered<'_, H>,
+    session: &Session<'_, H>,
     global: &mut GlobalRuntimeState<H>,
     table: &mut T,
     call: &FnCallExpr,
@@ -97,23 +90,32 @@ pub fn operate_one<H: Host, T: NativeTable<H>>(
     out: &mut Dynamic<H>,
     operands: &mut Few<Dynamic<H>>,
     pos: Position,
-) -> Called<H>
+) -> Called<Dynamic<H>, Function<H>, H>
     requires { operands.old ≡ [] }
     ensures counts { global.old.num_operations ≤ global.new.num_operations }
     ensures sight { KeepsSight global.old global.new }
-    ensures runs { (offer : _) (scope : _) (held : _) → Offers offer offered.now → Operates
-        (rules_of limits.now H.name_of offer T.natives)
-        (call_at call.now.name token pos (out.old ∷ []))
+    ensures runs { (scope : _) (held : _) → let rules = under H.name_of session.now T.natives in
+        Goes rules (operator_there rules.setting (call_at call.now.name token pos (out.old ∷ [])))
         (state_of (T.state table.old) global.old scope held)
-        (with_args result operands.new) (state_of (T.state table.new) global.new scope held) }
+        (came_out true pos (with_args result operands.new))
+        (state_of (T.state table.new) global.new scope held) }
 {
-    match builtin_unary(alloc, token, &*out) {
-        Some(outcome) => Called::Ended(applied(alloc, limits, outcome, pos)),
+    match builtin_unary(session.alloc, token, &*out) {
+        Some(outcome) => Called::Ended(applied(session, outcome, pos)),
         None => {
             let is_there = one(operands, take_value(out));
             let name = call.name.get().as_str();
             call_listed(
-                limits, alloc, offered, global, table, name, token, operands, is_there, pos,
+                session,
+                global,
+                table,
+                &Operation {
+                    name,
+                    token: Some(token),
+                    at: pos,
+                },
+                operands,
+                is_there,
             )
         }
     }
@@ -125,9 +127,7 @@ pub fn operate_one<H: Host, T: NativeTable<H>>(
 /// # Errors
 /// Those of `operate_one`.
 pub fn operate_two<H: Host, T: NativeTable<H>>(
-    limits: &Limits,
-    alloc: Global,
-    offered: &Offered<'_, H>,
+    session: &Session<'_, H>,
     global: &mut GlobalRuntimeState<H>,
     table: &mut T,
     call: &FnCallExpr,
@@ -136,26 +136,35 @@ pub fn operate_two<H: Host, T: NativeTable<H>>(
     out: &mut Dynamic<H>,
     operands: &mut Few<Dynamic<H>>,
     pos: Position,
-) -> Called<H>
+) -> Called<Dynamic<H>, Function<H>, H>
     requires { operands.old ≡ [] }
     ensures counts { global.old.num_operations ≤ global.new.num_operations }
     ensures sight { KeepsSight global.old global.new }
-    ensures runs { (offer : _) (scope : _) (held : _) → Offers offer offered.now → Operates
-        (rules_of limits.now H.name_of offer T.natives)
-        (call_at call.now.name token pos (left ∷ out.old ∷ []))
+    ensures runs { (scope : _) (held : _) → let rules = under H.name_of session.now T.natives in
+        Goes rules (operator_there rules.setting (call_at call.now.name token pos (left ∷ out.old ∷ [])))
         (state_of (T.state table.old) global.old scope held)
-        (with_args result operands.new) (state_of (T.state table.new) global.new scope held) }
+        (came_out true pos (with_args result operands.new))
+        (state_of (T.state table.new) global.new scope held) }
 {
-    match builtin_binary(alloc, token, &left, &*out) {
+    match builtin_binary(session.alloc, token, &left, &*out) {
         Some(outcome) => {
             let_go(left);
-            Called::Ended(applied(alloc, limits, outcome, pos))
+            Called::Ended(applied(session, outcome, pos))
         }
         None => {
             let are_there = push_two(operands, left, take_value(out));
             let name = call.name.get().as_str();
             call_listed(
-                limits, alloc, offered, global, table, name, token, operands, are_there, pos,
+                session,
+                global,
+                table,
+                &Operation {
+                    name,
+                    token: Some(token),
+                    at: pos,
+                },
+                operands,
+                are_there,
             )
         }
     }

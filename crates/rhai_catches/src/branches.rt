@@ -12,21 +12,19 @@ ghost use Rattle.rhai_catches.specs.Branches.{bound, left_by, room_for_caught};
 use crate::{caught_value, raised};
 use rhai_context::ends::{put_unit, stop, stopped};
 use rhai_state::error::EvalAltResult;
-use rhai_state::limits::Limits;
 use rhai_state::scope::Scope;
+use rhai_state::session::Session;
 use rhai_tree::expr::Expr;
 use rhai_tree::{Shared, Text};
 use rhai_values::base::value::{AccessMode, Dynamic, Host};
 use rhai_values::cells::CellStore;
-use std::alloc::Global;
 
 /// Adds the catch variable of a branch, if it has one.
 ///
 /// # Errors
 /// `ErrorTooManyVariables` at the variable where the scope has no room, and `ErrorOutOfMemory` there.
 fn add_caught<H: Host>(
-    limits: &Limits,
-    alloc: Global,
+    session: &Session<'_, H>,
     source: &Option<Shared<Text>>,
     scope: &mut Scope<H>,
     caught: &EvalAltResult<H>,
@@ -35,16 +33,16 @@ fn add_caught<H: Host>(
     ensures bound { OnOk result (entries_of scope.new ≡ entries_of scope.old
         ++ bound (catch_variable (out-Expr variable.now)) source.now caught.now) }
     ensures exact { HasMemory result → result ≡ room_for_caught (catch_variable (out-Expr variable.now))
-        (nat_le limits.now.max_variables (length (entries_of scope.old))) }
+        (nat_le session.now.limits.max_variables (length (entries_of scope.old))) }
     ensures same { OnErr result (entries_of scope.new ≡ entries_of scope.old) }
 {
     let Expr::Variable { name, pos, .. } = variable else {
         return Ok(());
     };
-    if scope.len() >= limits.max_variables {
+    if scope.len() >= session.limits.max_variables {
         return Err(EvalAltResult::ErrorTooManyVariables(*pos));
     }
-    let value = caught_value(alloc, caught, source, *pos)?;
+    let value = caught_value(session.alloc, caught, source, *pos)?;
     let Ok(name) = name.share() else {
         return Err(EvalAltResult::ErrorOutOfMemory(*pos));
     };
@@ -60,8 +58,7 @@ fn add_caught<H: Host>(
 /// `ErrorTooManyVariables` at the variable where there is no room for it, and `ErrorOutOfMemory`. Then the
 /// scope stays.
 pub fn bind_caught<H: Host>(
-    limits: &Limits,
-    alloc: Global,
+    session: &Session<'_, H>,
     source: &Option<Shared<Text>>,
     scope: &mut Scope<H>,
     place: &mut Option<EvalAltResult<H>>,
@@ -71,10 +68,10 @@ pub fn bind_caught<H: Host>(
     ensures bound { IsTrue result → entries_of scope.new ≡ entries_of scope.old
         ++ bound (catch_variable (out-Expr variable.now)) source.now caught.now }
     ensures exact { Answers (came result tt place.new) (room_for_caught (catch_variable (out-Expr variable.now))
-        (nat_le limits.now.max_variables (length (entries_of scope.old)))) }
+        (nat_le session.now.limits.max_variables (length (entries_of scope.old)))) }
     ensures same { result ≡ false → entries_of scope.new ≡ entries_of scope.old }
 {
-    match add_caught(limits, alloc, source, scope, caught, variable) {
+    match add_caught(session, source, scope, caught, variable) {
         Ok(()) => true,
         Err(error) => stop(place, error),
     }

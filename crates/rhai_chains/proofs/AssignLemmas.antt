@@ -9,37 +9,35 @@ use Rattle.rhai_values.specs.declared.base.value.FnPtrKind.TheOpen as layer
 use Rattle.rhai_values.specs.Layers.{UnionLayer, layer_of}
 use Rattle.rhai_state.specs.declared.error.EvalAltResult.{EvalAltResult}
 use Rattle.rhai_state.specs.declared.error.EvalAltResult.TheVariants as error
-use Rattle.rhai_state.specs.Errors.{is_out_of_memory}
+use Rattle.rhai_state.specs.Errors.{is_out_of_memory, root_name}
 use Rattle.rhai_places.specs.declared.spot.Spot.{Spot}
 use Rattle.rhai_places.specs.declared.spot.Spot.TheVariants as spot
 use Rattle.rhai_places.specs.Parts.{IsPart, part_of, value_at, value_in, with_value}
 use Rattle.rhai_places.specs.PutBack.{put_back, IsNotPut}
 use Rattle.rhai_places.specs.Paths.{ToPlace}
 use Rattle.rhai_machine.specs.machine.Machine.{Go}
-use Rattle.rhai_machine.specs.machine.Memory.{here, out_before_step, ◌⨾◌}
+use Rattle.rhai_machine.specs.machine.Memory.{here, out_before_step, ◌⨾◌, Leads}
 use Rattle.rhai_machine.specs.machine.Point.{Point}
-use Rattle.rhai_machine.specs.language.Setting.{Rules}
+use Rattle.rhai_machine.specs.language.Setting.{Rules, cut}
 use Rattle.rhai_machine.specs.language.State.{Answers, Local, State}
 use Rattle.rhai_machine.specs.language.Values.{unit_value}
-use Rattle.rhai_machine.specs.language.Frames.{Chain, NewValue, Frame, Core, core, ended, ended_or_changed, on_value, Back, Changed, Fail, StepDown}
+use Rattle.rhai_machine.specs.language.Frames.{Chain, NewValue, Frame, Core, core, ended, ended_or_changed, on_value, Back, Changed, Fail}
+use Rattle.rhai_machine.specs.language.Frames.{StepDown}
 use Rattle.rhai_machine.specs.language.Frames.{Measured, PartAssigned}
 use Rattle.rhai_machine.specs.language.Calls.{sized}
 use Rattle.rhai_machine.specs.language.Chains.{assign_focus, assign_spot, spot_core, unless_barred_by}
-use Rattle.rhai_machine.specs.language.Links.{Link, name_in}
+use Rattle.rhai_machine.specs.language.Links.{Link}
 use Rattle.rhai_machine.specs.language.Located.{bars_key, is_place_spot, spot_of}
 use Rattle.rhai_machine.specs.language.Members.{focus_of, focused_on}
 use Rattle.rhai_machine.specs.language.Runs.{at, with_core, Goes}
 use Rattle.rhai_machine.specs.language.Unwinding.{as_measured, measured_part, put_back_error, part_assigned}
+use Rattle.rhai_machine.specs.language.Language.{machine}
 use Rattle.rhai_steps.proofs.Pieces.{or_runs_out, step_by}
-use Rattle.rhai_assign.specs.Follows as assign
-use Rattle.rhai_assign.specs.Follows.{Follows}
+use Rattle.rhai_steps.specs.Follows.{Follows, Does, FindsNoMemory}
 use Rattle.rhai_assign.specs.Updates.{finished}
 use Rattle.rhai_calls.specs.ToldChanges.{with_changed}
-use Rattle.rhai_steps.specs.OnFocus.{RunsFrom}
 use Rattle.rhai_chains.specs.Assigned as unless
 use Rattle.rhai_chains.specs.Assigned.{item_assigned, measured_as, property_assigned, FollowsUnless, GoesIn, WentIn, Stays}
-use Rattle.rhai_chains.specs.Chains as from
-use Rattle.rhai_chains.specs.Chains.{FollowsFrom}
 use Rattle.rhai_chains.proofs.SpotLemmas.{back_again, Standing}
 
 -- what changed nothing ends as it would by itself
@@ -80,7 +78,7 @@ module _ {S H : Type 0} (rules : Rules S H) where
 
   -- an answer that tells of a change, or that memory ran out
   told_of_change : (r x : Result (Dynamic H × Bool) (EvalAltResult H)) → Answers r x → (k : List (Frame H)) (s : State S H) →
-      Goes rules (at (ended_or_changed x) k s) (at (ended_or_changed r) k s)
+      Leads (machine rules) (cut rules) (at (ended_or_changed x) k s) (at (ended_or_changed r) k s)
   told_of_change (Ok v) x a k s = rw (← a tt) here
   told_of_change (Err e) x a k s = or_runs_out rules (ended_or_changed x) k s e (λ m. rw (← a m) here)
 
@@ -88,7 +86,7 @@ module _ {S H : Type 0} (rules : Rules S H) where
 
   -- what stands at a place goes back there
   goes_up : (above v : Dynamic H) (at_spot : Spot) (k : List (Frame H)) (s : State S H) (r : Result (Dynamic H × Bool) (EvalAltResult H)) →
-      Goes rules (at (ended_or_changed r) (StepDown above (ToPlace at_spot) ∷ k) (working v s))
+      Leads (machine rules) (cut rules) (at (ended_or_changed r) (StepDown above (ToPlace at_spot) ∷ k) (working v s))
       (at (ended_or_changed r) k (working (with_value above at_spot v) s))
   goes_up above v at_spot k s (Ok (x, true)) =
       step_by rules _ _ (Go (core (Changed x) k (focused_on (Some (with_value above at_spot v)) s.local))) refl here
@@ -102,7 +100,8 @@ module _ {S H : Type 0} (rules : Rules S H) where
       (k : List (Frame H)) (s : State S H) →
       IfOk outcome (λ _. Answers r (measured_as rules.setting.limits (as_measured s.local.around.cells (focus_of s.local)) pos)) →
       IfErr outcome (λ e. r ≡ Err e) →
-      Goes rules (at (ended_or_changed (with_changed false outcome)) (Measured pos ∷ k) s) (at (ended_or_changed r) k s)
+      Leads (machine rules) (cut rules) (at (ended_or_changed (with_changed false outcome)) (Measured pos ∷ k) s)
+      (at (ended_or_changed r) k s)
   measures (Ok v) r pos k s fits fault =
       let seen = as_measured s.local.around.cells (focus_of s.local) in
       step_by rules _ _ (Go (core (ended_or_changed (measured_as rules.setting.limits seen pos)) k s.local))
@@ -123,20 +122,22 @@ module _ {S H : Type 0} (rules : Rules S H) where
       (outcome : Result (Dynamic H) (EvalAltResult H)) (result : Result (Dynamic H × Bool) (EvalAltResult H))
       (there : value_at source at_spot ≡ Some v) (fault : IfErr outcome (λ e. result ≡ Err e)) where
     from_place : (k : List (Frame H)) (q : Point S (Core H)) →
-        Goes rules (with_core (assign_focus rules.setting root n k (focused_on (Some v) s.local)) s) q →
-        Goes rules (with_core (assign_focus rules.setting root n k (focused_on (value_at source at_spot) s.local)) s) q
+        Leads (machine rules) (cut rules) (with_core (assign_focus rules.setting root n k (focused_on (Some v) s.local)) s) q →
+        Leads (machine rules) (cut rules) (with_core (assign_focus rules.setting root n k (focused_on (value_at source at_spot) s.local)) s)
+        q
     from_place k q go = subst (λ (place : Option (Dynamic H)).
-        Goes rules (with_core (assign_focus rules.setting root n k (focused_on place s.local)) s) q) (sym there) go
+        Leads (machine rules) (cut rules) (with_core (assign_focus rules.setting root n k (focused_on place s.local)) s) q) (sym there) go
 
     abbrev Assigns : Type 0
-    Assigns = FollowsUnless (v ≡ unit_value) rules (assign_focus rules.setting root n) (working v s) (with_changed false outcome) (working w t)
+    Assigns = FollowsUnless (v ≡ unit_value) rules (assign_focus rules.setting root n) (working v s) (with_changed false outcome)
+        (working w t)
 
     -- an assignment to an item goes on in the value above
     pub item_follows :
         IfOk outcome (λ _. Answers result (measured_as rules.setting.limits (as_measured t.local.around.cells w) n.op.position)) → Assigns →
         FollowsUnless (value_at source at_spot ≡ Some unit_value) rules (item_assigned rules.setting root n at_spot source)
         (working source s) result (working (with_value source at_spot w) t)
-    unfolding RunsFrom
+    unfolding Goes
     item_follows fits (unless.Does runs) = unless.Does (λ k. from_place _ _
         (runs (Measured n.op.position ∷ StepDown source (ToPlace at_spot) ∷ k)
         ⨾ measures outcome result n.op.position (StepDown source (ToPlace at_spot) ∷ k) (working w t) fits fault
@@ -150,7 +151,7 @@ module _ {S H : Type 0} (rules : Rules S H) where
         (as_measured t.local.around.cells (with_value source at_spot w)) n.op.position)) → Assigns →
         FollowsUnless (value_at source at_spot ≡ Some unit_value) rules (property_assigned rules.setting root n at_spot source)
         (working source s) result (working (with_value source at_spot w) t)
-    unfolding RunsFrom
+    unfolding Goes
     property_follows fits (unless.Does runs) = unless.Does (λ k. from_place _ _
         (runs (StepDown source (ToPlace at_spot) ∷ Measured n.op.position ∷ k)
         ⨾ goes_up source w at_spot (Measured n.op.position ∷ k) t (with_changed false outcome)
@@ -164,45 +165,52 @@ module _ {S H : Type 0} (rules : Rules S H) where
   module _ (source w left : Dynamic H) (at_spot : Spot) (pos : Position) (k : List (Frame H)) (t : State S H) where
     -- an error comes down, and the place is as it was
     part_fails : (e : EvalAltResult H) →
-        Goes rules (at (Fail e) (PartAssigned source at_spot pos ∷ k) (working w t)) (at (Fail e) k (working source t))
+        Leads (machine rules) (cut rules) (at (Fail e) (PartAssigned source at_spot pos ∷ k) (working w t))
+        (at (Fail e) k (working source t))
     part_fails e = step_by rules _ _ (Go (core (Fail e) k (focused_on (Some source) t.local))) refl here
 
     went_in : (v : Dynamic H) → put_back source at_spot w ≡ Some left →
-        Goes rules (at (Back v) (PartAssigned source at_spot pos ∷ k) (working w t))
+        Leads (machine rules) (cut rules) (at (Back v) (PartAssigned source at_spot pos ∷ k) (working w t))
         (at (ended_or_changed (measured_as rules.setting.limits w pos)) k (working left t))
-    went_in v is = step_by rules _ _ (Go (core (ended_or_changed (measured_as rules.setting.limits w pos)) k (focused_on (Some left) t.local)))
+    went_in v is = step_by rules _ _
+        (Go (core (ended_or_changed (measured_as rules.setting.limits w pos)) k (focused_on (Some left) t.local)))
         (ap (λ (whole : Option (Dynamic H)). Go (part_assigned rules.setting whole source at_spot pos k (working w t).local)) is
         ∙ ap (λ (c : Core H). Go c) (part_measured (sized rules.setting.limits w pos) k (focused_on (Some left) t.local))) here
 
     not_in : (v : Dynamic H) → put_back source at_spot w ≡ None →
-        Goes rules (at (Back v) (PartAssigned source at_spot pos ∷ k) (working w t))
+        Leads (machine rules) (cut rules) (at (Back v) (PartAssigned source at_spot pos ∷ k) (working w t))
         (at (Fail (put_back_error rules.setting at_spot w pos)) k (working source t))
     not_in v is = step_by rules _ _ (Go (core (Fail (put_back_error rules.setting at_spot w pos)) k (focused_on (Some source) t.local)))
         (ap (λ (whole : Option (Dynamic H)). Go (part_assigned rules.setting whole source at_spot pos k (working w t).local)) is) here
 
     -- where it is not taken back the place is as it was
     is_refused : (v : Dynamic H) (e : EvalAltResult H) → IsNotPut rules.setting.host_type source at_spot w pos e →
-        Goes rules (at (Back v) (PartAssigned source at_spot pos ∷ k) (working w t)) (at (Fail e) k (working source t))
+        Leads (machine rules) (cut rules) (at (Back v) (PartAssigned source at_spot pos ∷ k) (working w t))
+        (at (Fail e) k (working source t))
     is_refused v (error.ErrorOutOfMemory p) is = out_before_step {at = p} (part_fails (error.ErrorOutOfMemory p))
     is_refused v e is = rw (is refl).1 (not_in v (is refl).0)
 
     goes_in : (v : Dynamic H) (result : Result (Dynamic H × Bool) (EvalAltResult H)) →
         GoesIn rules.setting.limits rules.setting.host_type source at_spot w pos left result →
-        Goes rules (at (Back v) (PartAssigned source at_spot pos ∷ k) (working w t)) (at (ended_or_changed result) k (working left t))
-    goes_in v result (WentIn is told) = went_in v is ⨾ told_of_change result (measured_as rules.setting.limits w pos) told k (working left t)
+        Leads (machine rules) (cut rules) (at (Back v) (PartAssigned source at_spot pos ∷ k) (working w t))
+        (at (ended_or_changed result) k (working left t))
+    goes_in v result (WentIn is told) = went_in v is
+        ⨾ told_of_change result (measured_as rules.setting.limits w pos) told k (working left t)
     goes_in v result (Stays e same is not) = rw (same, is) (is_refused v e not)
 
   module _ (root : Expr) (n : NewValue H) (at_spot : Spot) (source v w left : Dynamic H) (s t : State S H)
       (read : v ≡ part_of source at_spot) where
     abbrev part_follows_in : (link : Link) → Result (Dynamic H × Bool) (EvalAltResult H) → Type 0
-    part_follows_in link result = FollowsFrom rules (assign_spot rules.setting false at_spot link root n source) (working source s) result
+    part_follows_in link result =
+        Follows rules ended_or_changed (assign_spot rules.setting false at_spot link root n source) (working source s) result
         (working left t)
 
     from_part : (k : List (Frame H)) (q : Point S (Core H)) →
-        Goes rules (with_core (assign_focus rules.setting root n k (focused_on (Some v) s.local)) s) q →
-        Goes rules (with_core (assign_focus rules.setting root n k (focused_on (Some (part_of source at_spot)) s.local)) s) q
+        Leads (machine rules) (cut rules) (with_core (assign_focus rules.setting root n k (focused_on (Some v) s.local)) s) q →
+        Leads (machine rules) (cut rules)
+        (with_core (assign_focus rules.setting root n k (focused_on (Some (part_of source at_spot)) s.local)) s) q
     from_part k q go = subst (λ (part : Dynamic H).
-        Goes rules (with_core (assign_focus rules.setting root n k (focused_on (Some part) s.local)) s) q) read go
+        Leads (machine rules) (cut rules) (with_core (assign_focus rules.setting root n k (focused_on (Some part) s.local)) s) q) read go
 
     same_place : left ≡ source → working w t ≡ working v s → working left t ≡ working source s
     same_place stays same =
@@ -210,47 +218,49 @@ module _ {S H : Type 0} (rules : Rules S H) where
 
     -- a part that was assigned to goes back into its place
     pub part_follows : (link : Link) (done : Dynamic H) (result : Result (Dynamic H × Bool) (EvalAltResult H)) →
-        Follows rules (assign_focus rules.setting root n) (working v s) (Ok done) (working w t) →
+        Follows rules ended (assign_focus rules.setting root n) (working v s) (Ok done) (working w t) →
         GoesIn rules.setting.limits rules.setting.host_type source at_spot w n.op.position left result → part_follows_in link result
-    unfolding RunsFrom
-    part_follows link done result (assign.Does go) goes = from.Does (λ k. from_part _ _
+    unfolding Goes
+    part_follows link done result (Does go) goes = Does (λ k. from_part _ _
         (go (PartAssigned source at_spot n.op.position ∷ k) ⨾ goes_in source w left at_spot n.op.position k t done result goes))
-    part_follows link done result (assign.FindsNoMemory pos is same) goes = cc
+    part_follows link done result (FindsNoMemory pos is same) goes = cc
 
     -- or its assignment fails
     pub part_is_not : (link : Link) (e : EvalAltResult H) →
-        Follows rules (assign_focus rules.setting root n) (working v s) (Err e) (working w t) → left ≡ source →
+        Follows rules ended (assign_focus rules.setting root n) (working v s) (Err e) (working w t) → left ≡ source →
         part_follows_in link (Err e)
-    unfolding RunsFrom
-    part_is_not link e (assign.Does go) stays = from.Does (λ k. from_part _ _
+    unfolding Goes
+    part_is_not link e (Does go) stays = Does (λ k. from_part _ _
         (go (PartAssigned source at_spot n.op.position ∷ k)
-        ⨾ subst (λ (x : Dynamic H). Goes rules (at (Fail e) (PartAssigned source at_spot n.op.position ∷ k) (working w t))
+        ⨾ subst (λ (x : Dynamic H).
+        Leads (machine rules) (cut rules) (at (Fail e) (PartAssigned source at_spot n.op.position ∷ k) (working w t))
         (at (Fail e) k (working x t))) (sym stays) (part_fails source w left at_spot n.op.position k t e)))
-    part_is_not link e (assign.FindsNoMemory pos is same) stays = from.FindsNoMemory pos
+    part_is_not link e (FindsNoMemory pos is same) stays = FindsNoMemory pos
         (ap (λ (r : Result (Dynamic H) (EvalAltResult H)). with_changed false r) is) (same_place stays same)
 
   -- ---- what is known of a `()`, and forgotten
 
   -- an assignment to a value, in the form of the crate that does it
   pub assigns : (done : Type 0) (root : Expr) (n : NewValue H) (s t : State S H) (r : Result (Dynamic H) (EvalAltResult H)) → (done → ⊥) →
-      Follows rules (assign_focus rules.setting root n) s r t →
+      Follows rules ended (assign_focus rules.setting root n) s r t →
       FollowsUnless done rules (assign_focus rules.setting root n) s (with_changed false r) t
-  unfolding RunsFrom
-  assigns done root n s t r not (assign.Does go) = unless.Does (λ k. rw (plainly_ends r) (go k))
-  assigns done root n s t r not (assign.FindsNoMemory pos is same) =
+  unfolding Goes
+  assigns done root n s t r not (Does go) = unless.Does (λ k. rw (plainly_ends r) (go k))
+  assigns done root n s t r not (FindsNoMemory pos is same) =
       unless.FindsNoMemory not pos (ap (λ (x : Result (Dynamic H) (EvalAltResult H)). with_changed false x) is) same
 
   pub assigns_at_once : (done : Type 0) (root : Expr) (n : NewValue H) (s t : State S H) (r : Result (Dynamic H) (EvalAltResult H)) →
-      ((k : List (Frame H)) → Goes rules (with_core (assign_focus rules.setting root n k s.local) s) (at (ended r) k t)) →
+      Goes rules (assign_focus rules.setting root n) s (core (ended r)) t →
       FollowsUnless done rules (assign_focus rules.setting root n) s (with_changed false r) t
-  unfolding RunsFrom
+  unfolding Goes
   assigns_at_once done root n s t r go = unless.Does (λ k. rw (plainly_ends r) (go k))
 
   -- where it was not done nothing is known of it
   not_done : (done : Type 0) (start : List (Frame H) → Local H → Core H) (s t : State S H)
-      (r : Result (Dynamic H × Bool) (EvalAltResult H)) → (done → ⊥) → FollowsFrom rules start s r t → FollowsUnless done rules start s r t
-  not_done done start s t r not (from.Does runs) = unless.Does runs
-  not_done done start s t r not (from.FindsNoMemory pos is same) = unless.FindsNoMemory not pos is same
+      (r : Result (Dynamic H × Bool) (EvalAltResult H)) → (done → ⊥) → Follows rules ended_or_changed start s r t →
+      FollowsUnless done rules start s r t
+  not_done done start s t r not (Does runs) = unless.Does runs
+  not_done done start s t r not (FindsNoMemory pos is same) = unless.FindsNoMemory not pos is same
 
   module _ (root : Expr) (n : NewValue H) (at_spot : Spot) (source : Dynamic H) (link : Link) (s t : State S H)
       (result : Result (Dynamic H × Bool) (EvalAltResult H)) where
@@ -264,17 +274,19 @@ module _ {S H : Type 0} (rules : Rules S H) where
 
     -- and one to a part, where no `()` stands
     pub at_part : is_place_spot at_spot ≡ false → IsPart (layer_of source) at_spot →
-        FollowsFrom rules (assign_spot rules.setting false at_spot link root n source) s result t → follows_at (is_place_spot at_spot)
+        Follows rules ended_or_changed (assign_spot rules.setting false at_spot link root n source) s result t →
+        follows_at (is_place_spot at_spot)
     at_part is part follows = subst follows_at (sym is)
         (not_done (value_at source at_spot ≡ Some unit_value) (assign_spot rules.setting false at_spot link root n source) s t result
         (no_place (layer_of source) at_spot unit_value part) follows)
 
   -- it fails, or memory runs out
   fails_or_runs_out : (start : List (Frame H) → Local H → Core H) (s : State S H) (e : EvalAltResult H) →
-      (is_out_of_memory e ≡ false → (k : List (Frame H)) → start k s.local ≡ core (Fail e) k s.local) → FollowsFrom rules start s (Err e) s
-  unfolding RunsFrom
-  fails_or_runs_out start s (error.ErrorOutOfMemory pos) same = from.FindsNoMemory pos refl refl
-  fails_or_runs_out start s e same = from.Does (λ k. rw (same refl k) here)
+      (is_out_of_memory e ≡ false → (k : List (Frame H)) → start k s.local ≡ core (Fail e) k s.local) →
+      Follows rules ended_or_changed start s (Err e) s
+  unfolding Goes
+  fails_or_runs_out start s (error.ErrorOutOfMemory pos) same = FindsNoMemory pos refl refl
+  fails_or_runs_out start s e same = Does (λ k. rw (same refl k) here)
 
   -- ---- a spot that was found
 
@@ -291,15 +303,15 @@ module _ {S H : Type 0} (rules : Rules S H) where
 
     -- a map that may not be changed gets no key
     pub key_barred : (e : EvalAltResult H) → bars_key source index ≡ true → (is_out_of_memory e ≡ false →
-        e ≡ error.ErrorAssignmentToConstant (name_in (out-Expr chain.root)) (start_of chain.root)) →
-        FollowsFrom rules start (working source s) (Err e) (working source s)
+        e ≡ error.ErrorAssignmentToConstant (root_name (out-Expr chain.root)) (start_of chain.root)) →
+        Follows rules ended_or_changed start (working source s) (Err e) (working source s)
     key_barred e barred is = fails_or_runs_out start (working source s) e (λ m k.
         ap (λ (b : Bool). goes_on (unless_barred_by b chain.root wanted) k (working source s).local) barred
         ∙ ap (λ (x : EvalAltResult H). core (Fail x) k (working source s).local) (sym (is m)))
 
     -- an index may lead nowhere
     pub none_found : (e : EvalAltResult H) → bars_key source index ≡ false → (is_out_of_memory e ≡ false → wanted ≡ Err e) →
-        FollowsFrom rules start (working source s) (Err e) (working source s)
+        Follows rules ended_or_changed start (working source s) (Err e) (working source s)
     none_found e free is = fails_or_runs_out start (working source s) e (λ m k.
         ap (λ (b : Bool). goes_on (unless_barred_by b chain.root wanted) k (working source s).local) free
         ∙ ap (λ (r : Result (Dynamic H × Spot) (EvalAltResult H)). goes_on r k (working source s).local) (is m))
@@ -313,18 +325,19 @@ module _ {S H : Type 0} (rules : Rules S H) where
 
       spot_runs_out : (added : (after ≡ source) ⊎ (value_at after at_spot ≡ Some unit_value)) →
           (value_at after at_spot ≡ Some unit_value → ⊥) → (pos : Position) → result ≡ Err (error.ErrorOutOfMemory pos) →
-          working left t ≡ working after s → FollowsFrom rules start (working source s) result (working left t)
-      spot_runs_out (inl stays) apart pos is same = from.FindsNoMemory pos is (same ∙ ap (λ (x : Dynamic H). working x s) stays)
+          working left t ≡ working after s → Follows rules ended_or_changed start (working source s) result (working left t)
+      spot_runs_out (inl stays) apart pos is same = FindsNoMemory pos is (same ∙ ap (λ (x : Dynamic H). working x s) stays)
       spot_runs_out (inr stands) apart pos is same = absurd (apart stands)
 
       -- what it leads to is assigned to
       pub spot_follows : bars_key source index ≡ false → wanted ≡ Ok (after, at_spot) → Standing source after at_spot →
           FollowsUnless (value_at after at_spot ≡ Some unit_value) rules
           (assign_spot rules.setting (is_place_spot at_spot) at_spot link chain.root n after) (working after s) result (working left t) →
-          FollowsFrom rules start (working source s) result (working left t)
-      unfolding RunsFrom
-      spot_follows free finds stands (unless.Does runs) = from.Does (λ k.
-          subst (λ (c : Core H). Goes rules (with_core c (working source s)) (at (ended_or_changed result) k (working left t)))
+          Follows rules ended_or_changed start (working source s) result (working left t)
+      unfolding Goes
+      spot_follows free finds stands (unless.Does runs) = Does (λ k.
+          subst (λ (c : Core H).
+          Leads (machine rules) (cut rules) (with_core c (working source s)) (at (ended_or_changed result) k (working left t)))
           (sym (ap (λ (b : Bool). goes_on (unless_barred_by b chain.root wanted) k (working source s).local) free
           ∙ ap (λ (r : Result (Dynamic H × Spot) (EvalAltResult H)). goes_on r k (working source s).local) finds
           ∙ alike (is_place_spot at_spot) k)) (runs k))

@@ -15,13 +15,14 @@ use Rattle.rhai_places.specs.Paths.{ToPlace}
 use Rattle.rhai_machine.specs.language.Setting.{Setting, Rules}
 use Rattle.rhai_machine.specs.language.State.{Answers, Local, State}
 use Rattle.rhai_machine.specs.language.Frames.{NewValue, MemberAccess, Frame, Core, core, StepDown, Measured, MemberGot, MemberOperated}
+use Rattle.rhai_machine.specs.language.Frames.{ended_or_changed}
 use Rattle.rhai_machine.specs.language.Frames.{Back, Fail}
 use Rattle.rhai_machine.specs.language.Calls.{sized}
 use Rattle.rhai_machine.specs.language.Chains.{after_set, assign_focus}
 use Rattle.rhai_machine.specs.language.Members.{focused_on, set_core}
+use Rattle.rhai_machine.specs.language.Runs.{Goes}
 use Rattle.rhai_assign.specs.Updates.{finished}
 use Rattle.rhai_calls.specs.ToldChanges.{with_changed}
-use Rattle.rhai_steps.specs.OnFocus.{RunsFrom}
 
 module _ {H : Type 0} where
   -- a spot that is there, and is no key that is missing
@@ -29,10 +30,10 @@ module _ {H : Type 0} where
   IsKept source spot.Missing = ⊥
   IsKept source at = IsThere source at
 
-  -- As `FollowsFrom`; but where this was done, as a key that was inserted, memory does not run out before anything was done.
+  -- As `Follows`; but where this was done, as a key that was inserted, memory does not run out before anything was done.
   pub data FollowsUnless {S : Type 0} (done : Type 0) (rules : Rules S H) (start : List (Frame H) → Local H → Core H) (old : State S H)
       (result : Result (Dynamic H × Bool) (EvalAltResult H)) (new : State S H) : Type 0 where
-    Does : RunsFrom rules start old result new → FollowsUnless done rules start old result new
+    Does : Goes rules start old (core (ended_or_changed result)) new → FollowsUnless done rules start old result new
     FindsNoMemory : (done → ⊥) → (pos : Position) → result ≡ Err (error.ErrorOutOfMemory pos) → new ≡ old →
         FollowsUnless done rules start old result new
 

@@ -1,19 +1,12 @@
--- A chain as the code walks it: its links, what they are given, and how the walk runs.
-use Rattle.std.specs.Prelude.{◌≡◌, ⊤, ℕ, ◌+◌, Bool, true, List, length, Option, Some, None, Result, Err}
+-- A chain as the code walks it: its links, and what they are given.
+use Rattle.std.specs.Prelude.{◌≡◌, ⊤, ℕ, ◌+◌, Bool, true, List, length, Option, Some, None}
 use Rattle.std.specs.Option.{option_copied, option_map}
 use Rattle.rhai_tree.specs.declared.expr.Expr.{Expr, out-Expr}
-use Rattle.rhai_tree.specs.declared.position.Position.{Position}
 use Rattle.rhai_tree.specs.Layers.{ExprLayer}
 use Rattle.rhai_values.specs.declared.base.value.Dynamic.{Dynamic}
-use Rattle.rhai_state.specs.declared.error.EvalAltResult.{EvalAltResult}
-use Rattle.rhai_machine.specs.language.Setting.{Offer, Rules}
-use Rattle.rhai_state.specs.declared.error.EvalAltResult.TheVariants as error
-use Rattle.rhai_machine.specs.language.State.{Local, State}
 use Rattle.rhai_machine.specs.language.Links.{Link, LinkForm, AtIndex, AtProperty, AtMethod, asked_by, link_of}
-use Rattle.rhai_machine.specs.language.Frames.{Chain, NewValue, Frame, Core, core, Walk}
-use Rattle.rhai_steps.specs.OnFocus.{RunsFrom}
+use Rattle.rhai_machine.specs.language.Frames.{Chain, NewValue}
 use Rattle.rhai_chains.specs.declared.chain.NewValue.{NewValue as CodeValue}
-use Rattle.rhai_chains.specs.declared.chain.Switches.{Switches}
 use Rattle.rhai_chains.specs.declared.links.Link.{Link as CodeLink}
 use Rattle.rhai_chains.specs.declared.links.LinkForm.{LinkForm as CodeForm}
 use Rattle.rhai_chains.specs.declared.links.LinkForm.TheVariants as form
@@ -64,19 +57,3 @@ module _ {H : Type 0} where
   abbrev pub chain_at : (root : Expr) → (rest : ExprLayer) → (args : List (Dynamic H)) → Option (CodeValue H) → (in_place : Bool) →
       Chain H
   chain_at root rest args new in_place = record { root = root; new = new_of new; rest = rest; args = args; in_place = in_place }
-
-  -- an engine has these switches
-  pub record HasSwitches (offer : Offer H) (switches : Switches) : Type 0 where
-    pub fast : offer.fast_operators ≡ switches.fast_operators
-    pub fails : offer.fail_on_invalid_map_property ≡ switches.fail_on_invalid_map_property
-
-  -- from where the next link of a chain works on the focus, over any stack, to how the walk ended
-  abbrev pub WalkRuns : {S : Type 0} → Rules S H → Chain H → State S H → Result (Dynamic H × Bool) (EvalAltResult H) → State S H → Type 0
-  WalkRuns rules chain old result new = RunsFrom rules (λ k l. core (Walk chain) k l) old result new
-
-  -- A part of a walk that begins in the middle of a rule: over any stack the machine goes from there to how it ended; or memory ran out
-  -- before the part did anything, where the machine has done so already.
-  pub data FollowsFrom {S : Type 0} (rules : Rules S H) (start : List (Frame H) → Local H → Core H) (old : State S H)
-      (result : Result (Dynamic H × Bool) (EvalAltResult H)) (new : State S H) : Type 0 where
-    Does : RunsFrom rules start old result new → FollowsFrom rules start old result new
-    FindsNoMemory : (pos : Position) → result ≡ Err (error.ErrorOutOfMemory pos) → new ≡ old → FollowsFrom rules start old result new

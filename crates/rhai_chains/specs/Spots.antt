@@ -18,7 +18,8 @@ way_through link adds fails = record {
 
 module _ {H : Type 0} where
   -- the spot is there in the value as it is left; at an error, which is the one that is wanted unless memory ran out, it stays
-  abbrev pub FindsSpot : Result Spot (EvalAltResult H) → (wanted : Result (Dynamic H × Spot) (EvalAltResult H)) → (before after : Dynamic H) →
+  abbrev pub FindsSpot : Result Spot (EvalAltResult H) → (wanted : Result (Dynamic H × Spot) (EvalAltResult H)) →
+      (before after : Dynamic H) →
       Type 0
   FindsSpot (Ok at) wanted before after = wanted ≡ Ok (after, at)
   FindsSpot (Err e) wanted before after = (after ≡ before) × (is_out_of_memory e ≡ false → wanted ≡ Err e)

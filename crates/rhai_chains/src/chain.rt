@@ -9,10 +9,3 @@ pub struct NewValue<H> {
     pub op: OpAssignment,
     pub value: Dynamic<H>,
 }
-
-/// What a chain reads of an engine beside its limits.
-#[derive(Clone, Copy, Debug, PartialEq, Eq)]
-pub struct Switches {
-    pub fast_operators: bool,
-    pub fail_on_invalid_map_property: bool,
-}

@@ -4,26 +4,27 @@
 
 ghost use Rattle.std.specs.Prelude.{◌≡◌, ◌<◌, ◌≤◌, ◌++◌, ◌∷◌, [], length, slice_get, Some, Err, IfOk, false};
 ghost use Rattle.rhai_machine.specs.language.Arguments.{operation_named};
-ghost use Rattle.rhai_machine.specs.language.Frames.{Ask, IndexerTried, Item, Property, core};
+ghost use Rattle.rhai_machine.specs.language.Frames.{Ask, IndexerTried, Item, Property, core, ended_or_changed};
 ghost use Rattle.rhai_machine.specs.language.Members.{after_setter, focus_of, lent_call, named};
 ghost use Rattle.rhai_machine.specs.language.Members.{get_core, got_by, set_by, set_core};
 ghost use Rattle.rhai_machine.specs.language.Members.{get_item as item_got, set_item as item_set};
 ghost use Rattle.rhai_machine.specs.language.Members.{set_property as property_set};
 ghost use Rattle.rhai_machine.specs.language.Members.{lacks_indexer as lacks_indexer_in};
 ghost use Rattle.rhai_machine.specs.language.Members.{lacks_property as lacks_property_in};
-ghost use Rattle.rhai_machine.specs.language.Setting.{rules_of};
+ghost use Rattle.rhai_machine.specs.language.Runs.{Goes, Steps};
 ghost use Rattle.rhai_steps.specs.Agreement.{KeepsSight};
+ghost use Rattle.rhai_steps.specs.Sessions.{under};
 ghost use Rattle.rhai_steps.specs.States.{state_of};
-ghost use Rattle.rhai_calls.specs.ToldChanges.{MarkedRuns};
-ghost use Rattle.rhai_steps.specs.OnFocus.{lending, RunsFrom};
+ghost use Rattle.rhai_steps.specs.OnFocus.{lending};
 ghost use Rattle.rhai_chains.specs.Members.{access_of, tried};
 
 use rhai_calls::native::{Passing, pass_native, tell_changed};
 use rhai_few::Few;
 use rhai_state::error::EvalAltResult;
-use rhai_state::limits::Limits;
+use rhai_state::session::Session;
 use rhai_state::state::GlobalRuntimeState;
 use rhai_state::table::NativeTable;
+use rhai_steps::operation::Operation;
 use rhai_steps::values::{let_go, list_of, text_value, unit_value};
 use rhai_tree::position::Position;
 use rhai_tree::{Items, Shared, Text};
@@ -38,6 +39,16 @@ pub enum Member<'a, H> {
     Property(&'a Shared<Text>, Position),
     /// An item, by an index of any type.
     Item(Dynamic<H>),
+}
+
+/// A property that natives get and set: its name, and where that and its operator stand.
+#[derive(Clone, Copy)]
+struct NamedProperty<'a> {
+    name: &'a Shared<Text>,
+    name_at: Position,
+    at: Position,
+    /// A constant is kept from a native that is not pure.
+    guarded: bool,
 }
 
 /// How a member is got and set.
@@ -97,8 +108,7 @@ fn first_of<H: Host>(items: &mut Few<Dynamic<H>>) -> Dynamic<H>
 
 /// Asks the getter or the setter of a property, which the focus is lent to.
 fn ask_property<H: Host, T: NativeTable<H>>(
-    limits: &Limits,
-    alloc: Global,
+    session: &Session<'_, H>,
     global: &mut GlobalRuntimeState<H>,
     table: &mut T,
     focus: &mut Dynamic<H>,
@@ -110,27 +120,35 @@ fn ask_property<H: Host, T: NativeTable<H>>(
 ) -> Result<(Dynamic<H>, bool), EvalAltResult<H>>
     ensures counts { global.old.num_operations ≤ global.new.num_operations }
     ensures sight { KeepsSight global.old global.new }
-    ensures runs { (offer : _) (scope : _) (held : _) →
-        MarkedRuns (rules_of limits.now H.name_of offer T.natives)
-        (Ask (lent_call (operation_named (prefix.now ++ name.now) pos) passing.guarded passing.marks
-        focus.old rest.now))
-        (state_of (T.state table.old) global.old scope (lending held focus.old))
-        result (state_of (T.state table.new) global.new scope (lending held focus.new)) }
+    ensures runs { (scope : _) (held : _) →
+        Steps (under H.name_of session.now T.natives)
+        (Ask (lent_call (operation_named (prefix.now ++ name.now) pos) passing.guarded passing.marks focus.old rest.now))
+        (state_of (T.state table.old) global.old scope (lending held focus.old)) (ended_or_changed result)
+        (state_of (T.state table.new) global.new scope (lending held focus.new)) }
     ensures untold { IfOk result (λ answer. passing.marks ≡ false → answer.1 ≡ false) }
 {
-    let Ok(text) = name_behind(alloc, prefix, name) else {
+    let Ok(text) = name_behind(session.alloc, prefix, name) else {
         return Err(EvalAltResult::ErrorOutOfMemory(pos));
     };
     let native = text.as_str();
     pass_native(
-        limits, alloc, global, table, native, None, focus, rest, passing, pos,
+        session,
+        global,
+        table,
+        &Operation {
+            name: native,
+            token: None,
+            at: pos,
+        },
+        focus,
+        rest,
+        passing,
     )
 }
 
 /// Asks the indexer that gets, which the focus is lent to.
 fn ask_item<H: Host, T: NativeTable<H>>(
-    limits: &Limits,
-    alloc: Global,
+    session: &Session<'_, H>,
     global: &mut GlobalRuntimeState<H>,
     table: &mut T,
     focus: &mut Dynamic<H>,
@@ -139,10 +157,10 @@ fn ask_item<H: Host, T: NativeTable<H>>(
 ) -> Result<(Dynamic<H>, bool), EvalAltResult<H>>
     ensures counts { global.old.num_operations ≤ global.new.num_operations }
     ensures sight { KeepsSight global.old global.new }
-    ensures runs { (offer : _) (scope : _) (held : _) →
-        MarkedRuns (rules_of limits.now H.name_of offer T.natives) (Ask (item_got at focus.old index.old))
-        (state_of (T.state table.old) global.old scope (lending held focus.old))
-        result (state_of (T.state table.new) global.new scope (lending held focus.new)) }
+    ensures runs { (scope : _) (held : _) →
+        Steps (under H.name_of session.now T.natives) (Ask (item_got at focus.old index.old))
+        (state_of (T.state table.old) global.old scope (lending held focus.old)) (ended_or_changed result)
+        (state_of (T.state table.new) global.new scope (lending held focus.new)) }
     ensures untold { IfOk result (λ answer. answer.1 ≡ false) }
     ensures index { index.new ≡ index.old }
 {
@@ -150,21 +168,22 @@ fn ask_item<H: Host, T: NativeTable<H>>(
         guarded: true,
         marks: false,
     };
-    match list_of(alloc, replace(index, unit_value())) {
+    match list_of(session.alloc, replace(index, unit_value())) {
         Ok(items) => {
             let mut items = items;
             let rest = items.as_slice();
             let result = pass_native(
-                limits,
-                alloc,
+                session,
                 global,
                 table,
-                "index$get$",
-                None,
+                &Operation {
+                    name: "index$get$",
+                    token: None,
+                    at: at,
+                },
                 focus,
                 rest,
                 passing,
-                at,
             );
             let_go(replace(index, first_of(&mut items)));
             drop(items);
@@ -179,35 +198,40 @@ fn ask_item<H: Host, T: NativeTable<H>>(
 
 /// Asks the setter of a property.
 fn ask_setter<H: Host, T: NativeTable<H>>(
-    limits: &Limits,
-    alloc: Global,
+    session: &Session<'_, H>,
     global: &mut GlobalRuntimeState<H>,
     table: &mut T,
     focus: &mut Dynamic<H>,
-    name: &Shared<Text>,
+    property: &NamedProperty<'_>,
     value: &mut Dynamic<H>,
-    guarded: bool,
-    pos: Position,
 ) -> Result<(Dynamic<H>, bool), EvalAltResult<H>>
     ensures counts { global.old.num_operations ≤ global.new.num_operations }
     ensures sight { KeepsSight global.old global.new }
-    ensures runs { (offer : _) (scope : _) (held : _) →
-        MarkedRuns (rules_of limits.now H.name_of offer T.natives)
-        (Ask (property_set name.now pos guarded focus.old value.old))
-        (state_of (T.state table.old) global.old scope (lending held focus.old))
-        result (state_of (T.state table.new) global.new scope (lending held focus.new)) }
+    ensures runs { (scope : _) (held : _) →
+        Steps (under H.name_of session.now T.natives)
+        (Ask (property_set property.now.name.now property.now.name_at property.now.guarded focus.old value.old))
+        (state_of (T.state table.old) global.old scope (lending held focus.old)) (ended_or_changed result)
+        (state_of (T.state table.new) global.new scope (lending held focus.new)) }
     ensures value { value.new ≡ value.old }
 {
     let passing = Passing {
-        guarded,
+        guarded: property.guarded,
         marks: true,
     };
-    match list_of(alloc, replace(value, unit_value())) {
+    match list_of(session.alloc, replace(value, unit_value())) {
         Ok(items) => {
             let mut items = items;
             let rest = items.as_slice();
             let result = ask_property(
-                limits, alloc, global, table, focus, "set$", name, rest, passing, pos,
+                session,
+                global,
+                table,
+                focus,
+                "set$",
+                property.name,
+                rest,
+                passing,
+                property.name_at,
             );
             let_go(replace(value, first_of(&mut items)));
             drop(items);
@@ -215,15 +239,14 @@ fn ask_setter<H: Host, T: NativeTable<H>>(
         }
         Err(back) => {
             let_go(replace(value, back));
-            Err(EvalAltResult::ErrorOutOfMemory(pos))
+            Err(EvalAltResult::ErrorOutOfMemory(property.name_at))
         }
     }
 }
 
 /// Asks the indexer that sets.
 fn ask_to_set<H: Host, T: NativeTable<H>>(
-    limits: &Limits,
-    alloc: Global,
+    session: &Session<'_, H>,
     global: &mut GlobalRuntimeState<H>,
     table: &mut T,
     focus: &mut Dynamic<H>,
@@ -234,31 +257,31 @@ fn ask_to_set<H: Host, T: NativeTable<H>>(
 ) -> Result<(Dynamic<H>, bool), EvalAltResult<H>>
     ensures counts { global.old.num_operations ≤ global.new.num_operations }
     ensures sight { KeepsSight global.old global.new }
-    ensures runs { (offer : _) (scope : _) (held : _) →
-        MarkedRuns (rules_of limits.now H.name_of offer T.natives)
-        (Ask (item_set at guarded focus.old index value))
-        (state_of (T.state table.old) global.old scope (lending held focus.old))
-        result (state_of (T.state table.new) global.new scope (lending held focus.new)) }
+    ensures runs { (scope : _) (held : _) →
+        Steps (under H.name_of session.now T.natives) (Ask (item_set at guarded focus.old index value))
+        (state_of (T.state table.old) global.old scope (lending held focus.old)) (ended_or_changed result)
+        (state_of (T.state table.new) global.new scope (lending held focus.new)) }
 {
     let passing = Passing {
         guarded,
         marks: true,
     };
-    let Ok(items) = list_of_both(alloc, index, value) else {
+    let Ok(items) = list_of_both(session.alloc, index, value) else {
         return Err(EvalAltResult::ErrorOutOfMemory(at));
     };
     let rest = items.as_slice();
     let answer = pass_native(
-        limits,
-        alloc,
+        session,
         global,
         table,
-        "index$set$",
-        None,
+        &Operation {
+            name: "index$set$",
+            token: None,
+            at: at,
+        },
         focus,
         rest,
         passing,
-        at,
     );
     drop(items);
     answer
@@ -290,8 +313,7 @@ fn unless_missing<H: Host>(
 
 /// Asks the indexer for a property that has no getter. Where it is missing too, the getter's error stands.
 fn get_named<H: Host, T: NativeTable<H>>(
-    limits: &Limits,
-    alloc: Global,
+    session: &Session<'_, H>,
     global: &mut GlobalRuntimeState<H>,
     table: &mut T,
     focus: &mut Dynamic<H>,
@@ -301,17 +323,18 @@ fn get_named<H: Host, T: NativeTable<H>>(
 ) -> Result<(Dynamic<H>, bool), EvalAltResult<H>>
     ensures counts { global.old.num_operations ≤ global.new.num_operations }
     ensures sight { KeepsSight global.old global.new }
-    ensures runs { (offer : _) (scope : _) (held : _) →
-        RunsFrom (rules_of limits.now H.name_of offer T.natives)
+    ensures runs { (scope : _) (held : _) →
+        Goes (under H.name_of session.now T.natives)
         (λ k l. core (Ask (item_got at (focus_of l) (named name.now))) (IndexerTried (Err missing) ∷ k) l)
         (state_of (T.state table.old) global.old scope (lending held focus.old))
-        result (state_of (T.state table.new) global.new scope (lending held focus.new)) }
+        (core (ended_or_changed result))
+        (state_of (T.state table.new) global.new scope (lending held focus.new)) }
     ensures untold { IfOk result (λ answer. answer.1 ≡ false) }
 {
     match text_value(name, at) {
         Ok(index) => {
             let mut index = index;
-            let answer = ask_item(limits, alloc, global, table, focus, &mut index, at);
+            let answer = ask_item(session, global, table, focus, &mut index, at);
             let_go(index);
             unless_missing(answer, Err(missing))
         }
@@ -324,38 +347,51 @@ fn get_named<H: Host, T: NativeTable<H>>(
 
 /// Gets a property of the focus.
 fn get_property<H: Host, T: NativeTable<H>>(
-    limits: &Limits,
-    alloc: Global,
+    session: &Session<'_, H>,
     global: &mut GlobalRuntimeState<H>,
     table: &mut T,
     focus: &mut Dynamic<H>,
-    name: &Shared<Text>,
-    pos: Position,
-    at: Position,
-    guarded: bool,
+    property: &NamedProperty<'_>,
 ) -> Result<(Dynamic<H>, bool), EvalAltResult<H>>
     ensures counts { global.old.num_operations ≤ global.new.num_operations }
     ensures sight { KeepsSight global.old global.new }
-    ensures runs { (offer : _) (scope : _) (held : _) (member : _) →
-        RunsFrom (rules_of limits.now H.name_of offer T.natives)
-        (got_by (Property name.now pos) (record { member = member; at = at; guarded = guarded }))
+    ensures runs { (scope : _) (held : _) (member : _) →
+        Goes (under H.name_of session.now T.natives)
+        (got_by (Property property.now.name.now property.now.name_at) (record { member = member; at = property.now.at; guarded = property.now.guarded }))
         (state_of (T.state table.old) global.old scope (lending held focus.old))
-        result (state_of (T.state table.new) global.new scope (lending held focus.new)) }
+        (core (ended_or_changed result))
+        (state_of (T.state table.new) global.new scope (lending held focus.new)) }
     ensures untold { IfOk result (λ answer. answer.1 ≡ false) }
 {
-    let none = Items::new(alloc);
+    let none = Items::new(session.alloc);
     let rest = none.as_slice();
     let passing = Passing {
-        guarded,
+        guarded: property.guarded,
         marks: false,
     };
     match ask_property(
-        limits, alloc, global, table, focus, "get$", name, rest, passing, pos,
+        session,
+        global,
+        table,
+        focus,
+        "get$",
+        property.name,
+        rest,
+        passing,
+        property.name_at,
     ) {
         Ok(answer) => Ok(answer),
         Err(error) => {
             if lacks_property(&error) {
-                get_named(limits, alloc, global, table, focus, name, at, error)
+                get_named(
+                    session,
+                    global,
+                    table,
+                    focus,
+                    property.name,
+                    property.at,
+                    error,
+                )
             } else {
                 Err(error)
             }
@@ -369,8 +405,7 @@ fn get_property<H: Host, T: NativeTable<H>>(
 /// # Errors
 /// Those of the natives; where a property has neither getter nor indexer the getter's `ErrorDotExpr`.
 pub fn get_member<H: Host, T: NativeTable<H>>(
-    limits: &Limits,
-    alloc: Global,
+    session: &Session<'_, H>,
     global: &mut GlobalRuntimeState<H>,
     table: &mut T,
     focus: &mut Dynamic<H>,
@@ -378,10 +413,11 @@ pub fn get_member<H: Host, T: NativeTable<H>>(
 ) -> Result<(Dynamic<H>, bool), EvalAltResult<H>>
     ensures counts { global.old.num_operations ≤ global.new.num_operations }
     ensures sight { KeepsSight global.old global.new }
-    ensures runs { (offer : _) (scope : _) (held : _) →
-        RunsFrom (rules_of limits.now H.name_of offer T.natives) (get_core (access_of access.old))
+    ensures runs { (scope : _) (held : _) →
+        Goes (under H.name_of session.now T.natives) (get_core (access_of access.old))
         (state_of (T.state table.old) global.old scope (lending held focus.old))
-        result (state_of (T.state table.new) global.new scope (lending held focus.new)) }
+        (core (ended_or_changed result))
+        (state_of (T.state table.new) global.new scope (lending held focus.new)) }
     ensures untold { IfOk result (λ answer. answer.1 ≡ false) }
     ensures access { access_of access.new ≡ access_of access.old }
 {
@@ -389,38 +425,51 @@ pub fn get_member<H: Host, T: NativeTable<H>>(
     let guarded = access.guarded;
     match &mut access.member {
         Member::Property(name, pos) => get_property(
-            limits, alloc, global, table, focus, name, *pos, at, guarded,
+            session,
+            global,
+            table,
+            focus,
+            &NamedProperty {
+                name,
+                name_at: *pos,
+                at,
+                guarded,
+            },
         ),
-        Member::Item(index) => ask_item(limits, alloc, global, table, focus, index, at),
+        Member::Item(index) => ask_item(session, global, table, focus, index, at),
     }
 }
 
 /// Asks the indexer to set a property that has no setter.
 fn set_named<H: Host, T: NativeTable<H>>(
-    limits: &Limits,
-    alloc: Global,
+    session: &Session<'_, H>,
     global: &mut GlobalRuntimeState<H>,
     table: &mut T,
     focus: &mut Dynamic<H>,
-    name: &Shared<Text>,
+    property: &NamedProperty<'_>,
     value: Dynamic<H>,
-    guarded: bool,
-    at: Position,
     otherwise: Result<Dynamic<H>, EvalAltResult<H>>,
 ) -> Result<(Dynamic<H>, bool), EvalAltResult<H>>
     ensures counts { global.old.num_operations ≤ global.new.num_operations }
     ensures sight { KeepsSight global.old global.new }
-    ensures runs { (offer : _) (scope : _) (held : _) →
-        RunsFrom (rules_of limits.now H.name_of offer T.natives)
-        (λ k l. core (Ask (item_set at guarded (focus_of l) (named name.now) value))
-        (IndexerTried otherwise ∷ k) l)
+    ensures runs { (scope : _) (held : _) →
+        Goes (under H.name_of session.now T.natives)
+        (λ k l. core (Ask (item_set property.now.at property.now.guarded (focus_of l) (named property.now.name.now) value)) (IndexerTried otherwise ∷ k) l)
         (state_of (T.state table.old) global.old scope (lending held focus.old))
-        result (state_of (T.state table.new) global.new scope (lending held focus.new)) }
+        (core (ended_or_changed result))
+        (state_of (T.state table.new) global.new scope (lending held focus.new)) }
 {
-    match text_value(name, at) {
+    match text_value(property.name, property.at) {
         Ok(index) => {
             let answer = ask_to_set(
-                limits, alloc, global, table, focus, index, value, guarded, at,
+                session,
+                global,
+                table,
+                focus,
+                index,
+                value,
+                property.guarded,
+                property.at,
             );
             unless_missing(answer, otherwise)
         }
@@ -449,31 +498,25 @@ fn instead_of_indexer<H: Host>(
 
 /// Sets a property of the focus.
 fn set_property<H: Host, T: NativeTable<H>>(
-    limits: &Limits,
-    alloc: Global,
+    session: &Session<'_, H>,
     global: &mut GlobalRuntimeState<H>,
     table: &mut T,
     focus: &mut Dynamic<H>,
-    name: &Shared<Text>,
-    pos: Position,
-    at: Position,
-    guarded: bool,
+    property: &NamedProperty<'_>,
     value: Dynamic<H>,
     ignores: bool,
 ) -> Result<(Dynamic<H>, bool), EvalAltResult<H>>
     ensures counts { global.old.num_operations ≤ global.new.num_operations }
     ensures sight { KeepsSight global.old global.new }
-    ensures runs { (offer : _) (scope : _) (held : _) (member : _) →
-        RunsFrom (rules_of limits.now H.name_of offer T.natives)
-        (set_by (Property name.now pos) ignores
-        (record { member = member; at = at; guarded = guarded }) value)
+    ensures runs { (scope : _) (held : _) (member : _) →
+        Goes (under H.name_of session.now T.natives)
+        (set_by (Property property.now.name.now property.now.name_at) ignores (record { member = member; at = property.now.at; guarded = property.now.guarded }) value)
         (state_of (T.state table.old) global.old scope (lending held focus.old))
-        result (state_of (T.state table.new) global.new scope (lending held focus.new)) }
+        (core (ended_or_changed result))
+        (state_of (T.state table.new) global.new scope (lending held focus.new)) }
 {
     let mut value = value;
-    match ask_setter(
-        limits, alloc, global, table, focus, name, &mut value, guarded, pos,
-    ) {
+    match ask_setter(session, global, table, focus, property, &mut value) {
         Ok(answer) => {
             let_go(value);
             Ok(answer)
@@ -481,9 +524,7 @@ fn set_property<H: Host, T: NativeTable<H>>(
         Err(error) => {
             if lacks_property(&error) {
                 let otherwise = instead_of_indexer(ignores, error);
-                set_named(
-                    limits, alloc, global, table, focus, name, value, guarded, at, otherwise,
-                )
+                set_named(session, global, table, focus, property, value, otherwise)
             } else {
                 let_go(value);
                 Err(error)
@@ -494,8 +535,7 @@ fn set_property<H: Host, T: NativeTable<H>>(
 
 /// Sets an item of the focus.
 fn set_item<H: Host, T: NativeTable<H>>(
-    limits: &Limits,
-    alloc: Global,
+    session: &Session<'_, H>,
     global: &mut GlobalRuntimeState<H>,
     table: &mut T,
     focus: &mut Dynamic<H>,
@@ -507,15 +547,14 @@ fn set_item<H: Host, T: NativeTable<H>>(
 ) -> Result<(Dynamic<H>, bool), EvalAltResult<H>>
     ensures counts { global.old.num_operations ≤ global.new.num_operations }
     ensures sight { KeepsSight global.old global.new }
-    ensures runs { (offer : _) (scope : _) (held : _) (member : _) →
-        RunsFrom (rules_of limits.now H.name_of offer T.natives)
+    ensures runs { (scope : _) (held : _) (member : _) →
+        Goes (under H.name_of session.now T.natives)
         (set_by (Item index) ignores (record { member = member; at = at; guarded = guarded }) value)
         (state_of (T.state table.old) global.old scope (lending held focus.old))
-        result (state_of (T.state table.new) global.new scope (lending held focus.new)) }
+        (core (ended_or_changed result))
+        (state_of (T.state table.new) global.new scope (lending held focus.new)) }
 {
-    let answer = ask_to_set(
-        limits, alloc, global, table, focus, index, value, guarded, at,
-    );
+    let answer = ask_to_set(session, global, table, focus, index, value, guarded, at);
     if ignores {
         unless_missing(answer, Ok(unit_value()))
     } else {
@@ -531,8 +570,7 @@ fn set_item<H: Host, T: NativeTable<H>>(
 /// Those of the natives; where a property has neither setter nor indexer the setter's `ErrorDotExpr`,
 /// unless that is ignored.
 pub fn set_member<H: Host, T: NativeTable<H>>(
-    limits: &Limits,
-    alloc: Global,
+    session: &Session<'_, H>,
     global: &mut GlobalRuntimeState<H>,
     table: &mut T,
     focus: &mut Dynamic<H>,
@@ -542,22 +580,33 @@ pub fn set_member<H: Host, T: NativeTable<H>>(
 ) -> Result<(Dynamic<H>, bool), EvalAltResult<H>>
     ensures counts { global.old.num_operations ≤ global.new.num_operations }
     ensures sight { KeepsSight global.old global.new }
-    ensures runs { (offer : _) (scope : _) (held : _) →
-        RunsFrom (rules_of limits.now H.name_of offer T.natives)
-        (set_core ignores (access_of access.old) value)
+    ensures runs { (scope : _) (held : _) →
+        Goes (under H.name_of session.now T.natives) (set_core ignores (access_of access.old) value)
         (state_of (T.state table.old) global.old scope (lending held focus.old))
-        result (state_of (T.state table.new) global.new scope (lending held focus.new)) }
+        (core (ended_or_changed result))
+        (state_of (T.state table.new) global.new scope (lending held focus.new)) }
 {
     let at = access.at;
     let guarded = access.guarded;
     match &mut access.member {
         Member::Property(name, pos) => set_property(
-            limits, alloc, global, table, focus, name, *pos, at, guarded, value, ignores,
+            session,
+            global,
+            table,
+            focus,
+            &NamedProperty {
+                name,
+                name_at: *pos,
+                at,
+                guarded,
+            },
+            value,
+            ignores,
         ),
         Member::Item(index) => {
             let index = replace(index, unit_value());
             set_item(
-                limits, alloc, global, table, focus, index, at, guarded, value, ignores,
+                session, global, table, focus, index, at, guarded, value, ignores,
             )
         }
     }

@@ -11,23 +11,23 @@ ghost use Rattle.rhai_machine.specs.language.State.{Answers};
 ghost use Rattle.rhai_chains.specs.Chains.{link_seen};
 ghost use Rattle.rhai_chains.specs.Spots.{way_through, FindsSpot};
 
-use crate::chain::Switches;
 use crate::links::{Link, LinkForm};
-use rhai_places::errors::{data_race, indexing_error};
+use rhai_places::errors::indexing_error;
 use rhai_places::indexing::{add_key, missing_key, value_of_index};
 use rhai_places::locate::locate;
 use rhai_places::part::read_part;
 use rhai_places::spot::{Access, Spot};
 use rhai_state::error::EvalAltResult;
+use rhai_state::errors::data_race;
 use rhai_steps::values::{copy, unit_value};
 use rhai_tree::position::Position;
 use rhai_values::base::value::{Dynamic, Host, Union};
 use rhai_values::cells::CellStore;
 use std::alloc::Global;
 
-/// Tells how a link finds its spot.
-pub fn access_for(link: Link<'_>, adds: bool, switches: Switches) -> Access
-    ensures { result ≡ way_through (link_seen link.entry) adds switches.fail_on_invalid_map_property }
+/// Tells how a link finds its spot, in a strict engine or not: one that refuses a property which a map lacks.
+pub fn access_for(link: Link<'_>, adds: bool, is_strict: bool) -> Access
+    ensures { result ≡ way_through (link_seen link.entry) adds is_strict }
 {
     let idx_pos = match link.form {
         LinkForm::Index(index) => index.start_position(),
@@ -38,7 +38,7 @@ pub fn access_for(link: Link<'_>, adds: bool, switches: Switches) -> Access
         idx_pos,
         op_pos: link.at,
         add_if_not_found: adds,
-        fail_on_invalid_map_property: switches.fail_on_invalid_map_property,
+        fail_on_invalid_map_property: is_strict,
     }
 }
 

@@ -11,7 +11,8 @@ use Rattle.rhai_tree.specs.declared.expr.StmtBlock.{StmtBlock}
 use Rattle.rhai_tree.specs.declared.expr.Stmt.{Stmt, out-Stmt}
 use Rattle.rhai_tree.specs.Context.{Context}
 use Rattle.rhai_check.specs.MemoryNeeds as declares
-use Rattle.rhai_check.specs.MemoryNeeds.{Needs, needs_of, names_a_catch, expr_needs_memory, call_needs_memory, conditional_needs_memory, block_needs_memory}
+use Rattle.rhai_check.specs.MemoryNeeds.{Needs, needs_of, names_a_catch, expr_needs_memory, call_needs_memory, conditional_needs_memory}
+use Rattle.rhai_check.specs.MemoryNeeds.{block_needs_memory}
 use Rattle.rhai_check.specs.MemoryNeeds.{stmt_needs_memory}
 use Rattle.rhai_tree.specs.Forms.{catch_name}
 use Rattle.rhai_tree.specs.Reading as walk

@@ -88,7 +88,8 @@ expr_needs_memory e = (needs_of e).declares
 
 -- the check of a whole call may need memory
 abbrev pub call_needs_memory : FnCallExpr → Bool
-call_needs_memory = fold-FnCallExpr Needs Bool Bool Bool (Unit {0}) Bool expr_step stmt_step conditional_step call_step (λ entry. tt) block_step
+call_needs_memory = fold-FnCallExpr Needs Bool Bool Bool (Unit {0}) Bool expr_step stmt_step conditional_step call_step
+    (λ entry. tt) block_step
 
 -- the check of a whole condition of a `switch` and its result may need memory
 abbrev pub conditional_needs_memory : ConditionalExpr → Bool
@@ -97,7 +98,8 @@ conditional_needs_memory = fold-ConditionalExpr Needs Bool Bool Bool (Unit {0}) 
 
 -- the check of a whole block may need memory
 abbrev pub block_needs_memory : StmtBlock → Bool
-block_needs_memory = fold-StmtBlock Needs Bool Bool Bool (Unit {0}) Bool expr_step stmt_step conditional_step call_step (λ entry. tt) block_step
+block_needs_memory = fold-StmtBlock Needs Bool Bool Bool (Unit {0}) Bool expr_step stmt_step conditional_step call_step
+    (λ entry. tt) block_step
 
 -- the check of a whole statement may need memory
 abbrev pub stmt_needs_memory : Stmt → Bool

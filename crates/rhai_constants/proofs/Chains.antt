@@ -13,6 +13,7 @@ use Rattle.rhai_values.specs.declared.base.value.Union.{Union}
 use Rattle.rhai_values.specs.declared.base.value.Union.TheVariants as value
 use Rattle.rhai_values.specs.Layers.{layer_of}
 use Rattle.rhai_state.specs.declared.error.EvalAltResult.{EvalAltResult}
+use Rattle.rhai_state.specs.Errors.{root_name}
 use Rattle.rhai_places.specs.declared.spot.Spot.{Spot}
 use Rattle.rhai_places.specs.declared.spot.Spot.TheVariants as spot
 use Rattle.rhai_places.specs.Parts.{part_of, value_at}
@@ -22,7 +23,7 @@ use Rattle.rhai_machine.specs.language.Values.{is_handle, through_union, through
 use Rattle.rhai_machine.specs.language.Variables.{Variable, no_path}
 use Rattle.rhai_machine.specs.language.Names.{Meaning, AtEntry, AsTemporary, bound_this, meant}
 use Rattle.rhai_machine.specs.language.Places.{focus_target}
-use Rattle.rhai_machine.specs.language.Links.{Link, LinkForm, AtIndex, AtProperty, AtMethod, asked_by, first_position, link_of, name_in}
+use Rattle.rhai_machine.specs.language.Links.{Link, LinkForm, AtIndex, AtProperty, AtMethod, asked_by, first_position, link_of}
 use Rattle.rhai_machine.specs.language.Frames.{Lender, NewValue, Chain, Member, Property, Item, MemberAccess, ToChain, Frame, Core, core}
 use Rattle.rhai_machine.specs.language.Frames.{OpenChain, ChainArguments, ChainRoot, ReadRoot, Walk, Locate}
 use Rattle.rhai_machine.specs.language.Frames.{PartMethod, PartAssigned, MemberLink, MemberGot}
@@ -55,7 +56,8 @@ use Rattle.rhai_values.specs.Layers.{UnionLayer}
 use Rattle.rhai_values.specs.Literals.{literal_step, value_of_literal}
 use Rattle.rhai_places.specs.declared.spot.Access.{Access}
 use Rattle.rhai_places.specs.declared.spot.Refusal.{Refusal}
-use Rattle.rhai_places.specs.Found.{through_layer, through as through_index, with_key, without_key, spot_or_error as settled_at, found_by, found}
+use Rattle.rhai_places.specs.Found.{through_layer, through as through_index, with_key, without_key, spot_or_error as settled_at, found_by}
+use Rattle.rhai_places.specs.Found.{found}
 use Rattle.rhai_places.specs.Found.{IsKeyless}
 use Rattle.rhai_places.specs.Indexing.{located}
 use Rattle.rhai_places.specs.Parts.{part_in}
@@ -514,9 +516,9 @@ module _ {H : Type 0} (a : Told H) where
     pub assign_focus_keeps : (root : Expr) (new : NewValue H) (k : List (Frame H)) (l : Local H) →
         Keeps a (calm k l) (assign_focus s root new k l)
     assign_focus_keeps root new k l = knowing a (λ h.
-        stored_keeps a s (focus_target l.around.cells (name_in (out-Expr root)) (start_of root) (focus_of l))
-        (record { path = no_path; name = name_in (out-Expr root); at = position_of root; op = new.op }) new.value k l
-        (λ t is. focus_writable a k l h.1.1 (name_in (out-Expr root)) (start_of root) t is))
+        stored_keeps a s (focus_target l.around.cells (root_name (out-Expr root)) (start_of root) (focus_of l))
+        (record { path = no_path; name = root_name (out-Expr root); at = position_of root; op = new.op }) new.value k l
+        (λ t is. focus_writable a k l h.1.1 (root_name (out-Expr root)) (start_of root) t is))
 
     set_after_keeps : (member : Member H) (access : MemberAccess H) (v : Dynamic H) (k : List (Frame H)) (l : Local H) →
         Where (due a.of k).focus access.guarded → Open a.of k → Keeps a (calm k l) (set_core false access v (after_set member k) l)
@@ -569,11 +571,11 @@ module _ {H : Type 0} (a : Told H) where
     part_written (Some w) root new source at op_at k l is c known d o =
         let same_value : source ≡ w = cc in
         let leaf = part_leaf w source at (constant_mode w c) same_value in
-        let refusal = refused_at l.around.cells (name_in (out-Expr root)) (start_of root) (part_of source at).value (part_of source at)
+        let refusal = refused_at l.around.cells (root_name (out-Expr root)) (start_of root) (part_of source at).value (part_of source at)
         leaf.1.0 leaf.0 in
         subst (λ (r : Result (Target H) (EvalAltResult H)). Keeps a (calm k l) (store_core s r (record {
           path = no_path;
-          name = name_in (out-Expr root);
+          name = root_name (out-Expr root);
           at = position_of root;
           op = new.op;
         }) new.value (PartAssigned source at op_at ∷ k) (focused_on (Some (part_of source at)) l))) (sym refusal.1)

@@ -6,7 +6,8 @@ use Rattle.rhai_state.specs.declared.error.EvalAltResult.TheVariants as error
 use Rattle.rhai_state.specs.Native.{Request, Reply, Faults, Lawful, MayLeave}
 use Rattle.rhai_machine.specs.machine.Machine.{Move, Halt, Go, Charge, Native, AskPure}
 use Rattle.rhai_machine.specs.machine.Point.{Point, Reaches, here as stop, next as step, paid, moved, after}
-use Rattle.rhai_machine.specs.machine.Memory.{Leads, here, next, out_before_step, out_in_native, out_of_memory_in_native, OutOfMemory, before_step, in_native, RunsOut}
+use Rattle.rhai_machine.specs.machine.Memory.{Leads, here, next, out_before_step, out_in_native, out_of_memory_in_native, OutOfMemory}
+use Rattle.rhai_machine.specs.machine.Memory.{before_step, in_native, RunsOut}
 use Rattle.rhai_machine.specs.language.Setting.{Rules, cut}
 use Rattle.rhai_machine.specs.language.State.{Local, State}
 use Rattle.rhai_machine.specs.language.Places.{Place, InEntry, InCell, InThis, InFocus}

@@ -2,7 +2,7 @@
 //! well: its value stands in `run.value` then, and else its error in `run.error`. A part of a chain's walk
 //! answers in Some whether it may have changed the focus, and None where it failed.
 
-ghost use Rattle.std.specs.Prelude.{◌≡◌, ◌<◌, IsTrue, OnOk, None, false, length, slice_get, true};
+ghost use Rattle.std.specs.Prelude.{◌≡◌, ◌<◌, OnOk, None, false, length, slice_get, true};
 ghost use Rattle.rhai_state.specs.Scope.{entries_of, revalued};
 ghost use Rattle.rhai_state.specs.Errors.{is_catchable};
 ghost use Rattle.rhai_machine.specs.language.Values.{bool_value as truth_of};
@@ -21,25 +21,14 @@ pub fn put<H: Host>(out: &mut Dynamic<H>, value: Dynamic<H>)
     drop(replace(out, value));
 }
 
-/// Tells whether a value is `()` that may be changed.
-#[inline(always)]
-fn is_unit<H>(value: &Dynamic<H>) -> bool
-    ensures { IsTrue result → value.now ≡ unit }
-{
-    match (&value.value, value.mode) {
-        (Union::Unit, AccessMode::ReadWrite) => true,
-        _ => false,
-    }
-}
-
 /// Puts `()` into the place of a value, where most often it is already.
 pub fn put_unit<H: Host>(out: &mut Dynamic<H>)
     ensures { out.new ≡ unit }
 {
-    if is_unit(out) {
-        return;
+    match (&out.value, out.mode) {
+        (Union::Unit, AccessMode::ReadWrite) => {}
+        _ => put(out, Dynamic::new(Union::Unit)),
     }
-    put(out, Dynamic::new(Union::Unit));
 }
 
 /// Puts `()` into the place of a value, which a part came to, and answers that the part went well.

@@ -22,7 +22,8 @@ counted : (n m : ℕ) (a b : DataSizes) → m ≡ n + 1 → plus (sizes 1 0 0) (
 counted n m a b is = same_sizes _ _ (omega (arith, is)) (omega arith) (omega arith)
 
 module _ {H : Type 0} where
-  data_in : (items : List (Dynamic H)) → data_sizes (array_of items) ≡ saturated (plus (sizes (length items) 0 0) (total_of (map total items)))
+  data_in : (items : List (Dynamic H)) →
+      data_sizes (array_of items) ≡ saturated (plus (sizes (length items) 0 0) (total_of (map total items)))
   data_in items = ap saturated (total-of-Array (array_of items) items refl)
 
   total-items : (items : List (Dynamic H)) (x : Dynamic H) →

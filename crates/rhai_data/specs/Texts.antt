@@ -1,18 +1,16 @@
 -- How the part of an interpolated text is printed and joined.
-use Rattle.std.specs.Prelude.{ℕ, Bool, true, false, List, ◌∷◌, Option, Some, None, Result, Ok, Err}
+use Rattle.std.specs.Prelude.{ℕ, Bool, true, false, List, Option, Some, None, Result, Ok, Err}
 use Rattle.rhai_tree.specs.declared.position.Position.{Position}
 use Rattle.rhai_tree.specs.declared.expr.Expr.{Expr}
 use Rattle.rhai_values.specs.declared.base.value.Dynamic.{Dynamic}
 use Rattle.rhai_values.specs.declared.base.value.Union.{Union}
 use Rattle.rhai_values.specs.declared.base.value.Union.TheVariants as value
-use Rattle.rhai_values.specs.TypeNames.{type_name_of}
 use Rattle.rhai_state.specs.declared.error.EvalAltResult.{EvalAltResult}
 use Rattle.rhai_state.specs.Errors.{is_system}
-use Rattle.rhai_machine.specs.language.Data.{joined_core, part_core, parts_core, printing}
-use Rattle.rhai_machine.specs.language.Frames.{Frame, Core, core, Ask, Back, Fail, PrintedPart, TextPart}
-use Rattle.rhai_machine.specs.language.Runs.{at, with_core, Goes}
-use Rattle.rhai_machine.specs.language.Setting.{Setting, Rules}
-use Rattle.rhai_machine.specs.language.State.{Local, State}
+use Rattle.rhai_machine.specs.language.Data.{part_core, parts_core, printing}
+use Rattle.rhai_machine.specs.language.Frames.{Frame, Core, core, core_over, Ask, Back, Fail, PrintedPart, TextPart}
+use Rattle.rhai_machine.specs.language.Setting.{Setting}
+use Rattle.rhai_machine.specs.language.State.{Local}
 
 module _ {H : Type 0} where
   -- the text that a value is
@@ -42,30 +40,10 @@ module _ {H : Type 0} where
   after_part (Ok x) text rest k l = parts_core text rest k l
   after_part (Err e) text rest k l = core (Fail e) k l
 
-module _ {S H : Type 0} (rules : Rules S H) where
-  -- the call that prints a value, over the frame that waits for its text
-  unfoldable pub Prints : Dynamic H → Position → State S H → Result (Option (List ℕ)) (EvalAltResult H) → State S H → Type 0
-  Prints v pos old result new = (text type : List ℕ) (rest : List Expr) (k : List (Frame H)) →
-      Goes rules (at (Ask (printing v pos)) (PrintedPart text type pos rest ∷ k) old)
-      (with_core (print_core rules.setting result text type pos rest k new.local) new)
+  -- a value is printed, over the frame that waits for its text
+  abbrev pub prints_part : Dynamic H → Position → (text type : List ℕ) → List Expr → List (Frame H) → Local H → Core H
+  prints_part v pos text type rest = core_over (Ask (printing v pos)) (PrintedPart text type pos rest)
 
-  -- a value is printed, and that is joined
-  unfoldable pub PrintsAndJoins : {A : Type 0} → (text : List ℕ) → Dynamic H → Position → State S H → Result A (EvalAltResult H) →
-      (joined : List ℕ) → State S H → Type 0
-  PrintsAndJoins text v pos old result joined new = (rest : List Expr) (k : List (Frame H)) →
-      Goes rules
-      (at (Ask (printing v pos)) (PrintedPart text (type_name_of rules.setting.host_type old.local.around.cells v) pos rest ∷ k) old)
-      (with_core (after_part result joined rest k new.local) new)
-
-  -- a value without its handle is joined
-  unfoldable pub JoinsFlat : {A : Type 0} → (text : List ℕ) → Dynamic H → Position → State S H → Result A (EvalAltResult H) →
-      (joined : List ℕ) → State S H → Type 0
-  JoinsFlat text v pos old result joined new = (rest : List Expr) (k : List (Frame H)) →
-      Goes rules (with_core (joined_core rules.setting v.value v text pos rest k old.local) old)
-      (with_core (after_part result joined rest k new.local) new)
-
-  -- the value of a part is joined
-  unfoldable pub Joins : {A : Type 0} → (text : List ℕ) → Dynamic H → Position → State S H → Result A (EvalAltResult H) →
-      (joined : List ℕ) → State S H → Type 0
-  Joins text v pos old result joined new = (rest : List Expr) (k : List (Frame H)) →
-      Goes rules (at (Back v) (TextPart text pos rest ∷ k) old) (with_core (after_part result joined rest k new.local) new)
+  -- the value of a part comes up
+  abbrev pub part_comes : (text : List ℕ) → Dynamic H → Position → List Expr → List (Frame H) → Local H → Core H
+  part_comes text v pos rest = core_over (Back v) (TextPart text pos rest)

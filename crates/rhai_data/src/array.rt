@@ -16,8 +16,8 @@ ghost use Rattle.rhai_data.specs.Arrays.{IsMeasured};
 use rhai_context::ends::{put, stop, take_value};
 use rhai_context::outcomes::flatten_at;
 use rhai_state::error::EvalAltResult;
-use rhai_state::limits::Limits;
-use rhai_steps::errors::data_too_large;
+use rhai_state::errors::data_too_large;
+use rhai_state::session::Session;
 use rhai_tree::expr::Expr;
 use rhai_tree::position::Position;
 use rhai_tree::{Boxed, Items};
@@ -69,8 +69,7 @@ impl<H: Host> ArrayItems<H> {
     /// array is above a limit with it. The items stay then.
     pub fn add(
         &mut self,
-        alloc: Global,
-        limits: &Limits,
+        session: &Session<'_, H>,
         cells: &CellStore<H>,
         out: &mut Dynamic<H>,
         place: &mut Option<EvalAltResult<H>>,
@@ -78,24 +77,24 @@ impl<H: Host> ArrayItems<H> {
     ) -> bool
         requires measured { IsMeasured self.old }
         ensures measured { IsMeasured self.new }
-        ensures added { IsTrue result → item_added limits.now self.old.items
+        ensures added { IsTrue result → item_added session.now.limits self.old.items
             (flat (cells_of cells.now) out.old (position_of item.now)) (position_of item.now)
             ≡ Ok self.new.items }
         ensures refused { result ≡ false → is_out_of_memory (error_in place.new) ≡ false →
-            item_added limits.now self.old.items (flat (cells_of cells.now) out.old (position_of item.now))
+            item_added session.now.limits self.old.items (flat (cells_of cells.now) out.old (position_of item.now))
             (position_of item.now) ≡ Err (error_in place.new) }
         ensures same { result ≡ false → self.new ≡ self.old }
     {
-        if !flatten_at(alloc, cells, out, place, item) {
+        if !flatten_at(session.alloc, cells, out, place, item) {
             return false;
         }
         let sizes = with_item(self.sizes, &*out);
         if let Some(fault) = sizes.exceeds(
-            limits.max_string_size,
-            limits.max_array_size,
-            limits.max_map_size,
+            session.limits.max_string_size,
+            session.limits.max_array_size,
+            session.limits.max_map_size,
         ) {
-            return stop(place, data_too_large(alloc, fault, item.position()));
+            return stop(place, data_too_large(session.alloc, fault, item.position()));
         }
         match self.items.push(take_value(out)) {
             Ok(()) => {

@@ -16,8 +16,8 @@ ghost use Rattle.rhai_data.specs.Maps.{IsCounted};
 use rhai_context::ends::{put, stop, take_value};
 use rhai_context::outcomes::flatten_at;
 use rhai_state::error::EvalAltResult;
-use rhai_state::limits::Limits;
-use rhai_steps::errors::data_too_large;
+use rhai_state::errors::data_too_large;
+use rhai_state::session::Session;
 use rhai_tree::expr::{Expr, MapEntry};
 use rhai_tree::position::Position;
 use rhai_tree::{Boxed, Items, Table};
@@ -91,8 +91,7 @@ impl<H: Host> EntryValues<H> {
     /// map is above a limit with it. The values stay then.
     pub fn add(
         &mut self,
-        alloc: Global,
-        limits: &Limits,
+        session: &Session<'_, H>,
         cells: &CellStore<H>,
         out: &mut Dynamic<H>,
         place: &mut Option<EvalAltResult<H>>,
@@ -100,24 +99,24 @@ impl<H: Host> EntryValues<H> {
     ) -> bool
         requires counted { IsCounted self.old }
         ensures counted { IsCounted self.new }
-        ensures added { IsTrue result → value_added limits.now self.old.values
+        ensures added { IsTrue result → value_added session.now.limits self.old.values
             (flat (cells_of cells.now) out.old (position_of item.now)) (position_of item.now)
             ≡ Ok self.new.values }
         ensures refused { result ≡ false → is_out_of_memory (error_in place.new) ≡ false →
-            value_added limits.now self.old.values (flat (cells_of cells.now) out.old (position_of item.now))
+            value_added session.now.limits self.old.values (flat (cells_of cells.now) out.old (position_of item.now))
             (position_of item.now) ≡ Err (error_in place.new) }
         ensures same { result ≡ false → self.new ≡ self.old }
     {
-        if !flatten_at(alloc, cells, out, place, item) {
+        if !flatten_at(session.alloc, cells, out, place, item) {
             return false;
         }
         let sizes = with_value(self.sizes, &*out);
         if let Some(fault) = sizes.exceeds(
-            limits.max_string_size,
-            limits.max_array_size,
-            limits.max_map_size,
+            session.limits.max_string_size,
+            session.limits.max_array_size,
+            session.limits.max_map_size,
         ) {
-            return stop(place, data_too_large(alloc, fault, item.position()));
+            return stop(place, data_too_large(session.alloc, fault, item.position()));
         }
         match self.values.push(take_value(out)) {
             Ok(()) => {

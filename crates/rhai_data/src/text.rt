@@ -8,23 +8,27 @@ ghost use Rattle.rhai_tree.specs.Positions.{position_of};
 ghost use Rattle.rhai_values.specs.Cells.{cells_of};
 ghost use Rattle.rhai_values.specs.TypeNames.{type_name_of};
 ghost use Rattle.rhai_state.specs.Errors.{is_out_of_memory};
-ghost use Rattle.rhai_machine.specs.language.Data.{text_of, with_part};
-ghost use Rattle.rhai_machine.specs.language.Setting.{rules_of};
+ghost use Rattle.rhai_machine.specs.language.Data.{text_of, with_part, joined_core};
 ghost use Rattle.rhai_machine.specs.language.State.{Answers};
+ghost use Rattle.rhai_machine.specs.language.Runs.{Goes};
 ghost use Rattle.rhai_steps.specs.Agreement.{KeepsSight};
+ghost use Rattle.rhai_steps.specs.Sessions.{under};
 ghost use Rattle.rhai_steps.specs.States.{state_of};
 ghost use Rattle.rhai_context.specs.Ends.{came};
-ghost use Rattle.rhai_data.specs.Texts.{text_in as text_of_value, print_of, Prints, PrintsAndJoins};
-ghost use Rattle.rhai_data.specs.Texts.{Joins, JoinsFlat};
+ghost use Rattle.rhai_data.specs.Texts.{text_in as text_of_value, print_of, prints_part};
+ghost use Rattle.rhai_data.specs.Texts.{print_core};
+ghost use Rattle.rhai_data.specs.Texts.{after_part};
+ghost use Rattle.rhai_data.specs.Texts.{part_comes};
 
 use rhai_calls::native::call_native;
 use rhai_context::ends::{put, stop};
 use rhai_context::outcomes::flatten_at;
 use rhai_state::error::EvalAltResult;
-use rhai_state::limits::Limits;
+use rhai_state::errors::{data_too_large, shared_text};
+use rhai_state::session::Session;
 use rhai_state::state::GlobalRuntimeState;
 use rhai_state::table::NativeTable;
-use rhai_steps::errors::{data_too_large, shared_text};
+use rhai_steps::operation::Operation;
 use rhai_steps::values::{copy, is_bare_handle};
 use rhai_tree::expr::Expr;
 use rhai_tree::position::Position;
@@ -38,24 +42,23 @@ use std::alloc::Global;
 /// # Errors
 /// `ErrorDataTooLarge` at the part where the text is above the limit with it. The text stays then.
 fn join_text<H>(
-    alloc: Global,
-    limits: &Limits,
+    session: &Session<'_, H>,
     text: &mut String,
     part: &str,
     pos: Position,
 ) -> Result<(), EvalAltResult<H>>
-    ensures joined { OnOk result (with_part {H = H} limits.now (string_bytes text.old) part.now pos
+    ensures joined { OnOk result (with_part {H = H} session.now.limits (string_bytes text.old) part.now pos
         ≡ Ok (string_bytes text.new)) }
     ensures refused { IfErr result (λ error. is_out_of_memory error ≡ false →
-        with_part limits.now (string_bytes text.old) part.now pos ≡ Err error) }
+        with_part session.now.limits (string_bytes text.old) part.now pos ≡ Err error) }
 {
     let sizes = DataSizes::of_strings(text.len().saturating_add(part.len()));
     if let Some(fault) = sizes.exceeds(
-        limits.max_string_size,
-        limits.max_array_size,
-        limits.max_map_size,
+        session.limits.max_string_size,
+        session.limits.max_array_size,
+        session.limits.max_map_size,
     ) {
-        return Err(data_too_large(alloc, fault, pos));
+        return Err(data_too_large(session.alloc, fault, pos));
     }
     match text.push_str(part) {
         Ok(()) => Ok(()),
@@ -107,8 +110,7 @@ fn printed<H: Host>(
 /// Those of the system alone: `ErrorTooManyOperations` at the value where the count has reached the
 /// limit, `ErrorDataTooLarge` there for an answer above a limit.
 fn print<H: Host, T: NativeTable<H>>(
-    limits: &Limits,
-    alloc: Global,
+    session: &Session<'_, H>,
     global: &mut GlobalRuntimeState<H>,
     table: &mut T,
     value: &Dynamic<H>,
@@ -116,24 +118,28 @@ fn print<H: Host, T: NativeTable<H>>(
 ) -> Result<Option<Shared<Text>>, EvalAltResult<H>>
     ensures counts { global.old.num_operations ≤ global.new.num_operations }
     ensures sight { KeepsSight global.old global.new }
-    ensures runs { (offer : _) (scope : _) (held : _) → Prints (rules_of limits.now H.name_of offer T.natives)
-        value.now pos (state_of (T.state table.old) global.old scope held)
-        result (state_of (T.state table.new) global.new scope held) }
+    ensures runs { (scope : _) (held : _) (text : _) (type : _) (rest : _) →
+        let rules = under H.name_of session.now T.natives in
+        Goes rules (prints_part value.now pos text type rest)
+        (state_of (T.state table.old) global.old scope held)
+        (print_core rules.setting result text type pos rest)
+        (state_of (T.state table.new) global.new scope held) }
 {
-    let mut first = copy(alloc, value, pos)?;
-    let rest = Items::new(alloc);
+    let mut first = copy(session.alloc, value, pos)?;
+    let rest = Items::new(session.alloc);
     let rest = rest.as_slice();
     let outcome = call_native(
-        limits,
-        alloc,
+        session,
         global,
         table,
-        "to_string",
-        None,
+        &Operation {
+            name: "to_string",
+            token: None,
+            at: pos,
+        },
         &mut first,
         rest,
         false,
-        pos,
     );
     drop(first);
     printed(outcome, pos)
@@ -141,8 +147,7 @@ fn print<H: Host, T: NativeTable<H>>(
 
 /// Joins a value that is no text: what the native `to_string` prints of it, or else its type's name.
 fn join_typed<H: Host, T: NativeTable<H>>(
-    limits: &Limits,
-    alloc: Global,
+    session: &Session<'_, H>,
     global: &mut GlobalRuntimeState<H>,
     table: &mut T,
     text: &mut String,
@@ -153,22 +158,21 @@ fn join_typed<H: Host, T: NativeTable<H>>(
     requires { type_name.now ≡ type_name_of H.name_of (cells_of global.old.cells) value.now }
     ensures counts { global.old.num_operations ≤ global.new.num_operations }
     ensures sight { KeepsSight global.old global.new }
-    ensures runs { (offer : _) (scope : _) (held : _) →
-        PrintsAndJoins (rules_of limits.now H.name_of offer T.natives) (string_bytes text.old) value.now pos
-        (state_of (T.state table.old) global.old scope held) result (string_bytes text.new)
+    ensures runs { (scope : _) (held : _) (rest : _) → Goes (under H.name_of session.now T.natives)
+        (prints_part value.now pos (string_bytes text.old) (type_name_of H.name_of (cells_of global.old.cells) value.now) rest)
+        (state_of (T.state table.old) global.old scope held) (after_part result (string_bytes text.new) rest)
         (state_of (T.state table.new) global.new scope held) }
 {
-    match print(limits, alloc, global, table, value, pos)? {
-        Some(part) => join_text(alloc, limits, text, part.get().as_str(), pos),
-        None => join_text(alloc, limits, text, type_name, pos),
+    match print(session, global, table, value, pos)? {
+        Some(part) => join_text(session, text, part.get().as_str(), pos),
+        None => join_text(session, text, type_name, pos),
     }
 }
 
 /// Joins a handle as `join_typed` does a value. The name of its type is taken before the native may change
 /// its cell.
 fn join_handle<H: Host, T: NativeTable<H>>(
-    limits: &Limits,
-    alloc: Global,
+    session: &Session<'_, H>,
     global: &mut GlobalRuntimeState<H>,
     table: &mut T,
     text: &mut String,
@@ -177,15 +181,15 @@ fn join_handle<H: Host, T: NativeTable<H>>(
 ) -> Result<(), EvalAltResult<H>>
     ensures counts { global.old.num_operations ≤ global.new.num_operations }
     ensures sight { KeepsSight global.old global.new }
-    ensures runs { (offer : _) (scope : _) (held : _) →
-        PrintsAndJoins (rules_of limits.now H.name_of offer T.natives) (string_bytes text.old) value.now pos
-        (state_of (T.state table.old) global.old scope held) result (string_bytes text.new)
+    ensures runs { (scope : _) (held : _) (rest : _) → Goes (under H.name_of session.now T.natives)
+        (prints_part value.now pos (string_bytes text.old) (type_name_of H.name_of (cells_of global.old.cells) value.now) rest)
+        (state_of (T.state table.old) global.old scope held) (after_part result (string_bytes text.new) rest)
         (state_of (T.state table.new) global.new scope held) }
 {
-    match shared_text(alloc, value.type_name(&global.cells)) {
+    match shared_text(session.alloc, value.type_name(&global.cells)) {
         Ok(name) => {
             let name = name.get().as_str();
-            join_typed(limits, alloc, global, table, text, value, name, pos)
+            join_typed(session, global, table, text, value, name, pos)
         }
         Err(_) => Err(EvalAltResult::ErrorOutOfMemory(pos)),
     }
@@ -193,8 +197,7 @@ fn join_handle<H: Host, T: NativeTable<H>>(
 
 /// Joins any value that is no text, as `join_typed` does.
 fn join_printed<H: Host, T: NativeTable<H>>(
-    limits: &Limits,
-    alloc: Global,
+    session: &Session<'_, H>,
     global: &mut GlobalRuntimeState<H>,
     table: &mut T,
     text: &mut String,
@@ -203,16 +206,16 @@ fn join_printed<H: Host, T: NativeTable<H>>(
 ) -> Result<(), EvalAltResult<H>>
     ensures counts { global.old.num_operations ≤ global.new.num_operations }
     ensures sight { KeepsSight global.old global.new }
-    ensures runs { (offer : _) (scope : _) (held : _) →
-        PrintsAndJoins (rules_of limits.now H.name_of offer T.natives) (string_bytes text.old) value.now pos
-        (state_of (T.state table.old) global.old scope held) result (string_bytes text.new)
+    ensures runs { (scope : _) (held : _) (rest : _) → Goes (under H.name_of session.now T.natives)
+        (prints_part value.now pos (string_bytes text.old) (type_name_of H.name_of (cells_of global.old.cells) value.now) rest)
+        (state_of (T.state table.old) global.old scope held) (after_part result (string_bytes text.new) rest)
         (state_of (T.state table.new) global.new scope held) }
 {
     if is_bare_handle(value) {
-        return join_handle(limits, alloc, global, table, text, value, pos);
+        return join_handle(session, global, table, text, value, pos);
     }
     let name = value.own_type_name();
-    join_typed(limits, alloc, global, table, text, value, name, pos)
+    join_typed(session, global, table, text, value, name, pos)
 }
 
 /// Returns the text that a value is.
@@ -227,8 +230,7 @@ fn text_at<H>(value: &Dynamic<H>) -> Option<&str>
 
 /// Joins a value that is no handle: a text as it is, any other as it is printed.
 fn join_flat<H: Host, T: NativeTable<H>>(
-    limits: &Limits,
-    alloc: Global,
+    session: &Session<'_, H>,
     global: &mut GlobalRuntimeState<H>,
     table: &mut T,
     text: &mut String,
@@ -237,14 +239,15 @@ fn join_flat<H: Host, T: NativeTable<H>>(
 ) -> Result<(), EvalAltResult<H>>
     ensures counts { global.old.num_operations ≤ global.new.num_operations }
     ensures sight { KeepsSight global.old global.new }
-    ensures runs { (offer : _) (scope : _) (held : _) →
-        JoinsFlat (rules_of limits.now H.name_of offer T.natives) (string_bytes text.old) value.now pos
-        (state_of (T.state table.old) global.old scope held) result (string_bytes text.new)
+    ensures runs { (scope : _) (held : _) (rest : _) →
+        let rules = under H.name_of session.now T.natives in
+        Goes rules (joined_core rules.setting value.now.value value.now (string_bytes text.old) pos rest)
+        (state_of (T.state table.old) global.old scope held) (after_part result (string_bytes text.new) rest)
         (state_of (T.state table.new) global.new scope held) }
 {
     match text_at(value) {
-        Some(part) => join_text(alloc, limits, text, part, pos),
-        None => join_printed(limits, alloc, global, table, text, value, pos),
+        Some(part) => join_text(session, text, part, pos),
+        None => join_printed(session, global, table, text, value, pos),
     }
 }
 
@@ -256,8 +259,7 @@ fn join_flat<H: Host, T: NativeTable<H>>(
 /// All at the part: `ErrorDataRace` for a handle whose cell is held, the errors of the system that the
 /// native's call meets, and `ErrorDataTooLarge` where the text is above the limit.
 pub fn join<H: Host, T: NativeTable<H>>(
-    limits: &Limits,
-    alloc: Global,
+    session: &Session<'_, H>,
     global: &mut GlobalRuntimeState<H>,
     table: &mut T,
     text: &mut String,
@@ -267,16 +269,16 @@ pub fn join<H: Host, T: NativeTable<H>>(
 ) -> bool
     ensures counts { global.old.num_operations ≤ global.new.num_operations }
     ensures sight { KeepsSight global.old global.new }
-    ensures runs { (offer : _) (scope : _) (held : _) →
-        Joins (rules_of limits.now H.name_of offer T.natives) (string_bytes text.old) out.old (position_of part.now)
-        (state_of (T.state table.old) global.old scope held) (came result (string_bytes text.new) place.new)
-        (string_bytes text.new)
+    ensures runs { (scope : _) (held : _) (rest : _) → Goes (under H.name_of session.now T.natives)
+        (part_comes (string_bytes text.old) out.old (position_of part.now) rest)
+        (state_of (T.state table.old) global.old scope held)
+        (after_part (came result (string_bytes text.new) place.new) (string_bytes text.new) rest)
         (state_of (T.state table.new) global.new scope held) }
 {
-    if !flatten_at(alloc, &global.cells, out, place, part) {
+    if !flatten_at(session.alloc, &global.cells, out, place, part) {
         return false;
     }
-    match join_flat(limits, alloc, global, table, text, &*out, part.position()) {
+    match join_flat(session, global, table, text, &*out, part.position()) {
         Ok(()) => true,
         Err(error) => stop(place, error),
     }

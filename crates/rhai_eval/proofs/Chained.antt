@@ -14,7 +14,7 @@ use Rattle.rhai_machine.specs.language.Frames.{ChainRoot, NewValue, OpenChain, c
 use Rattle.rhai_machine.specs.language.Language.{machine}
 use Rattle.rhai_machine.specs.language.Memory.{IsOutOfMemory}
 use Rattle.rhai_machine.specs.language.Links.{first_in}
-use Rattle.rhai_machine.specs.language.Runs.{at, Runs, Steps}
+use Rattle.rhai_machine.specs.language.Runs.{at, Runs, Goes}
 use Rattle.rhai_laws.proofs.AssignedLaws.{goes_on}
 use Rattle.rhai_laws.proofs.MemoryLaws.{straight}
 use Rattle.rhai_laws.proofs.RootLaws.{assigns_from_root}
@@ -73,7 +73,7 @@ module _ {S H : Type 0} (rules : Rules S H) where
   pub chain_assigns : (e : Expr) (given : Option (NewValue H)) (old new : State S H) (r : Result (Dynamic H) (EvalAltResult H)) →
       Runs rules (whole_chain e given) old r new → OnOk r (AsksFirst rules (chain_of e given) old) →
       OnOk r (IfSome given (λ n. AssignsAlong rules e n old new))
-  unfolding Steps
+  unfolding Goes
   chain_assigns e (Some n) old new (Ok v) runs asks =
       let comes : Reaches (machine rules) (cut rules) (at (whole_chain e (Some n)) [] old)
       (at (ChainRoot (chain_with e n asks.0)) [] asks.1) =

@@ -12,7 +12,8 @@ use Rattle.rhai_machine.specs.language.Frames.{Core, Frame, core, ended_or_chang
 use Rattle.rhai_machine.specs.language.Calls.{dispatch_core}
 use Rattle.rhai_machine.specs.language.Language.{machine}
 use Rattle.rhai_machine.specs.language.Memory.{IsOutOfMemory}
-use Rattle.rhai_machine.specs.language.Runs.{at, with_core, Goes, Steps}
+use Rattle.rhai_machine.specs.language.Runs.{at, with_core, Steps, Goes}
+use Rattle.rhai_machine.specs.machine.Memory.{Leads}
 use Rattle.rhai_laws.specs.Kept.{Kept, names_of}
 use Rattle.rhai_laws.proofs.KeptCalls.{dispatch_keeps}
 use Rattle.rhai_laws.proofs.KeptLaws.{kept, kept_from, names_stay_from}
@@ -20,8 +21,6 @@ use Rattle.rhai_laws.proofs.MemoryLaws.{straight}
 use Rattle.rhai_laws.proofs.ScriptMemory.{runs_up_to_memory, memory_unwinds}
 use Rattle.rhai_steps.specs.States.{state_of}
 use Rattle.rhai_calls.specs.Lending.{back_in, passed_call}
-use Rattle.rhai_calls.specs.ToldChanges.{MarkedRuns}
-use Rattle.rhai_steps.specs.OnFocus.{RunsFrom}
 use Rattle.rhai_eval.specs.Ends.{EndsChanged}
 use Rattle.rhai_eval.specs.Places.{on_place, with_place}
 
@@ -42,15 +41,15 @@ module _ {S H : Type 0} (rules : Rules S H) (operation : Operation) (guarded : B
 
   module _ (x y : Dynamic H) (is : first ≡ Some x) (ends : last ≡ Some y) where
     -- there is such a value
-    pub native_in_place : MarkedRuns rules (Ask (passed_call operation (Some FromFocus) guarded true (x ∷ rest))) (before (Some x)) result
-        (back_in (Some FromFocus) y (later (Some x))) →
-        MarkedRuns rules (Ask (on_place operation guarded first rest)) (before first) result (later last)
+    pub native_in_place : Steps rules (Ask (passed_call operation (Some FromFocus) guarded true (x ∷ rest))) (before (Some x))
+        (ended_or_changed result) (back_in (Some FromFocus) y (later (Some x))) →
+        Steps rules (Ask (on_place operation guarded first rest)) (before first) (ended_or_changed result) (later last)
     native_in_place runs = rw (is, ends) runs
 
   module _ (is : first ≡ None) (ends : last ≡ None) where
     -- and there is none
-    pub native_alone : MarkedRuns rules (Ask (passed_call operation None false true [])) (before None) result (later None) →
-        MarkedRuns rules (Ask (on_place operation guarded first rest)) (before first) result (later last)
+    pub native_alone : Steps rules (Ask (passed_call operation None false true [])) (before None) (ended_or_changed result) (later None) →
+        Steps rules (Ask (on_place operation guarded first rest)) (before first) (ended_or_changed result) (later last)
     native_alone runs = rw (is, ends) runs
 
 module _ {H : Type 0} where
@@ -64,37 +63,40 @@ module _ {H : Type 0} where
 module _ {S H : Type 0} (rules : Rules S H) (old new : State S H) (r : Result (Dynamic H × Bool) (EvalAltResult H)) where
   -- over any stack, such a call ends as it runs
   pub ends_changed : (begins : List (Frame H) → Local H → Core H) →
-      ((k : List (Frame H)) → Goes rules (with_core (begins k old.local) old) (at (ended_or_changed r) k new)) → EndsChanged rules begins old r new
+      ((k : List (Frame H)) → Leads (machine rules) (cut rules) (with_core (begins k old.local) old) (at (ended_or_changed r) k new)) →
+      EndsChanged rules begins old r new
   ends_changed begins runs = record {
-    runs = λ memory k. straight (machine rules) (cut rules) IsOutOfMemory (memory_unwinds rules) (runs k) (λ is. had_memory r memory is.0 is.1);
+    runs = λ memory k. straight (machine rules) (cut rules) IsOutOfMemory (memory_unwinds rules) (runs k)
+        (λ is. had_memory r memory is.0 is.1);
     up_to = λ k. runs_up_to_memory rules (runs k);
   }
 
   module _ (call : Call H) where
-    pub native_ends : MarkedRuns rules (Ask call) old r new → EndsChanged rules (λ k l. core (Ask call) k l) old r new
-    unfolding Steps
+    pub native_ends : Steps rules (Ask call) old (ended_or_changed r) new → EndsChanged rules (λ k l. core (Ask call) k l) old r new
+    unfolding Goes
     native_ends runs = ends_changed (λ k l. core (Ask call) k l) runs
 
-    pub native_kept : MarkedRuns rules (Ask call) old r new → Kept rules old new
+    pub native_kept : Steps rules (Ask call) old (ended_or_changed r) new → Kept rules old new
     native_kept runs = kept rules (Ask call) (ended_or_changed r) old new tt runs
 
 module _ {S H : Type 0} (rules : Rules S H) where
   module _ (how : Dispatch) (call : Call H) (old new : State S H) (r : Result (Dynamic H × Bool) (EvalAltResult H)) where
     -- over any stack a call by name ends as it runs
-    pub call_ends : RunsFrom rules (dispatch_core rules.setting how call) old r new →
+    pub call_ends : Goes rules (dispatch_core rules.setting how call) old (core (ended_or_changed r)) new →
         EndsChanged rules (dispatch_core rules.setting how call) old r new
-    unfolding RunsFrom
+    unfolding Goes
     call_ends runs = ends_changed rules old new r (dispatch_core rules.setting how call) runs
 
     -- and keeps what every run keeps
-    pub call_kept : RunsFrom rules (dispatch_core rules.setting how call) old r new → Kept rules old new
-    unfolding RunsFrom
+    pub call_kept : Goes rules (dispatch_core rules.setting how call) old (core (ended_or_changed r)) new → Kept rules old new
+    unfolding Goes
     call_kept runs = kept_from rules (dispatch_core rules.setting how call [] old.local) (ended_or_changed r) old new
         (λ a. dispatch_keeps a rules.setting how call [] old.local) (runs [])
 
     -- the variables have the names that they had
-    pub call_names : RunsFrom rules (dispatch_core rules.setting how call) old r new → names_of new.local ≡ names_of old.local
-    unfolding RunsFrom
+    pub call_names : Goes rules (dispatch_core rules.setting how call) old (core (ended_or_changed r)) new →
+        names_of new.local ≡ names_of old.local
+    unfolding Goes
     call_names runs = names_stay_from rules (dispatch_core rules.setting how call [] old.local) (ended_or_changed r) old new
         (λ a. dispatch_keeps a rules.setting how call [] old.local) (runs [])
 

@@ -9,27 +9,25 @@ use Rattle.rhai_state.specs.declared.error.EvalAltResult.{EvalAltResult}
 use Rattle.rhai_state.specs.declared.error.EvalAltResult.TheVariants as error
 use Rattle.rhai_state.specs.Errors.{is_out_of_memory}
 use Rattle.rhai_functions.specs.declared.function.Function.{Function}
-use Rattle.rhai_machine.specs.machine.Memory.{here, out_before_step, ◌⨾◌}
-use Rattle.rhai_machine.specs.language.Setting.{Rules}
+use Rattle.rhai_machine.specs.machine.Memory.{here, out_before_step, ◌⨾◌, Leads}
+use Rattle.rhai_machine.specs.language.Setting.{Rules, cut}
 use Rattle.rhai_machine.specs.language.State.{Local, State}
 use Rattle.rhai_machine.specs.language.Activations.{NoThis}
 use Rattle.rhai_machine.specs.language.Frames.{Operation, Lender, FromFocus, Dispatch, Call, Control, EnterFunction, EnterOnFocus, Frame}
+use Rattle.rhai_machine.specs.language.Frames.{core}
 use Rattle.rhai_machine.specs.language.Frames.{Core, Fail}
 use Rattle.rhai_machine.specs.language.Frames.{ended, ended_or_changed}
 use Rattle.rhai_machine.specs.language.Calls.{args_given, dispatch_core, enter_core, entry_of}
-use Rattle.rhai_machine.specs.language.Runs.{at, with_core, Goes, Runs, Steps}
-use Rattle.rhai_calls.specs.declared.dispatch.Dispatched.{Dispatched}
-use Rattle.rhai_calls.specs.declared.dispatch.Dispatched.TheVariants as dispatched
-use Rattle.rhai_calls.specs.Dispatch.{Dispatches}
+use Rattle.rhai_machine.specs.language.Runs.{at, with_core, Runs, Steps, Goes}
+use Rattle.rhai_machine.specs.language.Language.{machine}
+use Rattle.rhai_calls.specs.declared.dispatch.Called.{Called}
+use Rattle.rhai_calls.specs.declared.dispatch.Called.TheVariants.{Ended, Enters}
+use Rattle.rhai_calls.specs.Dispatch.{came_to as dispatched_to}
 use Rattle.rhai_calls.specs.Lending.{passed_call}
-use Rattle.rhai_calls.specs.ToldChanges.{with_changed, MarkedRuns}
-use Rattle.rhai_steps.specs.OnFocus.{RunsFrom}
-use Rattle.rhai_methods.specs.Methods.{IsEntered}
-use Rattle.rhai_methods.specs.declared.calls.MethodCall.{MethodCall}
-use Rattle.rhai_methods.specs.declared.calls.MethodCall.TheVariants as method
-use Rattle.rhai_eval.specs.declared.func.dispatch.Outcome.{Outcome}
-use Rattle.rhai_eval.specs.declared.func.dispatch.Outcome.TheVariants.{Ended, Enters}
-use Rattle.rhai_eval.specs.Entering.{came_out, came_to, ComesOut, ComesTo, IsByItself}
+use Rattle.rhai_calls.specs.ToldChanges.{with_changed}
+use Rattle.rhai_methods.specs.Methods.{IsEntered, MethodCall}
+use Rattle.rhai_methods.specs.declared.calls.MethodEntry.TheVariants as entry
+use Rattle.rhai_eval.specs.Entering.{came_out, came_to, IsByItself}
 use Rattle.rhai_eval.specs.Places.{by_name, by_value, on_place}
 
 -- of two that say that a first argument is lent, the other does where one does not
@@ -39,7 +37,7 @@ one_lends false true either none = cc
 one_lends false false either none = cc
 
 -- a call that enters no function on a value does not
-pub no_method : {H : Type 0} (call : MethodCall H) (f : Function H) (args : List (Dynamic H)) → call ≡ method.OnTarget f args →
+pub no_method : {H : Type 0} (call : MethodCall H) (f : Function H) (args : List (Dynamic H)) → call ≡ Enters (entry.OnTarget f args) →
     IsByItself call → ⊥
 no_method call f args is alone = rw is at alone
 
@@ -61,31 +59,34 @@ unchanged_result_ends (Err e) = refl
 module _ {S H : Type 0} (rules : Rules S H) where
   -- what runs to a value or an error comes back as one that changed no first argument
   pub runs_unchanged : (c : Control H) (old new : State S H) (r : Result (Dynamic H) (EvalAltResult H))
-      (q : Result (Dynamic H × Bool) (EvalAltResult H)) → q ≡ with_changed false r → Runs rules c old r new → MarkedRuns rules c old q new
+      (q : Result (Dynamic H × Bool) (EvalAltResult H)) → q ≡ with_changed false r → Runs rules c old r new →
+      Steps rules c old (ended_or_changed q) new
   runs_unchanged c old new r q is runs = rw (is, unchanged_result_ends r) runs
 
   -- ---- a function that was found
 
   -- memory runs out where something begins
   control_runs_out : (c : Control H) (k : List (Frame H)) (s : State S H) (e : EvalAltResult H) → is_out_of_memory e ≡ true →
-      Goes rules (at c k s) (at (Fail e) k s)
+      Leads (machine rules) (cut rules) (at c k s) (at (Fail e) k s)
   control_runs_out c k s (error.ErrorOutOfMemory p) is = out_before_step {at = p} here
   control_runs_out c k s e is = cc
 
   module _ (is_fresh : Bool) (pos : Position) (f : Function H) (args : List (Dynamic H)) (k : List (Frame H)) (s : State S H) where
     -- it is entered on the value that the call works on, or memory runs out before
-    enters_on : (x : MethodCall H) → IsEntered x (method.OnTarget f args) →
-        Goes rules (at (EnterOnFocus f is_fresh args pos) k s) (with_core (came_to is_fresh pos x k s.local) s)
-    enters_on (method.Ended (Err e)) is = control_runs_out (EnterOnFocus f is_fresh args pos) k s e is
+    enters_on : (x : MethodCall H) → IsEntered x (entry.OnTarget f args) →
+        Leads (machine rules) (cut rules) (at (EnterOnFocus f is_fresh args pos) k s) (with_core (came_to is_fresh pos x k s.local) s)
+    enters_on (Ended (Err e)) is = control_runs_out (EnterOnFocus f is_fresh args pos) k s e is
     enters_on x is = subst (λ (y : MethodCall H).
-        Goes rules (at (EnterOnFocus f is_fresh args pos) k s) (with_core (came_to is_fresh pos y k s.local) s)) (sym is) here
+        Leads (machine rules) (cut rules) (at (EnterOnFocus f is_fresh args pos) k s) (with_core (came_to is_fresh pos y k s.local) s))
+        (sym is) here
 
     -- or by itself
-    enters_alone : (x : MethodCall H) → IsEntered x (method.Alone f args) →
-        Goes rules (at (EnterFunction (entry_of f NoThis is_fresh args pos s.local)) k s) (with_core (came_to is_fresh pos x k s.local) s)
-    enters_alone (method.Ended (Err e)) is = control_runs_out (EnterFunction (entry_of f NoThis is_fresh args pos s.local)) k s e is
+    enters_alone : (x : MethodCall H) → IsEntered x (entry.Alone f args) →
+        Leads (machine rules) (cut rules) (at (EnterFunction (entry_of f NoThis is_fresh args pos s.local)) k s)
+        (with_core (came_to is_fresh pos x k s.local) s)
+    enters_alone (Ended (Err e)) is = control_runs_out (EnterFunction (entry_of f NoThis is_fresh args pos s.local)) k s e is
     enters_alone x is = subst (λ (y : MethodCall H).
-        Goes rules (at (EnterFunction (entry_of f NoThis is_fresh args pos s.local)) k s)
+        Leads (machine rules) (cut rules) (at (EnterFunction (entry_of f NoThis is_fresh args pos s.local)) k s)
         (with_core (came_to is_fresh pos y k s.local) s)) (sym is) here
 
   module _ (operation : Operation) (lender : Option Lender) (guarded on_scope : Bool) (first : Dynamic H) (rest : List (Dynamic H)) where
@@ -95,9 +96,9 @@ module _ {S H : Type 0} (rules : Rules S H) where
 
     module _ (f : Function H) (call : MethodCall H) where
       enters : (of_method : Bool) (k : List (Frame H)) (s : State S H) →
-          (of_method ≡ true → IsEntered call (method.OnTarget f rest)) →
-          (of_method ≡ false → IsEntered call (method.Alone f (args_given lender (first ∷ rest)))) →
-          Goes rules (with_core (enter_core of_method f (by_name of_method on_scope) passed k s.local) s)
+          (of_method ≡ true → IsEntered call (entry.OnTarget f rest)) →
+          (of_method ≡ false → IsEntered call (entry.Alone f (args_given lender (first ∷ rest)))) →
+          Leads (machine rules) (cut rules) (with_core (enter_core of_method f (by_name of_method on_scope) passed k s.local) s)
           (with_core (came_to (not on_scope) operation.at call k s.local) s)
       enters true k s on_it alone = enters_on (not on_scope) operation.at f rest k s call (on_it refl)
       enters false k s on_it alone =
@@ -105,117 +106,132 @@ module _ {S H : Type 0} (rules : Rules S H) where
 
       -- a call that has found a function enters it
       pub call_found : (of_method : Bool) (old new : State S H) →
-          Dispatches rules (by_name of_method on_scope) passed old (dispatched.Found f) new →
-          (of_method ≡ true → IsEntered call (method.OnTarget f rest)) →
-          (of_method ≡ false → IsEntered call (method.Alone f (args_given lender (first ∷ rest)))) →
-          ComesTo (not on_scope) operation.at rules (dispatch_core rules.setting (by_name of_method on_scope) passed) old call new
-      unfolding Dispatches ComesTo
+          Goes rules (dispatch_core rules.setting (by_name of_method on_scope) passed) old
+          (dispatched_to (by_name of_method on_scope) passed (Enters f)) new →
+          (of_method ≡ true → IsEntered call (entry.OnTarget f rest)) →
+          (of_method ≡ false → IsEntered call (entry.Alone f (args_given lender (first ∷ rest)))) →
+          Goes rules (dispatch_core rules.setting (by_name of_method on_scope) passed) old (came_to (not on_scope) operation.at call) new
+      unfolding Goes
       call_found of_method old new runs on_it alone k = runs k ⨾ enters of_method k new on_it alone
 
   -- ---- what a call comes to
 
   call_ended : (how : Dispatch) (call : Call H) (old new : State S H) (is_fresh : Bool) (pos : Position)
-      (r : Result (Dynamic H × Bool) (EvalAltResult H)) → Dispatches rules how call old (dispatched.Ended r) new →
-      ComesTo is_fresh pos rules (dispatch_core rules.setting how call) old (method.Ended r) new
-  unfolding Dispatches ComesTo
+      (r : Result (Dynamic H × Bool) (EvalAltResult H)) →
+      Goes rules (dispatch_core rules.setting how call) old (dispatched_to how call (Ended r)) new →
+      Goes rules (dispatch_core rules.setting how call) old (came_to is_fresh pos (Ended r)) new
+  unfolding Goes
   call_ended how call old new is_fresh pos r runs k = runs k
 
   module _ (operation : Operation) (first : Dynamic H) (rest : List (Dynamic H)) (on_scope is_ref of_method guarded : Bool)
-      (d : Dispatched H) (old new : State S H) (is_guarded : guarded ≡ (is_ref || of_method)) where
+      (d : Called (Dynamic H × Bool) (Function H) H) (old new : State S H) (is_guarded : guarded ≡ (is_ref || of_method))
+      {read : Rules S H} (reads : read ≡ rules) where
     -- with its first argument lent it ends
-    pub lent_ended : (r : Result (Dynamic H × Bool) (EvalAltResult H)) → d ≡ dispatched.Ended r → (is_ref || of_method) ≡ true →
-        Dispatches rules (by_name of_method on_scope) (passed operation (Some FromFocus) guarded on_scope first rest) old d new →
-        ComesTo (not on_scope) operation.at rules
-        (dispatch_core rules.setting (by_name of_method on_scope) (on_place operation true (Some first) rest)) old (method.Ended r) new
-    unfolding Dispatches ComesTo
-    lent_ended r is lent runs k = (rw (is, is_guarded, lent) at runs) k
+    pub lent_ended : (r : Result (Dynamic H × Bool) (EvalAltResult H)) → d ≡ Ended r → (is_ref || of_method) ≡ true →
+        Goes read (dispatch_core read.setting (by_name of_method on_scope)
+        (passed operation (Some FromFocus) guarded on_scope first rest)) old
+        (dispatched_to (by_name of_method on_scope) (passed operation (Some FromFocus) guarded on_scope first rest) d) new →
+        Goes rules (dispatch_core rules.setting (by_name of_method on_scope) (on_place operation true (Some first) rest)) old
+        (came_to (not on_scope) operation.at (Ended r)) new
+    lent_ended r is lent runs = call_ended (by_name of_method on_scope) (passed operation (Some FromFocus) true on_scope first rest) old
+        new (not on_scope) operation.at r (rw (reads, is, is_guarded, lent) at runs)
 
     -- or enters the function that it has found
-    pub lent_found : (f : Function H) (call : MethodCall H) → d ≡ dispatched.Found f → (is_ref || of_method) ≡ true →
-        (of_method ≡ true → IsEntered call (method.OnTarget f rest)) →
-        (of_method ≡ false → IsEntered call (method.Alone f ((if is_ref then copy_of first else first) ∷ rest))) →
-        Dispatches rules (by_name of_method on_scope) (passed operation (Some FromFocus) guarded on_scope first rest) old d new →
-        ComesTo (not on_scope) operation.at rules
-        (dispatch_core rules.setting (by_name of_method on_scope) (on_place operation true (Some first) rest)) old call new
+    pub lent_found : (f : Function H) (call : MethodCall H) → d ≡ Enters f → (is_ref || of_method) ≡ true →
+        (of_method ≡ true → IsEntered call (entry.OnTarget f rest)) →
+        (of_method ≡ false → IsEntered call (entry.Alone f ((if is_ref then copy_of first else first) ∷ rest))) →
+        Goes read (dispatch_core read.setting (by_name of_method on_scope)
+        (passed operation (Some FromFocus) guarded on_scope first rest)) old
+        (dispatched_to (by_name of_method on_scope) (passed operation (Some FromFocus) guarded on_scope first rest) d) new →
+        Goes rules (dispatch_core rules.setting (by_name of_method on_scope) (on_place operation true (Some first) rest)) old
+        (came_to (not on_scope) operation.at call) new
     lent_found f call is lent on_it alone runs =
-        call_found operation (Some FromFocus) true on_scope first rest f call of_method old new (rw (is, is_guarded, lent) at runs) on_it
+        call_found operation (Some FromFocus) true on_scope first rest f call of_method old new
+        (rw (reads, is, is_guarded, lent) at runs) on_it
         (λ none. rw (one_lends is_ref of_method lent none) at (alone none))
 
     -- the same of one by value
-    pub value_ended : (r : Result (Dynamic H × Bool) (EvalAltResult H)) → d ≡ dispatched.Ended r → (is_ref || of_method) ≡ false →
-        Dispatches rules (by_name of_method on_scope) (passed operation None guarded on_scope first rest) old d new →
-        ComesTo (not on_scope) operation.at rules
-        (dispatch_core rules.setting (by_name false on_scope) (by_value operation (Some first) rest)) old (method.Ended r) new
+    pub value_ended : (r : Result (Dynamic H × Bool) (EvalAltResult H)) → d ≡ Ended r → (is_ref || of_method) ≡ false →
+        Goes read (dispatch_core read.setting (by_name of_method on_scope) (passed operation None guarded on_scope first rest)) old
+        (dispatched_to (by_name of_method on_scope) (passed operation None guarded on_scope first rest) d) new →
+        Goes rules (dispatch_core rules.setting (by_name false on_scope) (by_value operation (Some first) rest)) old
+        (came_to (not on_scope) operation.at (Ended r)) new
     value_ended r is none runs = call_ended (by_name false on_scope) (passed operation None false on_scope first rest) old
         new (not on_scope)
-        operation.at r (rw (is, is_guarded, none, (none_lends is_ref of_method none).1) at runs)
+        operation.at r (rw (reads, is, is_guarded, none, (none_lends is_ref of_method none).1) at runs)
 
-    pub value_found : (f : Function H) (call : MethodCall H) → d ≡ dispatched.Found f → (is_ref || of_method) ≡ false →
-        (of_method ≡ false → IsEntered call (method.Alone f ((if is_ref then copy_of first else first) ∷ rest))) →
-        Dispatches rules (by_name of_method on_scope) (passed operation None guarded on_scope first rest) old d new →
-        ComesTo (not on_scope) operation.at rules
-        (dispatch_core rules.setting (by_name false on_scope) (by_value operation (Some first) rest)) old call new
+    pub value_found : (f : Function H) (call : MethodCall H) → d ≡ Enters f → (is_ref || of_method) ≡ false →
+        (of_method ≡ false → IsEntered call (entry.Alone f ((if is_ref then copy_of first else first) ∷ rest))) →
+        Goes read (dispatch_core read.setting (by_name of_method on_scope) (passed operation None guarded on_scope first rest)) old
+        (dispatched_to (by_name of_method on_scope) (passed operation None guarded on_scope first rest) d) new →
+        Goes rules (dispatch_core rules.setting (by_name false on_scope) (by_value operation (Some first) rest)) old
+        (came_to (not on_scope) operation.at call) new
     value_found f call is none alone runs =
         let neither = none_lends is_ref of_method none in
-        call_found operation None false on_scope first rest f call false old new (rw (is, is_guarded, none, neither.1) at runs)
+        call_found operation None false on_scope first rest f call false old new (rw (reads, is, is_guarded, none, neither.1) at runs)
         (λ never. cc) (λ b. rw neither.0 at (alone neither.1))
 
-  module _ (operation : Operation) (on_scope : Bool) (d : Dispatched H) (old new : State S H) where
+  module _ (operation : Operation) (on_scope : Bool) (d : Called (Dynamic H × Bool) (Function H) H) (old new : State S H)
+      {read : Rules S H} (reads : read ≡ rules) where
     -- one without arguments ends
-    pub none_ended : (r : Result (Dynamic H × Bool) (EvalAltResult H)) → d ≡ dispatched.Ended r →
-        Dispatches rules (by_name false on_scope) (by_value operation None []) old d new →
-        ComesOut (not on_scope) operation.at rules (dispatch_core rules.setting (by_name false on_scope) (by_value operation None [])) old
-        (Ended r) new
-    unfolding Dispatches ComesOut
-    none_ended r is runs k = (rw is at runs) k
+    pub none_ended : (r : Result (Dynamic H × Bool) (EvalAltResult H)) → d ≡ Ended r →
+        Goes read (dispatch_core read.setting (by_name false on_scope) (by_value operation None [])) old
+        (dispatched_to (by_name false on_scope) (by_value operation None []) d) new →
+        Goes rules (dispatch_core rules.setting (by_name false on_scope) (by_value operation None [])) old
+        (came_out (not on_scope) operation.at (Ended r)) new
+    unfolding Goes
+    none_ended r is runs k = (rw (reads, is) at runs) k
 
     -- or is of a function
-    pub none_found : (f : Function H) (args : List (Dynamic H)) → d ≡ dispatched.Found f → args ≡ [] →
-        Dispatches rules (by_name false on_scope) (by_value operation None []) old d new →
-        ComesOut (not on_scope) operation.at rules (dispatch_core rules.setting (by_name false on_scope) (by_value operation None [])) old
-        (Enters f args) new
-    unfolding Dispatches ComesOut
-    none_found f args is none runs k = rw none ((rw is at runs) k)
+    pub none_found : (f : Function H) (args : List (Dynamic H)) → d ≡ Enters f → args ≡ [] →
+        Goes read (dispatch_core read.setting (by_name false on_scope) (by_value operation None [])) old
+        (dispatched_to (by_name false on_scope) (by_value operation None []) d) new →
+        Goes rules (dispatch_core rules.setting (by_name false on_scope) (by_value operation None [])) old
+        (came_out (not on_scope) operation.at (Enters (f, args))) new
+    unfolding Goes
+    none_found f args is none runs k = rw none ((rw (reads, is) at runs) k)
 
   module _ (is_fresh : Bool) (pos : Position) (start : List (Frame H) → Local H → Core H) (call : MethodCall H)
       (old middle new : State S H) where
     -- its answer
-    pub ended_out : (r : Result (Dynamic H × Bool) (EvalAltResult H)) → call ≡ method.Ended r →
-        ComesTo is_fresh pos rules start old call new → ComesOut is_fresh pos rules start old (Ended r) new
-    unfolding ComesTo ComesOut
+    pub ended_out : (r : Result (Dynamic H × Bool) (EvalAltResult H)) → call ≡ Ended r →
+        Goes rules start old (came_to is_fresh pos call) new → Goes rules start old (came_out is_fresh pos (Ended r)) new
+    unfolding Goes
     ended_out r is runs k = (rw is at runs) k
 
     -- that of a method which was entered
     pub method_out : (f : Function H) (args : List (Dynamic H)) (r : Result (Dynamic H × Bool) (EvalAltResult H)) →
-        call ≡ method.OnTarget f args → ComesTo is_fresh pos rules start old call middle →
-        MarkedRuns rules (EnterOnFocus f is_fresh args pos) middle r new → ComesOut is_fresh pos rules start old (Ended r) new
-    unfolding ComesTo ComesOut Steps
+        call ≡ Enters (entry.OnTarget f args) → Goes rules start old (came_to is_fresh pos call) middle →
+        Steps rules (EnterOnFocus f is_fresh args pos) middle (ended_or_changed r) new →
+        Goes rules start old (came_out is_fresh pos (Ended r)) new
+    unfolding Goes
     method_out f args r is to runs k = (rw is at to) k ⨾ runs k
 
     -- a function that is to be entered by itself
-    pub alone_out : (f : Function H) (args : List (Dynamic H)) → call ≡ method.Alone f args →
-        ComesTo is_fresh pos rules start old call new → ComesOut is_fresh pos rules start old (Enters f args) new
-    unfolding ComesTo ComesOut
+    pub alone_out : (f : Function H) (args : List (Dynamic H)) → call ≡ Enters (entry.Alone f args) →
+        Goes rules start old (came_to is_fresh pos call) new → Goes rules start old (came_out is_fresh pos (Enters (f, args))) new
+    unfolding Goes
     alone_out f args is runs k = (rw is at runs) k
 
-  module _ (is_fresh : Bool) (pos : Position) (outcome : Outcome H) where
+  module _ (is_fresh : Bool) (pos : Position) (outcome : Called (Dynamic H × Bool) (Function H × List (Dynamic H)) H) where
     -- how it ends
     pub out_runs : (start : List (Frame H) → Local H → Core H) (old middle new : State S H)
-        (r : Result (Dynamic H × Bool) (EvalAltResult H)) → ComesOut is_fresh pos rules start old outcome middle →
-        RunsFrom rules (came_out is_fresh pos outcome) middle r new → RunsFrom rules start old r new
-    unfolding ComesOut RunsFrom
+        (r : Result (Dynamic H × Bool) (EvalAltResult H)) → Goes rules start old (came_out is_fresh pos outcome) middle →
+        Goes rules (came_out is_fresh pos outcome) middle (core (ended_or_changed r)) new →
+        Goes rules start old (core (ended_or_changed r)) new
+    unfolding Goes
     out_runs start old middle new r out runs k = out k ⨾ runs k
 
     -- a call that has ended is at its end
     pub ended_runs : (r : Result (Dynamic H × Bool) (EvalAltResult H)) (s : State S H) → outcome ≡ Ended r →
-        RunsFrom rules (came_out is_fresh pos outcome) s r s
-    unfolding RunsFrom
+        Goes rules (came_out is_fresh pos outcome) s (core (ended_or_changed r)) s
+    unfolding Goes
     ended_runs r s is k = rw is here
 
     -- and a function that is entered runs to its end
     pub entered_runs : (f : Function H) (args : List (Dynamic H)) (old new : State S H) (r : Result (Dynamic H) (EvalAltResult H))
-        (q : Result (Dynamic H × Bool) (EvalAltResult H)) → outcome ≡ Enters f args → q ≡ with_changed false r →
+        (q : Result (Dynamic H × Bool) (EvalAltResult H)) → outcome ≡ Enters (f, args) → q ≡ with_changed false r →
         Runs rules (EnterFunction (entry_of f NoThis is_fresh args pos old.local)) old r new →
-        RunsFrom rules (came_out is_fresh pos outcome) old q new
-    unfolding RunsFrom Steps
+        Goes rules (came_out is_fresh pos outcome) old (core (ended_or_changed q)) new
+    unfolding Goes
     entered_runs f args old new r q enters is runs k = rw (enters, is, unchanged_result_ends r) (runs k)

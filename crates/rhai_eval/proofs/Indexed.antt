@@ -9,11 +9,10 @@ use Rattle.rhai_machine.specs.language.Setting.{Rules}
 use Rattle.rhai_machine.specs.language.State.{State}
 use Rattle.rhai_machine.specs.language.Frames.{Call, ended, ended_or_changed, Ask, Fail}
 use Rattle.rhai_machine.specs.language.Members.{focus_of, get_core, get_item, set_core, set_item}
-use Rattle.rhai_machine.specs.language.Runs.{Runs, Steps}
+use Rattle.rhai_machine.specs.language.Runs.{Runs, Steps, Goes}
 use Rattle.rhai_laws.specs.Kept.{Kept}
 use Rattle.rhai_laws.proofs.KeptLaws.{kept}
 use Rattle.rhai_laws.proofs.ScriptMemory.{runs_up_to_memory, steps_with_memory}
-use Rattle.rhai_calls.specs.ToldChanges.{MarkedRuns}
 use Rattle.rhai_eval.specs.Ends.{EndsFrom, EndsChanged}
 use Rattle.rhai_eval.specs.Indexing.{item_by}
 use Rattle.rhai_eval.proofs.ChangedCalls.{ends_changed}
@@ -25,14 +24,14 @@ both_are xs a b x y is first second = rw (first, second) at is
 module _ {S H : Type 0} (rules : Rules S H) where
   -- memory runs out before an indexer is asked
   pub asking_runs_out : (call : Call H) (s : State S H) (pos : Position) → Steps rules (Ask call) s (Fail (error.ErrorOutOfMemory pos)) s
-  unfolding Steps
+  unfolding Goes
   asking_runs_out call s pos k = out_before_step {at = pos} here
 
   module _ (index : Dynamic H) (pos : Position) (old new : State S H) where
     module _ (r : Result (Dynamic H) (EvalAltResult H)) (runs : Runs rules (Ask (get_item pos (focus_of old.local) index)) old r new) where
       -- an item that is got
       pub got_ends : EndsFrom rules (get_core (item_by index pos true)) old r new
-      unfolding Steps
+      unfolding Goes
       got_ends = record {
         runs = λ memory k. steps_with_memory rules r k new memory (runs k);
         up_to = λ k. runs_up_to_memory rules (runs k);
@@ -42,10 +41,10 @@ module _ {S H : Type 0} (rules : Rules S H) where
       got_kept = kept rules (Ask (get_item pos (focus_of old.local) index)) (ended r) old new tt runs
 
     module _ (guarded : Bool) (v : Dynamic H) (r : Result (Dynamic H × Bool) (EvalAltResult H))
-        (runs : MarkedRuns rules (Ask (set_item pos guarded (focus_of old.local) index v)) old r new) where
+        (runs : Steps rules (Ask (set_item pos guarded (focus_of old.local) index v)) old (ended_or_changed r) new) where
       -- and one that is set
       pub set_ends : EndsChanged rules (set_core false (item_by index pos guarded) v) old r new
-      unfolding Steps
+      unfolding Goes
       set_ends = ends_changed rules old new r (set_core false (item_by index pos guarded) v) runs
 
       pub set_kept : Kept rules old new

@@ -10,14 +10,14 @@ use Rattle.rhai_places.specs.Targets.{shown}
 use Rattle.rhai_machine.specs.language.Setting.{Setting, Rules}
 use Rattle.rhai_machine.specs.language.State.{HasMemory, Local, State}
 use Rattle.rhai_machine.specs.machine.Memory.{◌⨾◌}
-use Rattle.rhai_machine.specs.language.Frames.{Core, Frame, ended_or_changed, PartMethod}
+use Rattle.rhai_machine.specs.language.Frames.{Core, Frame, ended_or_changed, PartMethod, core}
 use Rattle.rhai_machine.specs.language.Members.{focused_on}
 use Rattle.rhai_machine.specs.language.Methods.{Method, method_core}
+use Rattle.rhai_machine.specs.language.Runs.{Goes}
 use Rattle.rhai_laws.specs.Kept.{Kept}
 use Rattle.rhai_laws.proofs.Keeping.{Asked, Keeps, calm, quiet, through}
 use Rattle.rhai_laws.proofs.KeptLaws.{kept_from}
 use Rattle.rhai_laws.proofs.KeptMethods.{method_keeps}
-use Rattle.rhai_steps.specs.OnFocus.{RunsFrom}
 use Rattle.rhai_methods.specs.Targets.{ComesBack, on_target, frames_waiting}
 use Rattle.rhai_methods.proofs.TargetLemmas.{answer_comes}
 use Rattle.rhai_eval.specs.Ends.{EndsAlone, EndsChanged}
@@ -39,15 +39,15 @@ module _ {H : Type 0} (a : Asked) where
 
 module _ {S H : Type 0} (rules : Rules S H) (method : Method) (args : List (Dynamic H)) (what : Part H) (place : Dynamic H)
     (old new : State S H) (r : Result (Dynamic H × Bool) (EvalAltResult H))
-    (runs : RunsFrom rules (on_target rules.setting method args what place) old r new) where
+    (runs : Goes rules (on_target rules.setting method args what place) old (core (ended_or_changed r)) new) where
   -- over any stack it ends as it runs
   pub target_ends : EndsChanged rules (on_target rules.setting method args what place) old r new
-  unfolding RunsFrom
+  unfolding Goes
   target_ends = ends_changed rules old new r (on_target rules.setting method args what place) runs
 
   -- and keeps what every run keeps
   pub target_kept : Kept rules old new
-  unfolding RunsFrom
+  unfolding Goes
   target_kept = kept_from rules (on_target rules.setting method args what place [] old.local) (ended_or_changed r) old new
       (λ a. begin_keeps a rules.setting method args what place [] old.local) (runs [])
 
@@ -59,10 +59,11 @@ module _ {S H : Type 0} (rules : Rules S H) (method : Method) (args : List (Dyna
 
   -- a method on a part runs with what comes of its answer
   pub part_runs : (answer result : Result (Dynamic H × Bool) (EvalAltResult H)) →
-      RunsFrom rules (method_core rules.setting method args x) (working x old) answer (working y new) →
+      Goes rules (method_core rules.setting method args x) (working x old) (core (ended_or_changed answer)) (working y new) →
       ComesBack rules.setting.host_type (part.Of spot y) above method.at answer result left →
-      RunsFrom rules (on_target rules.setting method args (part.Of spot x) above) (working x old) result (working left new)
-  unfolding RunsFrom
+      Goes rules (on_target rules.setting method args (part.Of spot x) above) (working x old) (core (ended_or_changed result))
+      (working left new)
+  unfolding Goes
   part_runs answer result runs comes k =
       runs (PartMethod above spot method.at ∷ k) ⨾ answer_comes rules above y spot method.at k new answer result left comes
 
@@ -78,7 +79,7 @@ answer_memory host what place pos (Err e) result left comes memory =
 
 -- a call that had memory comes to what it leaves with nothing behind it
 pub alone : {S H : Type 0} (rules : Rules S H) (begins : List (Frame H) → Local H → Core H) (old new : State S H)
-    (answer : Result (Dynamic H × Bool) (EvalAltResult H)) → RunsFrom rules begins old answer new → HasMemory answer →
+    (answer : Result (Dynamic H × Bool) (EvalAltResult H)) → Goes rules begins old (core (ended_or_changed answer)) new → HasMemory answer →
     EndsAlone rules begins old new
-unfolding RunsFrom
+unfolding Goes
 alone rules begins old new answer runs memory = (answer, (ends_changed rules old new answer begins runs).runs memory [])

@@ -1,5 +1,5 @@
 -- What a host is told of a part's run.
-use Rattle.std.proofs.Common.{◌≡◌, ◌∙◌, ℕ, Bool, List, [], Option, Some, None, Result, refl, sym, ap}
+use Rattle.std.proofs.Common.{◌≡◌, ◌∙◌, ℕ, Bool, List, [], Option, Some, None, Result, sym, ap}
 use Rattle.std.specs.Prelude.{IfSome, is_some}
 use Rattle.rhai_state.specs.declared.scope.Scope.{Scope}
 use Rattle.rhai_values.specs.declared.base.value.Dynamic.{Dynamic}
@@ -10,9 +10,11 @@ use Rattle.rhai_state.specs.Native.{Natives}
 use Rattle.rhai_machine.specs.language.Setting.{Offer, Rules, rules_of}
 use Rattle.rhai_machine.specs.language.State.{Held, State}
 use Rattle.rhai_machine.specs.language.Frames.{Control}
-use Rattle.rhai_machine.specs.language.Runs.{Steps, Runs}
+use Rattle.rhai_machine.specs.language.Runs.{Runs, Goes}
 use Rattle.rhai_machine.proofs.LanguageLaws.{script_limits_agree}
 use Rattle.rhai_laws.proofs.ScriptMemory.{runs_up_to_memory, steps_with_memory}
+use Rattle.rhai_state.specs.declared.session.Session.{Session}
+use Rattle.rhai_steps.specs.Sessions as sessions
 use Rattle.rhai_steps.specs.States.{holding, state_of}
 use Rattle.rhai_context.specs.declared.Context.{Context}
 use Rattle.rhai_context.specs.Ends.{unit}
@@ -23,11 +25,18 @@ use Rattle.rhai_eval.specs.declared.engine.Engine.{Engine}
 use Rattle.rhai_eval.specs.Ends.{AgreesAbove, EndsAs}
 use Rattle.rhai_eval.specs.States.{limits_of, offer_of, under}
 
+-- a session of an engine has the engine's rules
+pub session_rules : {S H : Type 0} (host : H → List ℕ) (natives : Natives S H) (engine : Engine H) (session : Session H) →
+    session.limits ≡ limits_of engine → sessions.offer_of session ≡ offer_of engine →
+    sessions.under host session natives ≡ under host engine natives
+session_rules host natives engine session limits offer = ap (λ (l : Limits). rules_of l host (sessions.offer_of session) natives) limits
+    ∙ ap (λ (o : Offer _). rules_of (limits_of engine) host o natives) offer
+
 -- what a run reads of an engine has the engine's rules
 pub same_rules : {S H : Type 0} (host : H → List ℕ) (natives : Natives S H) (engine : Engine H) (read : Evaluator H) →
-    read.limits.now ≡ limits_of engine → offered read ≡ offer_of engine → under_what_is_read host read natives ≡ under host engine natives
-same_rules host natives engine read limits offer = ap (λ (l : Limits). rules_of l host (offered read) natives) limits
-    ∙ ap (λ (o : Offer _). rules_of (limits_of engine) host o natives) offer
+    read.session.limits ≡ limits_of engine → offered read ≡ offer_of engine →
+    under_what_is_read host read natives ≡ under host engine natives
+same_rules host natives engine read limits offer = session_rules host natives engine read.session limits offer
 
 -- of so many places nothing is told
 abbrev pub five : {X : Type 0} → X → Unit {0} × (Unit {0} × (Unit {0} × (Unit {0} × (Unit {0} × X))))
@@ -92,7 +101,7 @@ module _ {S H : Type 0} (rules : Rules S H) where
   -- a run from a control is the end of its part
   pub ends_as : (c : Control H) (old new : State S H) (r : Result (Dynamic H) (EvalAltResult H)) → Runs rules c old r new →
       EndsAs rules c old r new
-  unfolding Steps
+  unfolding Goes
   ends_as c old new r runs = record {
     runs = λ memory k. steps_with_memory rules r k new memory (runs k);
     up_to = λ k. runs_up_to_memory rules (runs k);
@@ -105,5 +114,5 @@ module _ {S H : Type 0} (rules : Rules S H) where
   -- and agrees with those under higher limits
   pub agrees_above : (c : Control H) (old new : State S H) (r : Result (Dynamic H) (EvalAltResult H)) → Runs rules c old r new →
       AgreesAbove rules c old r new
-  unfolding Steps
+  unfolding Goes
   agrees_above c old new r runs memory = script_limits_agree rules c old new r (steps_with_memory rules r [] new memory (runs []))

@@ -5,16 +5,17 @@ use Rattle.rhai_values.specs.declared.base.value.Dynamic.{Dynamic}
 use Rattle.rhai_state.specs.declared.error.EvalAltResult.{EvalAltResult}
 use Rattle.rhai_state.specs.declared.error.EvalAltResult.TheVariants as error
 use Rattle.rhai_state.specs.Errors.{is_out_of_memory}
-use Rattle.rhai_machine.specs.machine.Memory.{here, next, ◌⨾◌}
+use Rattle.rhai_machine.specs.machine.Memory.{here, next, ◌⨾◌, Leads}
 use Rattle.rhai_machine.specs.machine.Point.{after}
-use Rattle.rhai_machine.specs.language.Setting.{Rules}
+use Rattle.rhai_machine.specs.language.Setting.{Rules, cut}
 use Rattle.rhai_laws.proofs.ScriptMemory.{with_memory}
 use Rattle.rhai_machine.specs.language.State.{State}
 use Rattle.rhai_machine.specs.language.Frames.{Enter, Top}
 use Rattle.rhai_machine.specs.language.Unwinding.{script_ended}
-use Rattle.rhai_machine.specs.language.Runs.{Goes, Steps, Runs}
+use Rattle.rhai_machine.specs.language.Runs.{Runs, Goes}
 use Rattle.rhai_machine.specs.language.Script.{EndsAsMachine, AgreesWithHigherLimits, start_of_script, end_of_script}
 use Rattle.rhai_machine.proofs.LanguageLaws.{limits_agree_from}
+use Rattle.rhai_machine.specs.language.Language.{machine}
 
 -- where a script ends out of memory, its statements did
 module _ {H : Type 0} (P : Type 0) where
@@ -36,13 +37,13 @@ module _ {S H : Type 0} (rules : Rules S H)
   -- the statements, and then the frame of the script's end
   pub script_goes : (outcome r : Result (Dynamic H) (EvalAltResult H)) → Runs rules (Enter statements false) old outcome new →
       IfOk outcome (λ v. r ≡ Ok v) → IfErr outcome (λ e. r ≡ script_ended map_exit e) →
-      Goes rules (start_of_script statements map_exit old) (end_of_script r new)
-  unfolding after Steps
+      Leads (machine rules) (cut rules) (start_of_script statements map_exit old) (end_of_script r new)
+  unfolding after Goes
   script_goes (Ok v) r runs value fault = rw value (runs (Top map_exit ∷ []) ⨾ next here)
   script_goes (Err e) r runs value fault = rw fault (runs (Top map_exit ∷ []) ⨾ next here)
 
   pub script_ends : (r : Result (Dynamic H) (EvalAltResult H)) →
-      Goes rules (start_of_script statements map_exit old) (end_of_script r new) →
+      Leads (machine rules) (cut rules) (start_of_script statements map_exit old) (end_of_script r new) →
       EndsAsMachine rules statements map_exit old r new
   script_ends r goes memory = with_memory rules r new memory goes
 

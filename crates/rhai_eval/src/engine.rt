@@ -3,15 +3,13 @@
 ghost use Rattle.std.specs.Prelude.{◌≡◌, ◌<◌, ◌≤◌, ◌+◌, ◌-◌, ◌^◌, OnOk, IfErr, [], true, false};
 ghost use Rattle.rhai_state.specs.declared.error.EvalAltResult.TheVariants as error;
 ghost use Rattle.rhai_state.specs.Limits.{limit_of};
-ghost use Rattle.rhai_machine.specs.language.Setting.{globals_of};
-ghost use Rattle.rhai_steps.specs.Offers.{globals_in};
-ghost use Rattle.rhai_eval_core.specs.States.{offer_of as offered};
+ghost use Rattle.rhai_steps.specs.Sessions.{offer_of as offered};
 ghost use Rattle.rhai_eval.specs.States.{limits_of, offer_of, unlimited};
 
 use rhai_eval_core::evaluator::Evaluator;
-use rhai_functions::function::Offered;
 use rhai_state::error::EvalAltResult;
 use rhai_state::limits::{Limits, operation_limit};
+use rhai_state::session::{Offered, Session};
 use rhai_state::state::GlobalRuntimeState;
 use rhai_steps::charges;
 use rhai_tree::position::Position;
@@ -95,25 +93,14 @@ impl<H: Host> Engine<H> {
         }
     }
 
-    /// Collects the engine's modules that names lead to.
-    pub(crate) fn offered(&self) -> Offered<'_, H>
-        ensures { globals_in result ≡ globals_of (offer_of self.now) }
-    {
-        Offered {
-            global_modules: self.global_modules.as_slice(),
-            global_sub_modules: &self.global_sub_modules,
-        }
-    }
-
-    /// Builds the evaluator of a run: what a run reads of the engine, with the engine's own limits.
-    pub(crate) fn evaluator<'e>(&'e self, alloc: Global, limits: &'e Limits) -> Evaluator<'e, H>
-        requires { limits.now ≡ limits_of self.now }
-        ensures limits { result.limits.now ≡ limits_of self.now }
+    /// Collects what a run has from the engine. It takes no memory.
+    pub(crate) fn session(&self, alloc: Global) -> Session<'_, H>
+        ensures limits { result.limits ≡ limits_of self.now }
         ensures offer { offered result ≡ offer_of self.now }
     {
-        Evaluator {
+        Session {
             alloc,
-            limits,
+            limits: self.limits(),
             fast_operators: self.fast_operators,
             allow_shadowing: self.allow_shadowing,
             fail_on_invalid_map_property: self.fail_on_invalid_map_property,
@@ -122,6 +109,16 @@ impl<H: Host> Engine<H> {
                 global_sub_modules: &self.global_sub_modules,
             },
             modules: &self.modules,
+        }
+    }
+
+    /// Makes the evaluator of a run, with the engine's own session.
+    pub(crate) fn evaluator(&self, alloc: Global) -> Evaluator<'_, H>
+        ensures limits { result.session.limits ≡ limits_of self.now }
+        ensures offer { offered result.session ≡ offer_of self.now }
+    {
+        Evaluator {
+            session: self.session(alloc),
         }
     }
 

@@ -25,8 +25,8 @@ use Rattle.rhai_state.specs.Scope.{entries_of, name_of}
 use Rattle.rhai_functions.specs.Entering.{parameters}
 use Rattle.rhai_functions.proofs.Pushing.{parameter_names}
 use Rattle.rhai_machine.specs.machine.Machine.{Go}
-use Rattle.rhai_machine.specs.machine.Memory.{here, out_before_step, ◌⨾◌}
-use Rattle.rhai_machine.specs.language.Setting.{Rules, limit_under}
+use Rattle.rhai_machine.specs.machine.Memory.{here, out_before_step, ◌⨾◌, Leads}
+use Rattle.rhai_machine.specs.language.Setting.{Rules, limit_under, cut}
 use Rattle.rhai_machine.specs.language.State.{Held, Local, State, Answers, deeper}
 use Rattle.rhai_machine.specs.language.Values.{unit_value}
 use Rattle.rhai_machine.specs.language.Activations.{ThisFrom, NoThis, OwnThis, TheFocus, Entered, CallExit}
@@ -35,7 +35,7 @@ use Rattle.rhai_machine.specs.language.Bodies.{returned}
 use Rattle.rhai_machine.specs.language.Bodies.{source_of, statements_of}
 use Rattle.rhai_machine.specs.language.Bodies.{this_by, variables_after, variables_back, variables_before, with_environ}
 use Rattle.rhai_machine.specs.language.Frames.{Frame, core, ended, Enter, EnterFunction, Back, Fail, CallEnd}
-use Rattle.rhai_machine.specs.language.Runs.{at, with_core, Goes, Runs, Steps}
+use Rattle.rhai_machine.specs.language.Runs.{at, with_core, Runs, Steps, Goes}
 use Rattle.rhai_steps.specs.States.{local_of, state_of, surroundings_of}
 use Rattle.rhai_steps.proofs.Pieces.{step_by, told}
 use Rattle.rhai_bodies.specs.Closing.{outcome_of, taken_back, Ends}
@@ -48,6 +48,7 @@ use Rattle.rhai_laws.proofs.Keeping.{few_parameters}
 use Rattle.rhai_eval_core.specs.Bodies.{behind_call, entered, this_and_focus_again}
 use Rattle.rhai_functions.specs.declared.function.Function.{Function}
 use Rattle.rhai_machine.specs.language.Calls.{entry_of}
+use Rattle.rhai_machine.specs.language.Language.{machine}
 use Rattle.rhai_eval_core.specs.States.{state_in}
 use Rattle.rhai_eval_core.proofs.CallSteps.{charged_on, refused_on}
 use Rattle.rhai_eval_core.proofs.FormNames.{block_value}
@@ -224,7 +225,8 @@ module _ {S H : Type 0} (rules : Rules S H) where
   -- the end of a call takes back what it has to, and makes of the body's outcome what it has to
   closes : (exit : CallExit H) (outcome result : Result (Dynamic H) (EvalAltResult H)) → Answers result (outcome_of exit outcome) →
       (k : List (Frame H)) (s : State S H) →
-      Goes rules (at (ended outcome) (CallEnd exit ∷ k) s) (at (ended result) k (record s { local = called_back exit s.local }))
+      Leads (machine rules) (cut rules) (at (ended outcome) (CallEnd exit ∷ k) s)
+      (at (ended result) k (record s { local = called_back exit s.local }))
   closes exit (Ok v) result is k s =
       step_by rules _ _ (Go (core (Back v) k (called_back exit s.local))) refl
       (told rules result (Ok v) is k (record s { local = called_back exit s.local }))
@@ -247,7 +249,7 @@ module _ {S H : Type 0} (rules : Rules S H) where
     full = is_full rules.setting.limits (length (variables_before e.is_fresh called.scope)) (length e.def.params)
 
     -- once its call is charged a function is opened
-    opens : (k : List (Frame H)) → Goes rules (at (EnterFunction e) k (state_of t old scope held))
+    opens : (k : List (Frame H)) → Leads (machine rules) (cut rules) (at (EnterFunction e) k (state_of t old scope held))
         (with_core (opened_function rules.setting.limits e k called) (state_of t mid scope held))
     opens k = charged_on rules t old mid scope held (EnterFunction e) e.at k (λ l. opened_function rules.setting.limits e k l) refl room
         charged
@@ -255,27 +257,28 @@ module _ {S H : Type 0} (rules : Rules S H) where
     -- one that may not be entered
     pub body_refused : (x : EvalAltResult H) → entry_at ≡ Err x →
         Steps rules (EnterFunction e) (state_of t old scope held) (Fail x) (state_of t mid scope held)
-    unfolding Steps
+    unfolding Goes
     body_refused x is k = opens k ⨾ rw (refuses e k called deep full x is) here
 
     -- one without statements is passed over
     pub body_passed : deep ≡ false → full ≡ false → statements_of e.def.body ≡ [] →
         Steps rules (EnterFunction e) (state_of t old scope held) (Back unit_value) (state_of t mid scope held)
-    unfolding Steps
+    unfolding Goes
     body_passed deep_is full_is none k = opens k ⨾ rw (passes e k called rules.setting.limits deep_is full_is none) here
 
     module _ (deep_is : deep ≡ false) (full_is : full ≡ false) where
       unwound : (k : List (Frame H)) →
-          Goes rules (at (Fail (error.ErrorOutOfMemory e.at)) (CallEnd (exit_of e called) ∷ k)
+          Leads (machine rules) (cut rules) (at (Fail (error.ErrorOutOfMemory e.at)) (CallEnd (exit_of e called) ∷ k)
           (record (state_of t mid scope held) { local = entered_local e called }))
           (at (Fail (error.ErrorOutOfMemory e.at)) k (state_of t mid scope held))
       unwound k = step_by rules _ _
           (Go (core (Fail (error.ErrorOutOfMemory e.at)) k (called_back (exit_of e called) (entered_local e called)))) refl
-          (subst (λ (l : Local H). Goes rules (with_core (core (Fail (error.ErrorOutOfMemory e.at)) k l) (state_of t mid scope held))
+          (subst (λ (l : Local H).
+          Leads (machine rules) (cut rules) (with_core (core (Fail (error.ErrorOutOfMemory e.at)) k l) (state_of t mid scope held))
           (at (Fail (error.ErrorOutOfMemory e.at)) k (state_of t mid scope held))) (sym (taken_back_at_once e called)) here)
 
       body_runs_out_in : (stmts : List Stmt) → statements_of e.def.body ≡ stmts → (k : List (Frame H)) →
-          Goes rules (with_core (opened_function rules.setting.limits e k called) (state_of t mid scope held))
+          Leads (machine rules) (cut rules) (with_core (opened_function rules.setting.limits e k called) (state_of t mid scope held))
           (at (Fail (error.ErrorOutOfMemory e.at)) k (state_of t mid scope held))
       body_runs_out_in [] none k = rw (passes e k called rules.setting.limits deep_is full_is none) (out_before_step {at = e.at} here)
       body_runs_out_in (stmt ∷ stmts) is k =
@@ -285,7 +288,7 @@ module _ {S H : Type 0} (rules : Rules S H) where
       -- memory runs out while it is opened
       pub body_runs_out : Steps rules (EnterFunction e) (state_of t old scope held) (Fail (error.ErrorOutOfMemory e.at))
           (state_of t mid scope held)
-      unfolding Steps
+      unfolding Goes
       body_runs_out k = opens k ⨾ body_runs_out_in (statements_of e.def.body) refl k
 
       -- its statements run, and its end takes back what it has to
@@ -294,7 +297,7 @@ module _ {S H : Type 0} (rules : Rules S H) where
           outcome new → Answers result (outcome_of (exit_of e called) outcome) →
           Runs rules (EnterFunction e) (state_of t old scope held) result
           (record new { local = called_back (exit_of e called) new.local })
-      unfolding Steps
+      unfolding Goes
       body_runs outcome result new some runs is k =
           opens k ⨾ rw (enters e k called rules.setting.limits deep_is full_is some)
           (runs (CallEnd (exit_of e called) ∷ k) ⨾ closes (exit_of e called) outcome result is k new)
@@ -314,9 +317,9 @@ module _ {S H : Type 0} (rules : Rules S H) (e : Entered H) (t : S) (old mid : G
   -- its charge is refused
   pub refused_ends : (x : EvalAltResult H) → limit_under rules ≤ old.num_operations → x ≡ error.ErrorTooManyOperations e.at → mid ≡ old →
       (run : Context H) → run ≡ record start { global = mid } → ends_as (Err x) t run
-  unfolding Steps
+  unfolding Goes
   refused_ends x spent is same run alike k =
-      subst (λ (s : State S H). Goes rules (at (EnterFunction e) k begun) (at (Fail x) k s))
+      subst (λ (s : State S H). Leads (machine rules) (cut rules) (at (EnterFunction e) k begun) (at (Fail x) k s))
       (ap (λ (global : GlobalRuntimeState H). state_of t global scope held) same
       ∙ sym (untouched t e old scope held run (ap (λ (r : Context H). r.global) alike ∙ same)
       (ap (λ (r : Context H). entries_of r.scope) alike ∙ scope_is) (ap (λ (r : Context H). r.this) alike ∙ this_is)))

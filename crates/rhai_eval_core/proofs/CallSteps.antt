@@ -22,9 +22,9 @@ use Rattle.rhai_state.specs.declared.error.EvalAltResult.{EvalAltResult}
 use Rattle.rhai_state.specs.declared.error.EvalAltResult.TheVariants as error
 use Rattle.rhai_state.specs.Errors.{is_out_of_memory}
 use Rattle.rhai_machine.specs.machine.Machine.{Go, Charge}
-use Rattle.rhai_machine.specs.machine.Memory.{here, out_before_step}
+use Rattle.rhai_machine.specs.machine.Memory.{here, out_before_step, Leads}
 use Rattle.rhai_machine.specs.machine.Point.{Point}
-use Rattle.rhai_machine.specs.language.Setting.{Rules, limit_under}
+use Rattle.rhai_machine.specs.language.Setting.{Rules, limit_under, cut}
 use Rattle.rhai_machine.specs.language.State.{Held, Local, State}
 use Rattle.rhai_machine.specs.language.Frames.{Operation, Control, Frame, Core, core, on_value, Argument, Back, CallNamed, EnterFunction}
 use Rattle.rhai_machine.specs.language.Frames.{Fail, OpenExpr}
@@ -36,13 +36,14 @@ use Rattle.rhai_machine.specs.language.Arguments.{pointer_core, taken, pointer_w
 use Rattle.rhai_machine.specs.language.Functions.{Function}
 use Rattle.rhai_machine.specs.language.Values.{bool_value}
 use Rattle.rhai_state.specs.Scope.{index_of}
-use Rattle.rhai_machine.specs.language.Language.{move}
-use Rattle.rhai_machine.specs.language.Runs.{at, with_core, Goes}
+use Rattle.rhai_machine.specs.language.Language.{move, machine}
+use Rattle.rhai_machine.specs.language.Runs.{at, with_core}
 use Rattle.rhai_steps.specs.States.{local_of, state_of}
 use Rattle.rhai_steps.proofs.Pieces.{step_by}
 use Rattle.rhai_call_forms.specs.Forms.{is_operator_form}
 use Rattle.rhai_call_forms.proofs.FormLemmas.{function_goes}
-use Rattle.rhai_calls.specs.Called.{came_out, Ended, Enters, Outcome}
+use Rattle.rhai_calls.specs.declared.dispatch.Called.TheVariants.{Ended, Enters}
+use Rattle.rhai_calls.specs.Called.{came_out, Outcome}
 use Rattle.rhai_machine.specs.language.Activations.{NoThis}
 use Rattle.rhai_machine.specs.language.Calls.{entry_of, races}
 use Rattle.rhai_callees.specs.Kept.{HasKept}
@@ -79,7 +80,7 @@ module _ {S H : Type 0} (rules : Rules S H) where
       (plain : is_unqualified call.namespace.path ≡ true)
       (form : is_operator_form rules.setting.offer.fast_operators call.op_token call.args ≡ false) where
     -- a call that is no operator on its operands begins as a keyword does, or as a call by name
-    pub begins_call : Goes rules (at (OpenExpr (layer.Expr::FnCall call pos)) k s)
+    pub begins_call : Leads (machine rules) (cut rules) (at (OpenExpr (layer.Expr::FnCall call pos)) k s)
         (with_core (called (record { name = call.name; token = call.op_token; at = pos }) call.args call.capture_parent_scope k s.local) s)
     begins_call =
         step_by rules _ _ (Go (called (record { name = call.name; token = call.op_token; at = pos }) call.args call.capture_parent_scope k
@@ -109,11 +110,12 @@ module _ {S H : Type 0} (rules : Rules S H) where
       (charges : move rules.setting (core c k (local_of old scope held)) ≡ Charge pos (d (local_of old scope held))) where
     -- a charge that leads to another stack
     pub charged_on : old.num_operations < limit_under rules → new ≡ record old { num_operations = old.num_operations + 1 } →
-        Goes rules (at c k (state_of t old scope held)) (with_core (d (local_of new scope held)) (state_of t new scope held))
+        Leads (machine rules) (cut rules) (at c k (state_of t old scope held))
+        (with_core (d (local_of new scope held)) (state_of t new scope held))
     charged_on room is = step_by rules _ _ _ charges (rw (lt-ltb _ _ room, is) here)
 
     pub refused_on : (x : EvalAltResult H) → limit_under rules ≤ old.num_operations → x ≡ error.ErrorTooManyOperations pos → new ≡ old →
-        Goes rules (at c k (state_of t old scope held)) (at (Fail x) k (state_of t new scope held))
+        Leads (machine rules) (cut rules) (at c k (state_of t old scope held)) (at (Fail x) k (state_of t new scope held))
     refused_on x full is same = step_by rules _ _ _ charges (rw (le-ltb _ _ full, is, same) here)
 
   -- an argument is taken behind those before it, or refused
@@ -127,14 +129,14 @@ module _ {S H : Type 0} (rules : Rules S H) where
 
     pub taken_on : (flattened : Bool) (more : List (Dynamic H)) → flattens purpose ≡ flattened →
         HasKept (taken flattened l.local.around.cells v pos) made more →
-        Goes rules (at (Back v) (CallArgument purpose made pos rest ∷ k) l)
+        Leads (machine rules) (cut rules) (at (Back v) (CallArgument purpose made pos rest ∷ k) l)
         (with_core (arguments_core rules.setting purpose more rest k l.local) l)
     taken_on flattened more is kept = step_by rules _ _ _ (ap Go (rw is (takes (taken flattened l.local.around.cells v pos) more kept)))
         here
 
     pub taken_fails : (flattened : Bool) (e : EvalAltResult H) → flattens purpose ≡ flattened →
         (is_out_of_memory e ≡ false → taken flattened l.local.around.cells v pos ≡ Err e) →
-        Goes rules (at (Back v) (CallArgument purpose made pos rest ∷ k) l) (at (Fail e) k l)
+        Leads (machine rules) (cut rules) (at (Back v) (CallArgument purpose made pos rest ∷ k) l) (at (Fail e) k l)
     taken_fails flattened e is refused = fails_on rules v (CallArgument purpose made pos rest) k l e (λ x. refl)
         (λ m. rw (is, refused m) refl)
 
@@ -156,21 +158,23 @@ module _ {S H : Type 0} (rules : Rules S H) where
   module _ (pointer : FnPtr H) (pos : Position) (args : List Expr) (captures : Bool) (k : List (Frame H)) (s : State S H) where
     -- it is called as the function that it is linked to
     pub calls_linked : {q : Point S (Core H)} (found : Option (Function H)) (function : Function H) → found ≡ Some function →
-        Goes rules (with_core (arguments_core rules.setting (ToCallFunction function pos (out-FnPtr H pointer).curry) [] args
+        Leads (machine rules) (cut rules)
+        (with_core (arguments_core rules.setting (ToCallFunction function pos (out-FnPtr H pointer).curry) [] args
         k s.local) s) q →
-        Goes rules (with_core (pointer_core rules.setting found pointer pos args captures k s.local) s) q
+        Leads (machine rules) (cut rules) (with_core (pointer_core rules.setting found pointer pos args captures k s.local) s) q
     calls_linked found function is goes = rw is goes
 
     -- or by itself
     pub calls_itself : {q : Point S (Core H)} (found : Option (Function H)) → found ≡ None →
-        Goes rules (with_core (unlinked_core rules.setting (out-FnPtr H pointer).kind pointer pos args captures k s.local) s) q →
-        Goes rules (with_core (pointer_core rules.setting found pointer pos args captures k s.local) s) q
+        Leads (machine rules) (cut rules)
+        (with_core (unlinked_core rules.setting (out-FnPtr H pointer).kind pointer pos args captures k s.local) s) q →
+        Leads (machine rules) (cut rules) (with_core (pointer_core rules.setting found pointer pos args captures k s.local) s) q
     calls_itself found is goes = rw is goes
 
   -- a function that a pointer is linked to, unless memory ran out
   module _ (function : Function H) (all : List (Dynamic H)) (pos : Position) (k : List (Frame H)) (s : State S H) where
     abbrev outcome_of : (raced : Bool) → Outcome H
-    outcome_of raced = if raced then Ended (Err (error.ErrorDataRace function.def.name pos)) else Enters function all
+    outcome_of raced = if raced then Ended (Err (error.ErrorDataRace function.def.name pos)) else Enters (function, all)
 
     abbrev entered_by : (raced : Bool) → Core H
     entered_by raced = if raced then core (Fail (error.ErrorDataRace function.def.name pos)) k s.local
@@ -180,23 +184,25 @@ module _ {S H : Type 0} (rules : Rules S H) where
     out_of called = with_core (came_out true pos called k s.local) s
 
     linked_as : (raced : Bool) (called : Outcome H) → called ≡ outcome_of raced →
-        Goes rules (with_core (entered_by raced) s) (out_of called)
+        Leads (machine rules) (cut rules) (with_core (entered_by raced) s) (out_of called)
     linked_as true called is = rw is here
     linked_as false called is = rw is here
 
-    linked_call_runs_out : (raced : Bool) (p : Position) → Goes rules (with_core (entered_by raced) s) (at (Fail (error.ErrorOutOfMemory p)) k s)
+    linked_call_runs_out : (raced : Bool) (p : Position) →
+        Leads (machine rules) (cut rules) (with_core (entered_by raced) s) (at (Fail (error.ErrorOutOfMemory p)) k s)
     linked_call_runs_out true p = out_before_step {at = p} here
     linked_call_runs_out false p = out_before_step {at = p} here
 
     linked_by : (raced : Bool) (called : Outcome H) → Comes called (outcome_of raced) →
-        Goes rules (with_core (entered_by raced) s) (out_of called)
+        Leads (machine rules) (cut rules) (with_core (entered_by raced) s) (out_of called)
     linked_by raced (Ended (Err (error.ErrorOutOfMemory p))) is = linked_call_runs_out raced p
     linked_by raced (Ended (Err e)) is = linked_as raced (Ended (Err e)) (is refl)
     linked_by raced (Ended (Ok v)) is = linked_as raced (Ended (Ok v)) (is tt)
-    linked_by raced (Enters found args) is = linked_as raced (Enters found args) (is tt)
+    linked_by raced (Enters (found, args)) is = linked_as raced (Enters (found, args)) (is tt)
 
     pub linked_goes : (called : Outcome H) → Comes called (linked_call s.local.around.cells function all pos) →
-        Goes rules (with_core (linked_core function pos all k s.local) s) (with_core (came_out true pos called k s.local) s)
+        Leads (machine rules) (cut rules) (with_core (linked_core function pos all k s.local) s)
+        (with_core (came_out true pos called k s.local) s)
     linked_goes called is = linked_by (races s.local.around.cells all) called is
 
   -- a keyword's first argument is what is wanted, and the keyword goes on with that; or it is not, and fails
@@ -226,35 +232,43 @@ module _ {S H : Type 0} (rules : Rules S H) where
     abbrev calls : FnPtr H → Core H
     calls pointer = pointer_called rules pointer pos rest captures k l.local
 
-    pub defined_goes : {q : Point S (Core H)} (text : List ℕ) → Ok text ≡ a_text → Goes rules (with_core (defined text) l) q →
-        Goes rules (Awaits IsDefinedVariable) q
+    pub defined_goes : {q : Point S (Core H)} (text : List ℕ) → Ok text ≡ a_text →
+        Leads (machine rules) (cut rules) (with_core (defined text) l) q →
+        Leads (machine rules) (cut rules) (Awaits IsDefinedVariable) q
     defined_goes text is goes = step_by rules _ _ (Go (defined text)) (ap Go (leads_on defined a_text (Ok text) is)) goes
 
-    pub made_goes : {q : Point S (Core H)} (text : List ℕ) → Ok text ≡ a_text → Goes rules (with_core (made text) l) q →
-        Goes rules (Awaits MakePointer) q
+    pub made_goes : {q : Point S (Core H)} (text : List ℕ) → Ok text ≡ a_text →
+        Leads (machine rules) (cut rules) (with_core (made text) l) q →
+        Leads (machine rules) (cut rules) (Awaits MakePointer) q
     made_goes text is goes = step_by rules _ _ (Go (made text)) (ap Go (leads_on made a_text (Ok text) is)) goes
 
-    pub curries_goes : {q : Point S (Core H)} (pointer : FnPtr H) → Ok pointer ≡ a_pointer → Goes rules (with_core (curries pointer) l) q →
-        Goes rules (Awaits Curry) q
+    pub curries_goes : {q : Point S (Core H)} (pointer : FnPtr H) → Ok pointer ≡ a_pointer →
+        Leads (machine rules) (cut rules) (with_core (curries pointer) l) q →
+        Leads (machine rules) (cut rules) (Awaits Curry) q
     curries_goes pointer is goes = step_by rules _ _ (Go (curries pointer)) (ap Go (leads_on curries a_pointer (Ok pointer) is)) goes
 
-    pub calls_goes : {q : Point S (Core H)} (pointer : FnPtr H) → Ok pointer ≡ a_pointer → Goes rules (with_core (calls pointer) l) q →
-        Goes rules (Awaits CallPointer) q
+    pub calls_goes : {q : Point S (Core H)} (pointer : FnPtr H) → Ok pointer ≡ a_pointer →
+        Leads (machine rules) (cut rules) (with_core (calls pointer) l) q →
+        Leads (machine rules) (cut rules) (Awaits CallPointer) q
     calls_goes pointer is goes = step_by rules _ _ (Go (calls pointer)) (ap Go (leads_on calls a_pointer (Ok pointer) is)) goes
 
     module _ (e : EvalAltResult H) where
-      pub defined_fails : (is_out_of_memory e ≡ false → Err e ≡ a_text) → Goes rules (Awaits IsDefinedVariable) (at (Fail e) k l)
+      pub defined_fails : (is_out_of_memory e ≡ false → Err e ≡ a_text) →
+          Leads (machine rules) (cut rules) (Awaits IsDefinedVariable) (at (Fail e) k l)
       defined_fails told = fails_on rules v (KeywordArgument IsDefinedVariable pos start rest captures) k l e (λ x. refl)
           (λ m. leads_on defined a_text (Err e) (told m))
 
-      pub made_fails : (is_out_of_memory e ≡ false → Err e ≡ a_text) → Goes rules (Awaits MakePointer) (at (Fail e) k l)
+      pub made_fails : (is_out_of_memory e ≡ false → Err e ≡ a_text) →
+          Leads (machine rules) (cut rules) (Awaits MakePointer) (at (Fail e) k l)
       made_fails told = fails_on rules v (KeywordArgument MakePointer pos start rest captures) k l e (λ x. refl)
           (λ m. leads_on made a_text (Err e) (told m))
 
-      pub curries_fails : (is_out_of_memory e ≡ false → Err e ≡ a_pointer) → Goes rules (Awaits Curry) (at (Fail e) k l)
+      pub curries_fails : (is_out_of_memory e ≡ false → Err e ≡ a_pointer) →
+          Leads (machine rules) (cut rules) (Awaits Curry) (at (Fail e) k l)
       curries_fails told = fails_on rules v (KeywordArgument Curry pos start rest captures) k l e (λ x. refl)
           (λ m. leads_on curries a_pointer (Err e) (told m))
 
-      pub calls_fails : (is_out_of_memory e ≡ false → Err e ≡ a_pointer) → Goes rules (Awaits CallPointer) (at (Fail e) k l)
+      pub calls_fails : (is_out_of_memory e ≡ false → Err e ≡ a_pointer) →
+          Leads (machine rules) (cut rules) (Awaits CallPointer) (at (Fail e) k l)
       calls_fails told = fails_on rules v (KeywordArgument CallPointer pos start rest captures) k l e (λ x. refl)
           (λ m. leads_on calls a_pointer (Err e) (told m))

@@ -16,8 +16,8 @@ use Rattle.rhai_state.specs.declared.error.EvalAltResult.{EvalAltResult}
 use Rattle.rhai_state.specs.declared.error.EvalAltResult.TheVariants as error
 use Rattle.rhai_machine.specs.machine.Machine.{Go}
 use Rattle.rhai_machine.specs.machine.Point.{after}
-use Rattle.rhai_machine.specs.machine.Memory.{here, next, out_before_step, ◌⨾◌}
-use Rattle.rhai_machine.specs.language.Setting.{Rules, limit_under}
+use Rattle.rhai_machine.specs.machine.Memory.{here, next, out_before_step, ◌⨾◌, Leads}
+use Rattle.rhai_machine.specs.language.Setting.{Rules, limit_under, cut}
 use Rattle.rhai_machine.specs.language.State.{Held, State}
 use Rattle.rhai_state.specs.Errors.{is_out_of_memory}
 use Rattle.rhai_machine.specs.language.Frames.{StatementValue, RightOperand, AssignChain, AssignThisValue, AssignValue}
@@ -32,7 +32,8 @@ use Rattle.rhai_machine.specs.language.Statements.{restored_by, saved_by, deeper
 use Rattle.rhai_machine.specs.language.Unwinding.{down_core, up_core}
 use Rattle.std.specs.declared.num.NonZeroUsize.{NonZeroUsize}
 use Rattle.rhai_machine.specs.language.Values.{flat, unit_value}
-use Rattle.rhai_machine.specs.language.Runs.{at, Goes, Steps, Runs}
+use Rattle.rhai_machine.specs.language.Runs.{at, Runs, Goes}
+use Rattle.rhai_machine.specs.language.Language.{machine}
 use Rattle.rhai_tree.specs.declared.expr.Ident.{Ident}
 use Rattle.rhai_tree.specs.declared.flags.ASTFlags.{ASTFlags}
 use Rattle.rhai_state.specs.Scope.{entries_of}
@@ -74,25 +75,26 @@ module _ {S H : Type 0} (rules : Rules S H) where
       (room : old.num_operations < limit_under rules) (charged : mid ≡ record old { num_operations = old.num_operations + 1 }) where
     -- a start that is charged opens the expression
     pub begins : (e : Expr) (o : ExprLayer) → out-Expr e ≡ o → (k : List (Frame H)) →
-        Goes rules (at (Eval e) k (state_of t old scope held)) (at (OpenExpr o) k (state_of t mid scope held))
+        Leads (machine rules) (cut rules) (at (Eval e) k (state_of t old scope held)) (at (OpenExpr o) k (state_of t mid scope held))
     unfolding after
     begins e o is k = next (rw (lt-ltb _ _ room, charged, is) here)
 
     pub begins_stmt : (x : Stmt) (restoring : Bool) (o : StmtLayer) → out-Stmt x ≡ o → (k : List (Frame H)) →
-        Goes rules (at (Exec x restoring) k (state_of t old scope held)) (at (OpenStmt o restoring) k (state_of t mid scope held))
+        Leads (machine rules) (cut rules) (at (Exec x restoring) k (state_of t old scope held))
+        (at (OpenStmt o restoring) k (state_of t mid scope held))
     unfolding after
     begins_stmt x restoring o is k = next (rw (lt-ltb _ _ room, charged, is) here)
 
     -- a charged form does what its opened form does
     pub opens : (new : State S H) (r : Result (Dynamic H) (EvalAltResult H)) (e : Expr) (o : ExprLayer) →
         Runs rules (OpenExpr o) (state_of t mid scope held) r new → out-Expr e ≡ o → Runs rules (Eval e) (state_of t old scope held) r new
-    unfolding Steps
+    unfolding Goes
     opens new r e o runs is k = begins e o is k ⨾ runs k
 
     pub opens_stmt : (new : State S H) (r : Result (Dynamic H) (EvalAltResult H)) (x : Stmt) (restoring : Bool) (o : StmtLayer) →
         Runs rules (OpenStmt o restoring) (state_of t mid scope held) r new → out-Stmt x ≡ o →
         Runs rules (Exec x restoring) (state_of t old scope held) r new
-    unfolding Steps
+    unfolding Goes
     opens_stmt new r x restoring o runs is k = begins_stmt x restoring o is k ⨾ runs k
 
   module _ (t : S) (old new : GlobalRuntimeState H) (scope : Scope H) (held : Held H) (pos : Position) (x : EvalAltResult H)
@@ -100,18 +102,18 @@ module _ {S H : Type 0} (rules : Rules S H) where
       (is : r ≡ Err x) (full : limit_under rules ≤ old.num_operations) (refused : x ≡ error.ErrorTooManyOperations pos)
       (same : new ≡ old) where
     pub refuses : (e : Expr) → pos ≡ position_of e → Runs rules (Eval e) (state_of t old scope held) r (state_of t new scope held)
-    unfolding after Steps
+    unfolding after Goes
     refuses e place k = next (rw (le-ltb _ _ full, is, refused, same, place) here)
 
     pub refuses_stmt : (e : Stmt) (restoring : Bool) → pos ≡ stmt_position_of e →
         Runs rules (Exec e restoring) (state_of t old scope held) r (state_of t new scope held)
-    unfolding after Steps
+    unfolding after Goes
     refuses_stmt e restoring place k = next (rw (le-ltb _ _ full, is, refused, same, place) here)
 
   -- an operator call begins with its first operand
   pub opens_unary : (call : FnCallExpr) (token : Token) (operand : Expr) (pos : Position) (k : List (Frame H)) (l : State S H) →
       rules.setting.offer.fast_operators ≡ true → call.op_token ≡ Some token → call.args ≡ operand ∷ [] →
-      Goes rules (at (OpenExpr (layer.Expr::FnCall call pos)) k l)
+      Leads (machine rules) (cut rules) (at (OpenExpr (layer.Expr::FnCall call pos)) k l)
       (at (Argument operand) (UnaryOperand (operation_at call.name token pos) (position_of operand) ∷ k) l)
   unfolding after
   opens_unary call token operand pos k l fast is args =
@@ -120,25 +122,26 @@ module _ {S H : Type 0} (rules : Rules S H) where
 
   -- a restoring list's end takes back what it saved
   pub restores : (r : Result (Dynamic H) (EvalAltResult H)) (saved : Saved) (k : List (Frame H)) (old new : State S H) →
-      new ≡ record old { local = restored_by saved old.local } → Goes rules (at (ended r) (RestoreList saved ∷ k) old) (at (ended r) k new)
+      new ≡ record old { local = restored_by saved old.local } →
+      Leads (machine rules) (cut rules) (at (ended r) (RestoreList saved ∷ k) old) (at (ended r) k new)
   unfolding after
   restores (Ok v) saved k old new is = next (rw is here)
   restores (Err e) saved k old new is = next (rw is here)
 
   -- a list that is entered: an empty one has no effect
   pub enters_empty : (stmts : List Stmt) (restoring : Bool) (k : List (Frame H)) (l : State S H) → stmts ≡ [] →
-      Goes rules (at (Enter stmts restoring) k l) (at (Back unit_value) k l)
+      Leads (machine rules) (cut rules) (at (Enter stmts restoring) k l) (at (Back unit_value) k l)
   unfolding after
   enters_empty stmts restoring k l is = next (rw is here)
 
   pub enters_plain : (stmts : List Stmt) (k : List (Frame H)) (l : State S H) → stmts ≢ [] →
-      Goes rules (at (Enter stmts false) k l) (at (Run stmts false unit_value) k l)
+      Leads (machine rules) (cut rules) (at (Enter stmts false) k l) (at (Run stmts false unit_value) k l)
   unfolding after
   enters_plain [] k l some = absurd (some refl)
   enters_plain (stmt ∷ stmts) k l some = next here
 
   pub enters_restoring : (stmts : List Stmt) (k : List (Frame H)) (l : State S H) → stmts ≢ [] →
-      Goes rules (at (Enter stmts true) k l) (at (Run stmts true unit_value) (RestoreList (saved_by l.local) ∷ k)
+      Leads (machine rules) (cut rules) (at (Enter stmts true) k l) (at (Run stmts true unit_value) (RestoreList (saved_by l.local) ∷ k)
       (record l { local = record l.local { scope_level = deeper l.local.scope_level } }))
   unfolding after
   enters_restoring [] k l some = absurd (some refl)
@@ -148,7 +151,7 @@ module _ {S H : Type 0} (rules : Rules S H) where
   pub fails_on : (v : Dynamic H) (f : Frame H) (k : List (Frame H)) (l : State S H) (e : EvalAltResult H) →
       ((x : EvalAltResult H) → down_core rules.setting f x k l.local ≡ core (Fail x) k l.local) →
       (is_out_of_memory e ≡ false → up_core rules.setting f v k l.local ≡ core (Fail e) k l.local) →
-      Goes rules (at (Back v) (f ∷ k) l) (at (Fail e) k l)
+      Leads (machine rules) (cut rules) (at (Back v) (f ∷ k) l) (at (Fail e) k l)
   fails_on v f k l (error.ErrorOutOfMemory pos) passes fails =
       out_before_step {at = pos} (step_by rules _ _ _ (ap Go (passes (error.ErrorOutOfMemory pos))) here)
   fails_on v f k l e passes fails = step_by rules _ _ _ (ap Go (fails refl)) here
@@ -204,7 +207,7 @@ module _ {S H : Type 0} (rules : Rules S H) where
 
     -- a value whose cell is held, or memory runs out
     pub flat_fails : (f : Frame H) → flattens f ≡ Some pos → (is_out_of_memory e ≡ false → Err e ≡ flat l.local.around.cells v pos) →
-        Goes rules (at (Back v) (f ∷ k) l) (at (Fail e) k l)
+        Leads (machine rules) (cut rules) (at (Back v) (f ∷ k) l) (at (Fail e) k l)
     flat_fails f is told = fails_on v f k l e (flat_passes f is) (λ m. flat_core f is (told m))
 
   -- a `let`: refused, or on to its value
@@ -233,12 +236,12 @@ module _ {S H : Type 0} (rules : Rules S H) where
     full = is_none index && is_full rules.setting.limits l.local.scope
 
     pub not_declared : (e : EvalAltResult H) → (is_out_of_memory e ≡ false → Err e ≡ declarable ident.name pos taken full) →
-        Goes rules (at (OpenStmt (layer.Var ident value index options pos) restoring) k l) (at (Fail e) k l)
+        Leads (machine rules) (cut rules) (at (OpenStmt (layer.Var ident value index options pos) restoring) k l) (at (Fail e) k l)
     not_declared e is = or_runs_out rules (OpenStmt (layer.Var ident value index options pos) restoring) k l e (λ m.
         step_by rules _ _ (Go (core (Fail e) k l.local)) (ap Go (refused_core taken full e (is m))) here)
 
     pub begins_value : Ok tt ≡ declarable {H = H} ident.name pos taken full →
-        Goes rules (at (OpenStmt (layer.Var ident value index options pos) restoring) k l)
+        Leads (machine rules) (cut rules) (at (OpenStmt (layer.Var ident value index options pos) restoring) k l)
         (at (Eval value) (DefineValue ident index options restoring (position_of value) ∷ k) l)
     begins_value is = step_by rules _ _ (Go (core (Eval value) (DefineValue ident index options restoring (position_of value) ∷ k) l.local))
         (ap Go (declared_core taken full is)) here

@@ -21,8 +21,8 @@ use Rattle.rhai_values.specs.declared.base.value.Dynamic.{Dynamic}
 use Rattle.rhai_state.specs.declared.error.EvalAltResult.{EvalAltResult}
 use Rattle.rhai_state.specs.Errors.{is_out_of_memory}
 use Rattle.rhai_machine.specs.machine.Machine.{Go, Charge}
-use Rattle.rhai_machine.specs.machine.Memory.{here}
-use Rattle.rhai_machine.specs.language.Setting.{Rules}
+use Rattle.rhai_machine.specs.machine.Memory.{here, Leads}
+use Rattle.rhai_machine.specs.language.Setting.{Rules, cut}
 use Rattle.rhai_machine.specs.language.State.{Answers, Local, State}
 use Rattle.rhai_machine.specs.language.Links.{Link, LinkForm, AtIndex, AtProperty, AtMethod, asked_by, first_in, link_of}
 use Rattle.rhai_machine.specs.language.Frames.{Chain, Frame, core, AssignChain, ChainArguments, ChainRoot, Eval, Fail}
@@ -33,8 +33,8 @@ use Rattle.rhai_machine.specs.language.Chains.{asked_move, open_move, opened_cor
 use Rattle.rhai_machine.specs.language.Chains.{this_root_core}
 use Rattle.rhai_machine.specs.language.Variables.{variable_named}
 use Rattle.rhai_machine.specs.language.Expressions.{literal_of}
-use Rattle.rhai_machine.specs.language.Language.{move}
-use Rattle.rhai_machine.specs.language.Runs.{at, with_core, Goes}
+use Rattle.rhai_machine.specs.language.Language.{move, machine}
+use Rattle.rhai_machine.specs.language.Runs.{at, with_core}
 use Rattle.rhai_steps.proofs.Pieces.{or_runs_out, step_by}
 use Rattle.rhai_data.proofs.TextSteps.{failed_out_of_memory}
 use Rattle.rhai_callees.specs.Kept.{HasKept}
@@ -182,17 +182,18 @@ module _ {S H : Type 0} (rules : Rules S H) where
   module _ (chain : Chain H) (form : ExprLayer) (whole : chain.rest ≡ form) (k : List (Frame H)) (s : State S H) where
     -- a chain that is given its arguments at once goes to its root
     pub opens_at_once : (args : List (Dynamic H)) → at_once (link_of form) ≡ Some args →
-        Goes rules (at (OpenChain chain) k s) (at (ChainRoot (record chain { args = args })) k s)
+        Leads (machine rules) (cut rules) (at (OpenChain chain) k s) (at (ChainRoot (record chain { args = args })) k s)
     opens_at_once args given = step_by rules _ _ (Go (core (ChainRoot (record chain { args = args })) k s.local))
         (opened_link chain k s.local (link_of chain.rest) args (ap (λ (x : ExprLayer). at_once (link_of x)) whole ∙ given)) here
 
     -- or memory runs out for them
-    pub opens_running_out : (e : EvalAltResult H) → is_out_of_memory e ≡ true → Goes rules (at (OpenChain chain) k s) (at (Fail e) k s)
+    pub opens_running_out : (e : EvalAltResult H) → is_out_of_memory e ≡ true →
+        Leads (machine rules) (cut rules) (at (OpenChain chain) k s) (at (Fail e) k s)
     opens_running_out e is_out = or_runs_out rules (OpenChain chain) k s e (λ m. let clear : true ≡ false = sym is_out ∙ m in cc)
 
     -- and any other asks for them
     pub opens_asking : (link : Link) → link_of form ≡ Some link → at_once {H = H} (link_of form) ≡ None →
-        Goes rules (at (OpenChain chain) k s) (at (ChainArguments chain form []) k s)
+        Leads (machine rules) (cut rules) (at (OpenChain chain) k s) (at (ChainArguments chain form []) k s)
     opens_asking link there none = step_by rules _ _ (Go (core (ChainArguments chain form []) k s.local))
         (asking_link chain k s.local (link_of chain.rest) link (ap link_of whole ∙ there)
         (ap (λ (x : ExprLayer). at_once {H = H} (link_of x)) whole ∙ none)
@@ -207,11 +208,12 @@ module _ {S H : Type 0} (rules : Rules S H) where
   -- once those are there the chain goes on, or is at its root
   module _ (chain : Chain H) (values : List (Dynamic H)) (behind : Option ExprLayer) (k : List (Frame H)) (s : State S H) where
     pub arrives_on : (rest : ExprLayer) → behind ≡ Some rest →
-        Goes rules (with_core (arguments_there rules.setting (ToChain chain behind) values k s.local) s)
+        Leads (machine rules) (cut rules) (with_core (arguments_there rules.setting (ToChain chain behind) values k s.local) s)
         (at (ChainArguments chain rest values) k s)
     arrives_on rest on = rw on here
 
-    pub arrives_last : behind ≡ None → Goes rules (with_core (arguments_there rules.setting (ToChain chain behind) values k s.local) s)
+    pub arrives_last : behind ≡ None →
+        Leads (machine rules) (cut rules) (with_core (arguments_there rules.setting (ToChain chain behind) values k s.local) s)
         (at (ChainRoot (record chain { args = values })) k s)
     arrives_last alone = rw alone here
 
@@ -244,7 +246,7 @@ module _ {S H : Type 0} (rules : Rules S H) where
   -- it is evaluated
   pub evaluates_root : (root : Expr) (frame : NamesFrame) → IsNoName (out-Expr root) → IsTrue (resolves_expr root frame) →
       (chain : Chain H) → chain.root ≡ root → is_none chain.new ≡ true → (k : List (Frame H)) (s : State S H) →
-      Goes rules (at (ChainRoot chain) k s) (at (Eval root) (RootValue chain ∷ k) s)
+      Leads (machine rules) (cut rules) (at (ChainRoot chain) k s) (at (Eval root) (RootValue chain ∷ k) s)
   evaluates_root root frame other h chain same none k s = step_by rules _ _ (Go (core (Eval root) (RootValue chain ∷ k) s.local))
       (ap (λ (x : Expr). root_move (out-Expr x) chain k s.local) same
       ∙ root_at (out-Expr root) frame other
@@ -264,7 +266,7 @@ module _ {S H : Type 0} (rules : Rules S H) where
 
   -- it begins with its value
   pub begins_chain : (op : OpAssignment) (lhs rhs root : Expr) (restoring : Bool) → first_in (out-Expr lhs) ≡ Some root →
-      (k : List (Frame H)) (s : State S H) → Goes rules (at (OpenStmt (layer.Assignment op lhs rhs) restoring) k s)
+      (k : List (Frame H)) (s : State S H) → Leads (machine rules) (cut rules) (at (OpenStmt (layer.Assignment op lhs rhs) restoring) k s)
       (at (Eval rhs) (AssignChain root (out-Expr lhs) op (position_of rhs) ∷ k) s)
   begins_chain op lhs rhs root restoring is k s =
       step_by rules _ _ (Go (core (Eval rhs) (AssignChain root (out-Expr lhs) op (position_of rhs) ∷ k) s.local))

@@ -10,13 +10,14 @@ use Rattle.rhai_values.specs.declared.base.value.Union.TheVariants as value
 use Rattle.rhai_state.specs.declared.error.EvalAltResult.{EvalAltResult}
 use Rattle.rhai_machine.specs.machine.Machine.{Go}
 use Rattle.rhai_machine.specs.machine.Point.{after}
-use Rattle.rhai_machine.specs.machine.Memory.{here, next}
-use Rattle.rhai_machine.specs.language.Setting.{Rules}
+use Rattle.rhai_machine.specs.machine.Memory.{here, next, Leads}
+use Rattle.rhai_machine.specs.language.Setting.{Rules, cut}
 use Rattle.rhai_machine.specs.language.State.{State, Local}
 use Rattle.rhai_machine.specs.language.Values.{bool_value, through}
 use Rattle.rhai_machine.specs.language.Frames.{Frame, Core, core, Back, Fail, OpenExpr, AndPart, OrPart, CoalescePart}
 use Rattle.rhai_machine.specs.language.Expressions.{and_core, or_core, coalesce_core, coalesce_seen, coalesce_next}
 use Rattle.rhai_machine.specs.language.Runs.{at, with_core, Goes}
+use Rattle.rhai_machine.specs.language.Language.{machine}
 use Rattle.rhai_operands.specs.Tests.{Tests}
 use Rattle.rhai_steps.specs.Values.{is_unit_union, unit_seen}
 use Rattle.rhai_state.specs.Errors.{is_out_of_memory}
@@ -50,17 +51,17 @@ module _ {S H : Type 0} (rules : Rules S H)
     (v : Dynamic H) (pos : Position) (parts : List Expr) (k : List (Frame H)) (l : State S H) where
   -- a `()` leads to the next part
   pub coalesce_on : Ok true ≡ unit_seen (through l.local.around.cells v pos) →
-      Goes rules (at (Back v) (CoalescePart pos parts ∷ k) l) (with_core (coalesce_core v parts k l.local) l)
+      Leads (machine rules) (cut rules) (at (Back v) (CoalescePart pos parts ∷ k) l) (with_core (coalesce_core v parts k l.local) l)
   coalesce_on is = step_by rules _ _ _ (ap Go (seen_on v parts k l.local _ is)) here
 
   -- any other value comes up
   pub coalesce_ends : Ok false ≡ unit_seen (through l.local.around.cells v pos) →
-      Goes rules (at (Back v) (CoalescePart pos parts ∷ k) l) (at (Back v) k l)
+      Leads (machine rules) (cut rules) (at (Back v) (CoalescePart pos parts ∷ k) l) (at (Back v) k l)
   coalesce_ends is = step_by rules _ _ _ (ap Go (seen_ends v parts k l.local _ is)) here
 
   -- a held cell is a race
   pub coalesce_fails : (e : EvalAltResult H) → (is_out_of_memory e ≡ false → Err e ≡ unit_seen (through l.local.around.cells v pos)) →
-      Goes rules (at (Back v) (CoalescePart pos parts ∷ k) l) (at (Fail e) k l)
+      Leads (machine rules) (cut rules) (at (Back v) (CoalescePart pos parts ∷ k) l) (at (Fail e) k l)
   coalesce_fails e is = fails_on rules v (CoalescePart pos parts) k l e (λ x. refl) (λ m. seen_fails v parts k l.local _ e (is m))
 
 module _ {H : Type 0} where
@@ -75,7 +76,7 @@ module _ {H : Type 0} where
 
 module _ {S H : Type 0} (rules : Rules S H) where
   pub until_opens : (stop : Bool) (parts : List Expr) (pos : Position) (k : List (Frame H)) (l : State S H) →
-      Goes rules (at (OpenExpr (if stop then layer.Or parts pos else layer.And parts pos)) k l) (with_core
+      Leads (machine rules) (cut rules) (at (OpenExpr (if stop then layer.Or parts pos else layer.And parts pos)) k l) (with_core
       (until_core stop parts k l.local) l)
   unfolding after
   until_opens true parts pos k l = next here
@@ -84,21 +85,22 @@ module _ {S H : Type 0} (rules : Rules S H) where
   -- a part leads to the next, or stops, or fails
   pub until_on : (stop : Bool) (part : Expr) (parts : List Expr) (k : List (Frame H)) (old new : State S H) (holds : Bool) →
       Tests rules part old (Ok holds) new → holds ≡ not stop →
-      Goes rules (with_core (until_core stop (part ∷ parts) k old.local) old) (with_core (until_core stop parts k new.local) new)
-  unfolding Tests
-  until_on true part parts k old new holds tests is = (rw is at tests) (OrPart (position_of part) parts) k refl
-  until_on false part parts k old new holds tests is = (rw is at tests) (AndPart (position_of part) parts) k refl
+      Leads (machine rules) (cut rules) (with_core (until_core stop (part ∷ parts) k old.local) old)
+      (with_core (until_core stop parts k new.local) new)
+  unfolding Tests Goes
+  until_on true part parts k old new holds tests is = (rw is at tests) (OrPart (position_of part) parts) refl k
+  until_on false part parts k old new holds tests is = (rw is at tests) (AndPart (position_of part) parts) refl k
 
   pub until_stops : (stop : Bool) (part : Expr) (parts : List Expr) (k : List (Frame H)) (old new : State S H) (holds : Bool) →
       Tests rules part old (Ok holds) new → holds ≡ stop →
-      Goes rules (with_core (until_core stop (part ∷ parts) k old.local) old) (at (Back (bool_value stop)) k new)
-  unfolding Tests
-  until_stops true part parts k old new holds tests is = (rw is at tests) (OrPart (position_of part) parts) k refl
-  until_stops false part parts k old new holds tests is = (rw is at tests) (AndPart (position_of part) parts) k refl
+      Leads (machine rules) (cut rules) (with_core (until_core stop (part ∷ parts) k old.local) old) (at (Back (bool_value stop)) k new)
+  unfolding Tests Goes
+  until_stops true part parts k old new holds tests is = (rw is at tests) (OrPart (position_of part) parts) refl k
+  until_stops false part parts k old new holds tests is = (rw is at tests) (AndPart (position_of part) parts) refl k
 
   pub until_fails : (stop : Bool) (part : Expr) (parts : List Expr) (k : List (Frame H)) (old new : State S H) (e : EvalAltResult H) →
       Tests rules part old (Err e) new →
-      Goes rules (with_core (until_core stop (part ∷ parts) k old.local) old) (at (Fail e) k new)
-  unfolding Tests
-  until_fails true part parts k old new e tests = tests (OrPart (position_of part) parts) k refl
-  until_fails false part parts k old new e tests = tests (AndPart (position_of part) parts) k refl
+      Leads (machine rules) (cut rules) (with_core (until_core stop (part ∷ parts) k old.local) old) (at (Fail e) k new)
+  unfolding Tests Goes
+  until_fails true part parts k old new e tests = tests (OrPart (position_of part) parts) refl k
+  until_fails false part parts k old new e tests = tests (AndPart (position_of part) parts) refl k

@@ -8,8 +8,8 @@ use Rattle.rhai_values.specs.declared.base.value.Dynamic.{Dynamic}
 use Rattle.rhai_state.specs.declared.error.EvalAltResult.{EvalAltResult}
 use Rattle.rhai_machine.specs.machine.Machine.{Go}
 use Rattle.rhai_machine.specs.machine.Point.{Point}
-use Rattle.rhai_machine.specs.machine.Memory.{here, ◌⨾◌}
-use Rattle.rhai_machine.specs.language.Setting.{Rules}
+use Rattle.rhai_machine.specs.machine.Memory.{here, ◌⨾◌, Leads}
+use Rattle.rhai_machine.specs.language.Setting.{Rules, cut}
 use Rattle.rhai_machine.specs.language.State.{State, Answers}
 use Rattle.rhai_machine.specs.language.Values.{bool_value, truth, unit_value}
 use Rattle.rhai_machine.specs.language.Statements.{chosen_core}
@@ -17,7 +17,8 @@ use Rattle.rhai_machine.specs.language.Loops.{goes_on, if_goes_on}
 use Rattle.rhai_machine.specs.language.Unwinding.{up_core}
 use Rattle.rhai_machine.specs.language.Frames.{Control, Frame, core, Eval, Enter, Back, Fail, IfCondition, AndPart, OrPart}
 use Rattle.rhai_machine.specs.language.Frames.{DoCondition, SwitchCondition, WhileCondition}
-use Rattle.rhai_machine.specs.language.Runs.{at, with_core, Goes, Runs, Steps}
+use Rattle.rhai_machine.specs.language.Runs.{at, with_core, Runs, Goes}
+use Rattle.rhai_machine.specs.language.Language.{machine}
 use Rattle.rhai_steps.proofs.Pieces.{step_by}
 use Rattle.rhai_steps.specs.Loops.{after_test, after_turn}
 use Rattle.rhai_operands.specs.Tests.{Tests, asks_truth, told_truth}
@@ -53,7 +54,7 @@ module _ {S H : Type 0} (rules : Rules S H) where
 
     truth_told : (r : Result Bool (EvalAltResult H)) (f : Frame H) → asks_truth f ≡ Some pos →
         Answers r (truth rules.setting.host_type l.local.around.cells v pos) →
-        Goes rules (at (Back v) (f ∷ k) l) (with_core (told_truth rules.setting f r k l.local) l)
+        Leads (machine rules) (cut rules) (at (Back v) (f ∷ k) l) (with_core (told_truth rules.setting f r k l.local) l)
     truth_told (Ok holds) f is told = step_by rules _ _ (Go (up_core rules.setting f (bool_value holds) k l.local))
         (ap Go (holds_core holds f is (told tt))) here
     truth_told (Err e) f is told = fails_on rules v f k l e (λ x. truth_passes rules f pos is x k l.local) (λ m. truth_core e f is
@@ -63,19 +64,19 @@ module _ {S H : Type 0} (rules : Rules S H) where
   pub tests_by : (test : Expr) (v : Dynamic H) (old new : State S H) (r : Result Bool (EvalAltResult H)) →
       Runs rules (Eval test) old (Ok v) new → Answers r (truth rules.setting.host_type new.local.around.cells v (position_of test)) →
       Tests rules test old r new
-  unfolding Steps Tests
-  tests_by test v old new r runs told f k asks = runs (f ∷ k) ⨾ truth_told v (position_of test) k new r f asks told
+  unfolding Goes Tests
+  tests_by test v old new r runs told f asks k = runs (f ∷ k) ⨾ truth_told v (position_of test) k new r f asks told
 
   -- or that failed
   pub tests_fail : (test : Expr) (old new : State S H) (e : EvalAltResult H) → Runs rules (Eval test) old (Err e) new →
       Tests rules test old (Err e) new
-  unfolding Steps Tests
-  tests_fail test old new e runs f k asks = runs (f ∷ k) ⨾ passes_on rules f (position_of test) asks e k new
+  unfolding Goes Tests
+  tests_fail test old new e runs f asks k = runs (f ∷ k) ⨾ passes_on rules f (position_of test) asks e k new
 
   -- a condition chooses a list
   pub chooses : (holds : Bool) (body branch : StmtBlock) (k : List (Frame H)) (l : State S H) {q : Point S _} →
-      Goes rules (at (Enter (if holds then body.statements else branch.statements) true) k l) q →
-      Goes rules (with_core (chosen_core holds body branch k l.local) l) q
+      Leads (machine rules) (cut rules) (at (Enter (if holds then body.statements else branch.statements) true) k l) q →
+      Leads (machine rules) (cut rules) (with_core (chosen_core holds body branch k l.local) l) q
   chooses true body branch k l goes = goes
   chooses false body branch k l goes = goes
 
@@ -86,5 +87,5 @@ module _ {S H : Type 0} (rules : Rules S H) where
 
   pub do_tested : (o : Option (Dynamic H)) (until holds : Bool) (turn : Control H) (k : List (Frame H)) (l : State S H) →
       o ≡ after_test until holds →
-      Goes rules (at (if_goes_on (goes_on until holds) turn) k l) (at (after_turn (Ok o) turn) k l)
+      Leads (machine rules) (cut rules) (at (if_goes_on (goes_on until holds) turn) k l) (at (after_turn (Ok o) turn) k l)
   do_tested o until holds turn k l is = rw (is, ← test_turn (goes_on until holds) turn) here

@@ -12,22 +12,23 @@ use Rattle.rhai_state.specs.Errors.{is_out_of_memory}
 use Rattle.rhai_places.specs.Paths.{ToCell}
 use Rattle.rhai_machine.specs.machine.Machine.{Go}
 use Rattle.rhai_machine.specs.machine.Point.{after}
-use Rattle.rhai_machine.specs.machine.Memory.{here, next, ◌⨾◌}
+use Rattle.rhai_machine.specs.machine.Memory.{here, next, ◌⨾◌, Leads}
 use Rattle.rhai_machine.specs.language.Activations.{TheFocus}
 use Rattle.rhai_machine.specs.language.Calls.{entry_of, focus_core, inside_core, is_held, races}
 use Rattle.rhai_machine.specs.language.Functions.{Function}
 use Rattle.rhai_machine.specs.language.Handles.{entered, entered_by}
-use Rattle.rhai_machine.specs.language.Setting.{Rules}
+use Rattle.rhai_machine.specs.language.Setting.{Rules, cut}
 use Rattle.rhai_machine.specs.language.State.{Local, State}
 use Rattle.rhai_machine.specs.language.Values.{Cells, is_handle, through_union, used}
-use Rattle.rhai_machine.specs.language.Frames.{Frame, Core, core, ended, ended_or_changed, on_value, EnterFunction, EnterOnFocus, Fail, StepDown}
-use Rattle.rhai_machine.specs.language.Runs.{at, with_core, Goes, Runs, Steps}
+use Rattle.rhai_machine.specs.language.Frames.{Frame, Core, core, ended, ended_or_changed, on_value, EnterFunction, EnterOnFocus, Fail}
+use Rattle.rhai_machine.specs.language.Frames.{StepDown}
+use Rattle.rhai_machine.specs.language.Runs.{at, with_core, Runs, Goes}
+use Rattle.rhai_machine.specs.language.Language.{machine}
 use Rattle.rhai_steps.proofs.Pieces.{faulted, step_by}
 use Rattle.rhai_calls.specs.ToldChanges.{without_changed}
 use Rattle.rhai_context.specs.Ends.{came, came_changed, unchanged}
 use Rattle.rhai_walk.specs.Walking.{Enters, Leaves}
 use Rattle.rhai_walk.proofs.Entering.{not_entered, seen_itself, standing}
-use Rattle.rhai_eval_core.specs.Calls.{StartsAs}
 
 module _ {H : Type 0} where
   -- what tells of no change ends as it does where nothing is told
@@ -64,7 +65,7 @@ module _ {S H : Type 0} (rules : Rules S H) (f : Function H) (is_fresh : Bool) (
   pub focus_held : (e : EvalAltResult H) (v : Dynamic H) (s : State S H) → s.local.focus ≡ Some v →
       is_held s.local.around.cells v.value ≡ true → (is_out_of_memory e ≡ false → e ≡ error.ErrorDataRace [] pos) →
       Runs rules (EnterOnFocus f is_fresh args pos) s (Err e) s
-  unfolding Steps
+  unfolding Goes
   focus_held e v s stands is told k =
       step_by rules _ _ (Go (core (Fail (error.ErrorDataRace [] pos)) k s.local))
       (ap Go (ap (λ (o : Option (Dynamic H)). focus_core f is_fresh args pos k (record s.local { focus = o })) stands
@@ -75,14 +76,14 @@ module _ {S H : Type 0} (rules : Rules S H) (f : Function H) (is_fresh : Bool) (
 
   -- an argument leads to a cell that is held
   pub inside_races : (e : EvalAltResult H) (s : State S H) → races s.local.around.cells args ≡ true →
-      (is_out_of_memory e ≡ false → e ≡ error.ErrorDataRace f.def.name pos) → StartsAs rules inside s (Err e) s
-  unfolding StartsAs
+      (is_out_of_memory e ≡ false → e ≡ error.ErrorDataRace f.def.name pos) → Goes rules inside s (core (ended (Err e))) s
+  unfolding Goes
   inside_races e s is told k = rw is (faulted rules e (error.ErrorDataRace f.def.name pos) told k s)
 
   -- and else it runs with the focus as its `this`
   pub inside_runs : (s new : State S H) (r : Result (Dynamic H) (EvalAltResult H)) → races s.local.around.cells args ≡ false →
-      Runs rules (EnterFunction (entry_of f TheFocus is_fresh args pos s.local)) s r new → StartsAs rules inside s r new
-  unfolding StartsAs Steps
+      Runs rules (EnterFunction (entry_of f TheFocus is_fresh args pos s.local)) s r new → Goes rules inside s (core (ended r)) new
+  unfolding Goes
   inside_runs s new r is runs k = rw is (runs k)
 
   -- ---- through a handle
@@ -90,7 +91,7 @@ module _ {S H : Type 0} (rules : Rules S H) (f : Function H) (is_fresh : Bool) (
   -- a result comes up out of a cell, whose value goes back
   up_from_cell : (r : Result (Dynamic H) (EvalAltResult H)) (focus worked : Dynamic H) (id : CellId) (left : Cells H) (new : State S H)
       (k : List (Frame H)) →
-      Goes rules (at (ended r) (StepDown focus (ToCell id.number) ∷ k) (standing worked left new))
+      Leads (machine rules) (cut rules) (at (ended r) (StepDown focus (ToCell id.number) ∷ k) (standing worked left new))
       (at (ended r) k (standing focus (with_value left id.number worked) new))
   unfolding after
   up_from_cell (Ok v) focus worked id left new k = next here
@@ -117,15 +118,15 @@ module _ {S H : Type 0} (rules : Rules S H) (f : Function H) (is_fresh : Bool) (
 
     opens_focus : (focus : Dynamic H) (cells : Cells H) (k : List (Frame H)) (c : Core H) →
         focus_core f is_fresh args pos k (standing focus cells old).local ≡ c → {end : State S H} →
-        Goes rules (with_core c (standing focus cells old)) (at (ended r) k end) →
-        Goes rules (at (EnterOnFocus f is_fresh args pos) k (standing focus cells old)) (at (ended r) k end)
+        Leads (machine rules) (cut rules) (with_core c (standing focus cells old)) (at (ended r) k end) →
+        Leads (machine rules) (cut rules) (at (EnterOnFocus f is_fresh args pos) k (standing focus cells old)) (at (ended r) k end)
     opens_focus focus cells k c is goes = step_by rules _ _ (Go c) (ap Go is) goes
 
     -- the focus is entered and left
     pub enters_focus : (above : Option (CellId × Dynamic H)) (focus inner worked end : Dynamic H) (cells taken left put : Cells H) →
-        Enters above focus inner cells taken → StartsAs rules inside (standing inner taken old) r (standing worked left new) →
+        Enters above focus inner cells taken → Goes rules inside (standing inner taken old) (core (ended r)) (standing worked left new) →
         Leaves above worked end left put → Runs rules (EnterOnFocus f is_fresh args pos) (standing focus cells old) r (standing end put new)
-    unfolding StartsAs Steps
+    unfolding Goes
     enters_focus None focus inner worked end cells taken left put e runs l k = rw (l.0, l.1)
         (opens_focus focus cells k (inside k (standing focus cells old).local) (starts_itself focus cells k e.0)
         ((rw (e.1.0, e.1.1) at runs) k))

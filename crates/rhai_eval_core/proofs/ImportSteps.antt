@@ -14,13 +14,14 @@ use Rattle.rhai_state.specs.declared.scope.Scope.{Scope}
 use Rattle.rhai_state.specs.declared.state.GlobalRuntimeState.{GlobalRuntimeState}
 use Rattle.rhai_state.specs.Errors.{is_out_of_memory}
 use Rattle.rhai_machine.specs.machine.Machine.{Go}
-use Rattle.rhai_machine.specs.machine.Memory.{here}
+use Rattle.rhai_machine.specs.machine.Memory.{here, Leads}
 use Rattle.rhai_machine.specs.language.Imports.{import_core, importing, module_meant, name_asked}
-use Rattle.rhai_machine.specs.language.Setting.{Rules}
+use Rattle.rhai_machine.specs.language.Setting.{Rules, cut}
 use Rattle.rhai_machine.specs.language.State.{Held, Local, State}
 use Rattle.rhai_machine.specs.language.Values.{unit_value}
 use Rattle.rhai_machine.specs.language.Frames.{Frame, core, ended, on_value, Back, Eval, Fail, ImportPath, OpenStmt}
-use Rattle.rhai_machine.specs.language.Runs.{at, Goes}
+use Rattle.rhai_machine.specs.language.Runs.{at}
+use Rattle.rhai_machine.specs.language.Language.{machine}
 use Rattle.rhai_steps.specs.States.{local_of, state_of}
 use Rattle.rhai_steps.proofs.Pieces.{or_runs_out, step_by}
 use Rattle.rhai_context.specs.Ends.{came, error_in}
@@ -44,12 +45,12 @@ module _ {S H : Type 0} (rules : Rules S H) (path : Expr) (alias : Option Ident)
   evaluated_core false is = refl
 
   pub not_imported : (e : EvalAltResult H) → (is_out_of_memory e ≡ false → Err e ≡ importable pos full) →
-      Goes rules (at (OpenStmt (layer.Import path alias pos) restoring) k l) (at (Fail e) k l)
+      Leads (machine rules) (cut rules) (at (OpenStmt (layer.Import path alias pos) restoring) k l) (at (Fail e) k l)
   not_imported e is = or_runs_out rules (OpenStmt (layer.Import path alias pos) restoring) k l e (λ m.
       step_by rules _ _ (Go (core (Fail e) k l.local)) (ap Go (refused_core full e (is m))) here)
 
   pub begins_path : Ok tt ≡ importable {H = H} pos full →
-      Goes rules (at (OpenStmt (layer.Import path alias pos) restoring) k l)
+      Leads (machine rules) (cut rules) (at (OpenStmt (layer.Import path alias pos) restoring) k l)
       (at (Eval path) (ImportPath alias (position_of path) (start_of path) ∷ k) l)
   begins_path is = step_by rules _ _ (Go (core (Eval path) (ImportPath alias (position_of path) (start_of path) ∷ k) l.local))
       (ap Go (evaluated_core full is)) here
@@ -65,7 +66,8 @@ module _ {S H : Type 0} (rules : Rules S H) (t : S) (g entered : GlobalRuntimeSt
 
   imported : (m : Result (Module H) (EvalAltResult H)) → meant ≡ m → entered.num_operations ≡ g.num_operations →
       Imports m alias (local_of g scope held) (local_of entered scope held) →
-      Goes rules (at (Back given) (frame ∷ k) (state_of t g scope held)) (at (Back unit_value) k (state_of t entered scope held))
+      Leads (machine rules) (cut rules) (at (Back given) (frame ∷ k) (state_of t g scope held))
+      (at (Back unit_value) k (state_of t entered scope held))
   imported (Ok m) is counts imports =
       step_by rules _ _ (Go (core (Back unit_value) k (local_of entered scope held)))
       (ap (λ (r : Result (Module H) (EvalAltResult H)). Go (on_value r (λ x. core (Back unit_value) k (importing (name_asked alias) x
@@ -78,7 +80,7 @@ module _ {S H : Type 0} (rules : Rules S H) (t : S) (g entered : GlobalRuntimeSt
       (IsTrue done → Imports meant alias (local_of g scope held) (local_of entered scope held)) →
       entered.num_operations ≡ g.num_operations →
       (done ≡ false → is_out_of_memory (error_in place) ≡ false → Err (error_in place) ≡ meant) → (done ≡ false → entered ≡ g) →
-      Goes rules (at (Back given) (frame ∷ k) (state_of t g scope held))
+      Leads (machine rules) (cut rules) (at (Back given) (frame ∷ k) (state_of t g scope held))
       (at (ended (came done out place)) k (state_of t entered scope held))
   imports true out place value is counts refused same = rw (value refl) (imported meant refl counts (is refl))
   imports false out place value is counts refused same = rw (same refl)

@@ -19,14 +19,15 @@ use Rattle.rhai_state.specs.Errors.{is_out_of_memory}
 use Rattle.rhai_machine.specs.machine.Machine.{Machine, Move, Halt, Go, Charge, Native, AskPure, below}
 use Rattle.rhai_machine.specs.machine.Point.{Point, moved, after}
 use Rattle.rhai_machine.specs.machine.Memory.{Leads, here, next, out_before_step, out_in_native}
-use Rattle.rhai_machine.specs.language.Setting.{Rules, limit_under}
+use Rattle.rhai_machine.specs.language.Setting.{Rules, limit_under, cut}
 use Rattle.rhai_machine.specs.language.State.{Held, State, Local}
 use Rattle.rhai_machine.specs.language.Frames.{Control, Frame, Core, core, ended, OpenStmt, Eval, Enter, WhileTurn, DoTurn, Back, Fail}
 use Rattle.rhai_machine.specs.language.Frames.{WhileCondition, WhileBody, DoBody, DoCondition, BreakValue, ReturnValue, ThrowValue}
 use Rattle.rhai_machine.specs.language.Loops.{is_endless, while_move}
 use Rattle.rhai_machine.specs.language.Statements.{has_option, return_move}
 use Rattle.rhai_machine.specs.language.Values.{flat, unit_value}
-use Rattle.rhai_machine.specs.language.Runs.{at, Goes}
+use Rattle.rhai_machine.specs.language.Runs.{at}
+use Rattle.rhai_machine.specs.language.Language.{machine}
 use Rattle.rhai_steps.specs.declared.loops.BodyEnd.{BodyEnd}
 use Rattle.rhai_steps.specs.declared.loops.BodyEnd.TheVariants.{Done, Continue, Break}
 use Rattle.rhai_steps.specs.Loops.{turn_in, after_body, after_turn}
@@ -69,7 +70,8 @@ on_end false v e p well = cc
 module _ {S H : Type 0} (rules : Rules S H) where
   -- a body's end at its `while`
   pub while_ends : (r : Result (Dynamic H) (EvalAltResult H)) (test : Expr) (body : StmtBlock) (k : List (Frame H)) (l : State S H) →
-      Goes rules (at (ended r) (WhileBody test body ∷ k) l) (at (after_turn (after_body (turn_in r)) (WhileTurn test body)) k l)
+      Leads (machine rules) (cut rules) (at (ended r) (WhileBody test body ∷ k) l)
+      (at (after_turn (after_body (turn_in r)) (WhileTurn test body)) k l)
   unfolding after
   while_ends (Ok v) test body k l = next here
   while_ends (Err (error.LoopBreak v false pos)) test body k l = next here
@@ -85,7 +87,7 @@ module _ {S H : Type 0} (rules : Rules S H) where
 
   do_ends : (r : Result (Dynamic H) (EvalAltResult H)) (test : Expr) (body : StmtBlock) (options : ASTFlags) (k : List (Frame H))
       (l : State S H) →
-      Goes rules (at (ended r) (DoBody test body options ∷ k) l) (do_goes (turn_in r) test body options k l)
+      Leads (machine rules) (cut rules) (at (ended r) (DoBody test body options ∷ k) l) (do_goes (turn_in r) test body options k l)
   unfolding after
   do_ends (Ok v) test body options k l = next here
   do_ends (Err (error.LoopBreak v false pos)) test body options k l = next here
@@ -94,15 +96,15 @@ module _ {S H : Type 0} (rules : Rules S H) where
 
   pub do_leads : (r : Result (Dynamic H) (EvalAltResult H)) (test : Expr) (body : StmtBlock) (options : ASTFlags) (k : List (Frame H))
       (l : State S H) (x : Result (BodyEnd H) (EvalAltResult H)) →
-      turn_in r ≡ x → Goes rules (at (ended r) (DoBody test body options ∷ k) l) (do_goes x test body options k l)
+      turn_in r ≡ x → Leads (machine rules) (cut rules) (at (ended r) (DoBody test body options ∷ k) l) (do_goes x test body options k l)
   do_leads r test body options k l x is =
-      subst (λ (y : Result (BodyEnd H) (EvalAltResult H)). Goes rules (at (ended r) (DoBody test body options ∷ k) l)
+      subst (λ (y : Result (BodyEnd H) (EvalAltResult H)). Leads (machine rules) (cut rules) (at (ended r) (DoBody test body options ∷ k) l)
       (do_goes y test body options k l)) is (do_ends r test body options k l)
 
   module _ (test : Expr) (body : StmtBlock) (k : List (Frame H)) where
     -- a turn with a condition begins with it
     pub while_asks : (l : State S H) → is_endless (out-Expr test) ≡ false →
-        Goes rules (at (WhileTurn test body) k l) (at (Eval test) (WhileCondition test body ∷ k) l)
+        Leads (machine rules) (cut rules) (at (WhileTurn test body) k l) (at (Eval test) (WhileCondition test body ∷ k) l)
     unfolding after
     while_asks l is = next (rw is here)
 
@@ -113,7 +115,7 @@ module _ {S H : Type 0} (rules : Rules S H) where
 
     -- one without a condition with its body
     pub endless_enters : (l : State S H) → is_endless (out-Expr test) ≡ true → body.statements ≢ [] →
-        Goes rules (at (WhileTurn test body) k l) (at (Enter body.statements true) (WhileBody test body ∷ k) l)
+        Leads (machine rules) (cut rules) (at (WhileTurn test body) k l) (at (Enter body.statements true) (WhileBody test body ∷ k) l)
     endless_enters l is some = step_by rules _ _ (Go (core (Enter body.statements true) (WhileBody test body ∷ k) l.local))
         (rw is (entered body.statements l.local some)) here
 
@@ -121,14 +123,16 @@ module _ {S H : Type 0} (rules : Rules S H) where
     pub endless_charged : (t : S) (old mid : GlobalRuntimeState H) (scope : Scope H) (held : Held H) →
         old.num_operations < limit_under rules → mid ≡ record old { num_operations = old.num_operations + 1 } →
         is_endless (out-Expr test) ≡ true → body.statements ≡ [] →
-        Goes rules (at (WhileTurn test body) k (state_of t old scope held)) (at (WhileTurn test body) k (state_of t mid scope held))
+        Leads (machine rules) (cut rules) (at (WhileTurn test body) k (state_of t old scope held))
+        (at (WhileTurn test body) k (state_of t mid scope held))
     unfolding after
     endless_charged t old mid scope held room charged is empty = next (rw (is, empty, lt-ltb _ _ room, charged) here)
 
     pub endless_refused : (t : S) (old new : GlobalRuntimeState H) (scope : Scope H) (held : Held H) (x : EvalAltResult H) →
         limit_under rules ≤ old.num_operations → x ≡ error.ErrorTooManyOperations body.position → new ≡ old →
         is_endless (out-Expr test) ≡ true → body.statements ≡ [] →
-        Goes rules (at (WhileTurn test body) k (state_of t old scope held)) (at (Fail x) k (state_of t new scope held))
+        Leads (machine rules) (cut rules) (at (WhileTurn test body) k (state_of t old scope held))
+        (at (Fail x) k (state_of t new scope held))
     unfolding after
     endless_refused t old new scope held x full refused same is empty = next (rw (is, empty, le-ltb _ _ full, refused, same) here)
 
@@ -136,14 +140,14 @@ module _ {S H : Type 0} (rules : Rules S H) where
   pub breaks_unit : (options : ASTFlags) (is_break : Bool) (v : Dynamic H) (e : EvalAltResult H) (pos : Position) (restoring : Bool)
       (k : List (Frame H)) (l : State S H) →
       is_break ≡ has_option 2 options → v ≡ unit_value → (is_out_of_memory e ≡ false → e ≡ error.LoopBreak v is_break pos) →
-      Goes rules (at (OpenStmt (layer.BreakLoop None options pos) restoring) k l) (at (Fail e) k l)
+      Leads (machine rules) (cut rules) (at (OpenStmt (layer.BreakLoop None options pos) restoring) k l) (at (Fail e) k l)
   unfolding after
   breaks_unit options is_break v e pos restoring k l asked unit told =
       or_runs_out rules (OpenStmt (layer.BreakLoop None options pos) restoring) k l e (λ m. next (rw (told m, unit, asked) here))
 
   -- one with a value
   pub breaks_value : (value : Expr) (options : ASTFlags) (pos : Position) (restoring : Bool) (k : List (Frame H)) (l : State S H) →
-      Goes rules (at (OpenStmt (layer.BreakLoop (Some value) options pos) restoring) k l)
+      Leads (machine rules) (cut rules) (at (OpenStmt (layer.BreakLoop (Some value) options pos) restoring) k l)
       (at (Eval value) (BreakValue (has_option 2 options) pos ∷ k) l)
   unfolding after
   breaks_value value options pos restoring k l = next here
@@ -156,7 +160,7 @@ module _ {S H : Type 0} (rules : Rules S H) where
   left_unit false pos k l = refl
 
   pub returns_unit : (options : ASTFlags) (pos : Position) (restoring : Bool) (k : List (Frame H)) (l : State S H) →
-      Goes rules (at (OpenStmt (layer.Return None options pos) restoring) k l)
+      Leads (machine rules) (cut rules) (at (OpenStmt (layer.Return None options pos) restoring) k l)
       (at (Fail (left_with (has_option 2 options) unit_value pos)) k l)
   returns_unit options pos restoring k l =
       step_by rules _ _ (Go (core (Fail (left_with (has_option 2 options) unit_value pos)) k l.local))
@@ -172,7 +176,7 @@ module _ {S H : Type 0} (rules : Rules S H) where
   leaving_flattens false value_at left_at = refl
 
   pub leaving_passes : (throws : Bool) (value_at left_at : Position) (e : EvalAltResult H) (k : List (Frame H)) (l : State S H) →
-      Goes rules (at (Fail e) (leaving throws value_at left_at ∷ k) l) (at (Fail e) k l)
+      Leads (machine rules) (cut rules) (at (Fail e) (leaving throws value_at left_at ∷ k) l) (at (Fail e) k l)
   unfolding after
   leaving_passes true value_at left_at e k l = next here
   leaving_passes false value_at left_at e k l = next here
@@ -183,7 +187,7 @@ module _ {S H : Type 0} (rules : Rules S H) where
   left_value false value pos k l = refl
 
   pub returns_value : (value : Expr) (options : ASTFlags) (pos : Position) (restoring : Bool) (k : List (Frame H)) (l : State S H) →
-      Goes rules (at (OpenStmt (layer.Return (Some value) options pos) restoring) k l)
+      Leads (machine rules) (cut rules) (at (OpenStmt (layer.Return (Some value) options pos) restoring) k l)
       (at (Eval value) (leaving (has_option 2 options) (position_of value) pos ∷ k) l)
   returns_value value options pos restoring k l =
       step_by rules _ _ (Go (core (Eval value) (leaving (has_option 2 options) (position_of value) pos ∷ k) l.local))
@@ -192,7 +196,7 @@ module _ {S H : Type 0} (rules : Rules S H) where
   -- its value is there
   pub leaves : (throws : Bool) (v x : Dynamic H) (value_at left_at : Position) (k : List (Frame H)) (l : State S H) →
       Ok x ≡ flat l.local.around.cells v value_at →
-      Goes rules (at (Back v) (leaving throws value_at left_at ∷ k) l) (at (Fail (left_with throws x left_at)) k l)
+      Leads (machine rules) (cut rules) (at (Back v) (leaving throws value_at left_at ∷ k) l) (at (Fail (left_with throws x left_at)) k l)
   unfolding after
   leaves true v x value_at left_at k l is = next (rw (← is) here)
   leaves false v x value_at left_at k l is = next (rw (← is) here)

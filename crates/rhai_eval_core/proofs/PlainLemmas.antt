@@ -1,5 +1,5 @@
 -- Calls whose function is known before their arguments are evaluated, and operators on two integers that are there.
-use Rattle.std.proofs.Common.{◌≡◌, ◌<◌, ◌+◌, ℕ, ℤ, true, false, List, [], ◌∷◌, ◌++◌, Option, Some, None, Result, Ok, Err}
+use Rattle.std.proofs.Common.{◌≡◌, ◌<◌, ◌+◌, ℕ, ℤ, Bool, true, false, List, [], ◌∷◌, ◌++◌, Option, Some, None, Result, Ok, Err}
 use Rattle.std.proofs.Common.{refl, sym, ap, ◌∙◌, arith, length, map, IsTrue}
 use Rattle.std.proofs.lemmas.List.{length-append}
 use Rattle.rhai_tree.specs.declared.position.Position.{Position}
@@ -23,8 +23,8 @@ use Rattle.rhai_functions.specs.Entering.{parameters}
 use Rattle.rhai_operators.specs.Answers.{binary_of}
 use Rattle.rhai_operators.specs.Direct.{integer_in}
 use Rattle.rhai_machine.specs.machine.Machine.{Go}
-use Rattle.rhai_machine.specs.machine.Memory.{here, ◌⨾◌}
-use Rattle.rhai_machine.specs.language.Setting.{Rules}
+use Rattle.rhai_machine.specs.machine.Memory.{here, ◌⨾◌, Leads}
+use Rattle.rhai_machine.specs.language.Setting.{Rules, cut}
 use Rattle.rhai_machine.specs.language.State.{Local, State, deeper}
 use Rattle.rhai_machine.specs.language.Values.{flat}
 use Rattle.rhai_machine.specs.language.Activations.{NoThis}
@@ -32,9 +32,11 @@ use Rattle.rhai_machine.specs.language.Bodies.{statements_of}
 use Rattle.rhai_machine.specs.language.Arguments.{arguments_core, flattens}
 use Rattle.rhai_machine.specs.language.Calls.{applied, call_at, entry_of, operator_core, plainly, races}
 use Rattle.rhai_machine.specs.language.Frames.{Argument, Back, CallArgument, Core, EnterFunction, Frame, OpenExpr, Operation, Purpose}
+use Rattle.rhai_machine.specs.language.Frames.{core}
 use Rattle.rhai_machine.specs.language.Frames.{ToCall, ended}
 use Rattle.rhai_machine.specs.language.Functions.{Function}
-use Rattle.rhai_machine.specs.language.Runs.{at, with_core, Goes, Runs, Steps}
+use Rattle.rhai_machine.specs.language.Runs.{at, with_core, Runs, Goes}
+use Rattle.rhai_machine.specs.language.Language.{machine}
 use Rattle.rhai_steps.specs.States.{holding, state_of}
 use Rattle.rhai_steps.proofs.Pieces.{faulted, step_by}
 use Rattle.rhai_operands.specs.Standing.{assigned_known}
@@ -43,18 +45,29 @@ use Rattle.rhai_operands.proofs.Integers.{operated_stands}
 use Rattle.rhai_call_forms.specs.Forms.{is_operator_form}
 use Rattle.rhai_callees.specs.Kept.{HasKept}
 use Rattle.rhai_context.specs.declared.Context.{Context}
-use Rattle.rhai_context.specs.Ends.{error_in}
+use Rattle.rhai_context.specs.Ends.{came, error_in}
 use Rattle.rhai_laws.proofs.KeptLaws.{kept}
 use Rattle.rhai_plain.specs.Callees.{IsPlain}
 use Rattle.rhai_plain.specs.Filling.{HasFilled, filled}
 use Rattle.rhai_plain.proofs.PlainSteps.{filled_by_none, filled_count, filled_whole, has_filled, parameters_race}
 use Rattle.rhai_plain.proofs.PlainSteps.{plain_enters, plain_moves, plain_named, plain_races}
 use Rattle.rhai_eval_core.specs.Bodies.{behind_call, entered}
-use Rattle.rhai_eval_core.specs.Calls.{Collects, Fills, StartsAs}
+use Rattle.rhai_eval_core.specs.Calls.{Collects}
 use Rattle.rhai_eval_core.specs.States.{state_in}
 use Rattle.rhai_eval_core.proofs.BodyLemmas.{body_resolves, fresh_ends}
 use Rattle.rhai_eval_core.proofs.CallSteps.{begins_call, taken_fails, taken_on}
 use Rattle.rhai_tree.specs.Names.{Name}
+
+module _ {S H : Type 0} (rules : Rules S H) where
+  -- from the arguments of a call by name to where all of them are the variables of its function, and the libraries are what they were;
+  -- or to an error
+  abbrev pub Fills : (params : List (List ℕ)) → List Expr → (well : Bool) → List (ScopeEntry H) → State S H →
+      Option (EvalAltResult H) → State S H → Type 0
+  Fills params args well entries old error new = (values : List (Dynamic H))
+      × (Collects rules true [] args old (came well values error) new)
+      × (IsTrue well → entries ≡ parameters params values)
+      × (IsTrue well → length values ≡ length args)
+      × (IsTrue well → new.local.around.lib ≡ old.local.around.lib)
 
 -- ---- an operator on two integers
 
@@ -84,7 +97,8 @@ module _ {S H : Type 0} (rules : Rules S H) where
   -- so an operator gives it at once
   pub known_goes : (name : List ℕ) (token : Token) (pos : Position) (x y v : Dynamic H) (k : List (Frame H)) (s : State S H) →
       Some v ≡ assigned_known token (integer_in x.value) (integer_in y.value) →
-      Goes rules (with_core (operator_core rules.setting (binary_of token x y) (call_at name token pos (x ∷ y ∷ [])) k s.local) s)
+      Leads (machine rules) (cut rules)
+      (with_core (operator_core rules.setting (binary_of token x y) (call_at name token pos (x ∷ y ∷ [])) k s.local) s)
       (at (Back v) k s)
   known_goes name token pos x y v k s is =
       let given = known_answer token x y v is in
@@ -100,7 +114,7 @@ module _ {S H : Type 0} (rules : Rules S H) where
     pub count : length made + length left ≡ length args
     pub lib : new.local.around.lib ≡ old.local.around.lib
     pub steps : (purpose : Purpose H) → flattens purpose ≡ true → (k : List (Frame H)) →
-        Goes rules (with_core (arguments_core rules.setting purpose [] args k old.local) old)
+        Leads (machine rules) (cut rules) (with_core (arguments_core rules.setting purpose [] args k old.local) old)
         (with_core (arguments_core rules.setting purpose made left k new.local) new)
 
   module _ (names : List (List ℕ)) (args : List Expr) where
@@ -130,7 +144,7 @@ module _ {S H : Type 0} (rules : Rules S H) where
         -- it becomes a variable
         pub filling_grows : (v : Dynamic H) (after : List (ScopeEntry H)) → Runs rules (Argument arg) mid (Ok v) new →
             HasFilled names (flat new.local.around.cells v (position_of arg)) entries after → Filling names args left after old new
-        unfolding Steps
+        unfolding Goes
         filling_grows v after runs pushed =
             let next = has_filled names f.made (flat new.local.around.cells v (position_of arg)) entries after (few arg left takes f) f.are
             pushed in
@@ -147,7 +161,7 @@ module _ {S H : Type 0} (rules : Rules S H) where
         -- or it fails
         pub filling_stops : (after : List (ScopeEntry H)) (error : Option (EvalAltResult H)) →
             Runs rules (Argument arg) mid (Err (error_in error)) new → Fills rules names args false after old error new
-        unfolding Fills Collects Steps
+        unfolding Collects Goes
         filling_stops after error runs = (
           [],
           λ purpose is k. f.steps purpose is k ⨾ runs (CallArgument purpose f.made (position_of arg) left ∷ k)
@@ -162,7 +176,7 @@ module _ {S H : Type 0} (rules : Rules S H) where
             Runs rules (Argument arg) mid (Ok v) new →
             (is_out_of_memory (error_in error) ≡ false → flat new.local.around.cells v (position_of arg) ≡ Err (error_in error)) →
             Fills rules names args false after old error new
-        unfolding Fills Collects Steps
+        unfolding Collects Goes
         filling_fails v after error runs told = (
           [],
           λ purpose is k. f.steps purpose is k ⨾ runs (CallArgument purpose f.made (position_of arg) left ∷ k)
@@ -175,7 +189,7 @@ module _ {S H : Type 0} (rules : Rules S H) where
       -- all of them are variables
       pub filling_ends : (error : Option (EvalAltResult H)) → length names ≡ length args → Filling names args [] entries old mid →
           Fills rules names args true entries old error mid
-      unfolding Fills Collects
+      unfolding Collects Goes
       filling_ends error takes f =
           let count : length f.made ≡ length args = omega (arith, f.count) in (
             f.made,
@@ -189,7 +203,7 @@ module _ {S H : Type 0} (rules : Rules S H) where
   pub entered_resolves : (args : List Expr) (entries : List (ScopeEntry H)) (old new : State S H) (error : Option (EvalAltResult H))
       (own : ScriptFuncDef) (imports : List Name) → ResolvesFunction own → Fills rules own.params args true entries old error new →
       IsTrue (all_resolve (map resolves_stmt (statements_of own.body)) (record { names = map name_of entries; imports = imports })).0
-  unfolding Fills
+  unfolding Goes
   entered_resolves args entries old new error own imports resolves fills =
       body_resolves own fills.0 [] entries imports resolves (fills.2 refl)
 
@@ -209,7 +223,7 @@ module _ {S H : Type 0} (rules : Rules S H) where
     -- it begins with its arguments
     pub plain_begins : (k : List (Frame H)) (s : State S H) →
         is_operator_form rules.setting.offer.fast_operators call.op_token call.args ≡ false →
-        Goes rules (at (OpenExpr (layer.Expr::FnCall call pos)) k s) (with_core (starts k s.local) s)
+        Leads (machine rules) (cut rules) (at (OpenExpr (layer.Expr::FnCall call pos)) k s) (with_core (starts k s.local) s)
     plain_begins k s form =
         let written : Operation = record { name = call.name; token = call.op_token; at = pos } in
         begins_call rules call pos k s plain.path form
@@ -221,8 +235,8 @@ module _ {S H : Type 0} (rules : Rules S H) where
     module _ (entries : List (ScopeEntry H)) (old : State S H) (error : Option (EvalAltResult H)) where
       -- an argument fails
       pub plain_stops : (new : State S H) → Fills rules def.params call.args false entries old error new →
-          StartsAs rules starts old (Err (error_in error)) new
-      unfolding Fills Collects StartsAs
+          Goes rules starts old (core (ended (Err (error_in error)))) new
+      unfolding Collects Goes
       plain_stops new fills k = fills.1 purpose refl k
 
       module _ (t : S) (run : Context H) (fills : Fills rules def.params call.args true entries old error (state_in t run))
@@ -235,8 +249,8 @@ module _ {S H : Type 0} (rules : Rules S H) where
 
         -- an argument's cell is held
         pub plain_fails : (e : EvalAltResult H) → true ≡ races mid.local.around.cells (map value_of entries) →
-            (is_out_of_memory e ≡ false → e ≡ variant.ErrorDataRace call.name pos) → StartsAs rules starts old (Err e) mid
-        unfolding Fills Collects StartsAs
+            (is_out_of_memory e ≡ false → e ≡ variant.ErrorDataRace call.name pos) → Goes rules starts old (core (ended (Err e))) mid
+        unfolding Collects Goes
         plain_fails e held told k =
             let values = fills.0 in
             let raced : races mid.local.around.cells values ≡ true =
@@ -250,8 +264,8 @@ module _ {S H : Type 0} (rules : Rules S H) where
             false ≡ races mid.local.around.cells (map value_of entries) →
             ((values : List (Dynamic H)) → entries ≡ parameters def.params values →
             Runs rules (EnterFunction (entry_of function NoThis true values pos mid.local)) mid result new) →
-            StartsAs rules starts old result new
-        unfolding Fills Collects StartsAs Steps
+            Goes rules starts old (core (ended result)) new
+        unfolding Collects Goes
         plain_runs result new free runs k =
             let values = fills.0 in
             let unraced : races mid.local.around.cells values ≡ false =
@@ -267,7 +281,7 @@ module _ {S H : Type 0} (rules : Rules S H) where
             ((values : List (Dynamic H)) → entries ≡ parameters own.params values →
             Runs rules (EnterFunction (entered own None NoThis true true values level pos)) mid result
             (behind_call (entered own None NoThis true true values level pos) mid.local (state_in left after))) →
-            StartsAs rules starts old result (state_of left after.global run.scope (holding run.this))
+            Goes rules starts old (core (ended result)) (state_of left after.global run.scope (holding run.this))
         plain_ends own level result left after free own_is level_is runs =
             plain_runs result (state_of left after.global run.scope (holding run.this)) free
             (λ values are. fresh_ends rules function NoThis values pos run.global run.scope (holding run.this) own None level run.global

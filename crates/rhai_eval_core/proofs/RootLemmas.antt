@@ -15,8 +15,8 @@ use Rattle.rhai_state.specs.declared.error.EvalAltResult.TheVariants as error
 use Rattle.rhai_state.specs.Errors.{is_out_of_memory}
 use Rattle.rhai_state.specs.Scope.{entries_of, name_of, names_in, revalued, value_in}
 use Rattle.rhai_machine.specs.machine.Machine.{Go}
-use Rattle.rhai_machine.specs.machine.Memory.{here, out_before_step, ◌⨾◌}
-use Rattle.rhai_machine.specs.language.Setting.{Globals, Rules, globals_of}
+use Rattle.rhai_machine.specs.machine.Memory.{here, out_before_step, ◌⨾◌, Leads}
+use Rattle.rhai_machine.specs.language.Setting.{Globals, Rules, globals_of, cut}
 use Rattle.rhai_machine.specs.language.State.{Held, Local, State}
 use Rattle.rhai_machine.specs.language.Values.{Cells, flat, through, through_union, used}
 use Rattle.rhai_machine.specs.language.Variables.{Variable}
@@ -25,18 +25,20 @@ use Rattle.rhai_machine.specs.language.Names.{value_beside}
 use Rattle.rhai_machine.proofs.MeantLaws.{meant_at, meant_beside}
 use Rattle.rhai_machine.specs.language.Calls.{is_held}
 use Rattle.rhai_machine.specs.language.Chains.{begun_core, meant_core, read_root_core, this_begun, this_root_core}
-use Rattle.rhai_machine.specs.language.Frames.{Lender, FromEntry, FromThis, Chain, Frame, Core, core, ended, ended_or_changed, on_value, Back, Fail}
+use Rattle.rhai_machine.specs.language.Frames.{Lender, FromEntry, FromThis, Chain, Frame, Core, core, ended, ended_or_changed, on_value}
+use Rattle.rhai_machine.specs.language.Frames.{Walk}
+use Rattle.rhai_machine.specs.language.Frames.{core_over}
+use Rattle.rhai_machine.specs.language.Frames.{Back, Fail}
 use Rattle.rhai_machine.specs.language.Frames.{ReadRoot, RootValue, ChainEnd}
 use Rattle.rhai_machine.specs.language.Members.{focused_on}
-use Rattle.rhai_machine.specs.language.Runs.{at, with_core, Goes, Runs, Steps}
+use Rattle.rhai_machine.specs.language.Runs.{at, with_core, Runs, Steps, Goes}
 use Rattle.rhai_machine.specs.language.Unwinding.{ended_chain, up_core}
+use Rattle.rhai_machine.specs.language.Language.{machine}
 use Rattle.rhai_steps.specs.States.{local_of, state_of}
 use Rattle.rhai_steps.proofs.Pieces.{faulted, step_by}
 use Rattle.rhai_assign.proofs.Places.{revalued_twice}
 use Rattle.rhai_calls.specs.ToldChanges.{without_changed}
-use Rattle.rhai_steps.specs.OnFocus.{lending, RunsFrom}
-use Rattle.rhai_chains.specs.Chains.{WalkRuns}
-use Rattle.rhai_eval_core.specs.Calls.{RunsUnder, StartsAs}
+use Rattle.rhai_steps.specs.OnFocus.{lending}
 use Rattle.rhai_eval_core.specs.Roots.{GoesBack, LendsVariable, RefusesThis, RefusesVariable}
 use Rattle.rhai_context.specs.Ends.{unit}
 use Rattle.rhai_callees.proofs.Lending.{lent_names}
@@ -79,12 +81,14 @@ module _ {S H : Type 0} (rules : Rules S H) where
   restored_state lender outer s = record s { local = ended_chain lender outer s.local }
 
   module _ (lender : Option Lender) (outer : Option (Dynamic H)) (k : List (Frame H)) (s : State S H) where
-    value_ends : (v : Dynamic H) → Goes rules (at (Back v) (ChainEnd lender outer ∷ k) s) (at (Back v) k (restored_state lender outer s))
+    value_ends : (v : Dynamic H) →
+        Leads (machine rules) (cut rules) (at (Back v) (ChainEnd lender outer ∷ k) s) (at (Back v) k (restored_state lender outer s))
     value_ends v = step_by rules _ _ (Go (core (Back v) k (ended_chain lender outer s.local))) refl here
 
     -- how a walk ended comes back, without whether it changed the focus
     chain_ends : (answer : Result (Dynamic H × Bool) (EvalAltResult H)) →
-        Goes rules (at (ended_or_changed answer) (ChainEnd lender outer ∷ k) s) (at (ended (without_changed answer)) k (restored_state lender outer s))
+        Leads (machine rules) (cut rules) (at (ended_or_changed answer) (ChainEnd lender outer ∷ k) s)
+        (at (ended (without_changed answer)) k (restored_state lender outer s))
     chain_ends (Ok (v, true)) = step_by rules _ _ (Go (core (Back v) (ChainEnd lender outer ∷ k) s.local)) refl (value_ends v)
     chain_ends (Ok (v, false)) = value_ends v
     chain_ends (Err e) = step_by rules _ _ (Go (core (Fail e) k (ended_chain lender outer s.local))) refl here
@@ -93,9 +97,9 @@ module _ {S H : Type 0} (rules : Rules S H) where
       (same : r ≡ without_changed answer) where
     -- the walk between its beginning and its end
     pub begins : (in_place : Bool) (lender : Option Lender) (v : Dynamic H) (old new : State S H) →
-        WalkRuns rules (record chain { in_place = in_place }) (working v old) answer new →
-        StartsAs rules (begun_core in_place lender v chain) old r (restored_state lender old.local.focus new)
-    unfolding StartsAs RunsFrom
+        Steps rules (Walk (record chain { in_place = in_place })) (working v old) (ended_or_changed answer) new →
+        Goes rules (begun_core in_place lender v chain) old (core (ended r)) (restored_state lender old.local.focus new)
+    unfolding Goes
     begins in_place lender v old new runs k = rw same
         (runs (ChainEnd lender old.local.focus ∷ k) ⨾ chain_ends lender old.local.focus k new answer)
 
@@ -109,24 +113,23 @@ module _ {S H : Type 0} (rules : Rules S H) where
           ∙ revalued_twice (entries_of old) i (slice_get (entries_of old) i) w u refl
 
       pub lent_begins : (before left : S) (was is : GlobalRuntimeState H) (held : Held H) →
-          WalkRuns rules (record chain { in_place = true }) (state_of before was old (lending held v)) answer
+          Steps rules (Walk (record chain { in_place = true })) (state_of before was old (lending held v)) (ended_or_changed answer)
           (state_of left is old (lending held w)) →
-          StartsAs rules (begun_core true (Some (FromEntry i)) v chain) (state_of before was old held) r (state_of left is new held)
+          Goes rules (begun_core true (Some (FromEntry i)) v chain) (state_of before was old held) (core (ended r))
+          (state_of left is new held)
       lent_begins before left was is held runs =
           subst (λ (entries : List (ScopeEntry H)).
-          StartsAs rules (begun_core true (Some (FromEntry i)) v chain) (state_of before was old held) r
+          Goes rules (begun_core true (Some (FromEntry i)) v chain) (state_of before was old held) (core (ended r))
           (record (state_of left is old held) { local = record (local_of is old held) { scope = entries } })) (sym lent_entries)
           (begins true (Some (FromEntry i)) v (state_of before was old held) (state_of left is old (lending held w)) runs)
 
     -- on `this`, which gets it back
     pub this_begins : (v w : Dynamic H) (before left : S) (was is : GlobalRuntimeState H) (scope : Scope H)
         (focus : Option (Dynamic H)) →
-        WalkRuns rules (record chain { in_place = true })
-        (state_of before was scope (record { this = Some v; focus = Some v })) answer
-        (state_of left is scope (record { this = Some v; focus = Some w })) →
-        StartsAs rules (begun_core true (Some FromThis) v chain)
-        (state_of before was scope (record { this = Some v; focus = focus })) r
-        (state_of left is scope (record { this = Some w; focus = focus }))
+        Steps rules (Walk (record chain { in_place = true })) (state_of before was scope (record { this = Some v; focus = Some v }))
+        (ended_or_changed answer) (state_of left is scope (record { this = Some v; focus = Some w })) →
+        Goes rules (begun_core true (Some FromThis) v chain) (state_of before was scope (record { this = Some v; focus = focus }))
+        (core (ended r)) (state_of left is scope (record { this = Some w; focus = focus }))
     this_begins v w before left was is scope focus runs =
         begins true (Some FromThis) v (state_of before was scope (record { this = Some v; focus = focus }))
         (state_of left is scope (record { this = Some v; focus = Some w })) runs
@@ -149,8 +152,9 @@ module _ {S H : Type 0} (rules : Rules S H) where
         (λ x. this_begun (through s.local.around.cells x pos) x chain k s.local) k s.local) bound
 
     pub this_enters : is_held s.local.around.cells v.value ≡ false → (r : Result (Dynamic H) (EvalAltResult H)) (new : State S H) →
-        StartsAs rules (begun_core true (Some FromThis) v chain) s r new → StartsAs rules (this_root_core pos chain) s r new
-    unfolding StartsAs
+        Goes rules (begun_core true (Some FromThis) v chain) s (core (ended r)) new →
+        Goes rules (this_root_core pos chain) s (core (ended r)) new
+    unfolding Goes
     this_enters free r new starts k = rw (
       this_seen k,
       free_begins s.local.around.cells v.value v
@@ -159,24 +163,24 @@ module _ {S H : Type 0} (rules : Rules S H) where
 
     -- and else it is another's
     pub this_held : is_held s.local.around.cells v.value ≡ true → (e : EvalAltResult H) →
-        (is_out_of_memory e ≡ false → e ≡ error.ErrorDataRace [] pos) → StartsAs rules (this_root_core pos chain) s (Err e) s
-    unfolding StartsAs
+        (is_out_of_memory e ≡ false → e ≡ error.ErrorDataRace [] pos) → Goes rules (this_root_core pos chain) s (core (ended (Err e))) s
+    unfolding Goes
     this_held held e told k = rw (this_seen k, through_held s.local.around.cells v.value v pos held)
         (faulted rules e (error.ErrorDataRace [] pos) told k s)
 
   -- there is no `this` to begin on
   pub this_missing : (pos : Position) (chain : Chain H) (s : State S H) → s.local.this ≡ None →
-      StartsAs rules (this_root_core pos chain) s (Err (error.ErrorUnboundThis pos)) s
-  unfolding StartsAs
+      Goes rules (this_root_core pos chain) s (core (ended (Err (error.ErrorUnboundThis pos)))) s
+  unfolding Goes
   this_missing pos chain s is k =
-      subst (λ (o : Option (Dynamic H)). Goes rules (with_core (on_value (bound_this pos o)
+      subst (λ (o : Option (Dynamic H)). Leads (machine rules) (cut rules) (with_core (on_value (bound_this pos o)
       (λ v. this_begun (through s.local.around.cells v pos) v chain k s.local) k s.local) s)
       (at (Fail (error.ErrorUnboundThis pos)) k s)) (sym is) here
 
   -- no walk begins on `this`
   pub this_refused : (pos : Position) (chain : Chain H) (s : State S H) (o : Option (Dynamic H)) → s.local.this ≡ o →
       (e : EvalAltResult H) →
-      RefusesThis s.local.around.cells pos o e → StartsAs rules (this_root_core pos chain) s (Err e) s
+      RefusesThis s.local.around.cells pos o e → Goes rules (this_root_core pos chain) s (core (ended (Err e))) s
   this_refused pos chain s None is e told = rw told (this_missing pos chain s is)
   this_refused pos chain s (Some v) is e seen = this_held pos chain s v is seen.0 e seen.1
 
@@ -191,11 +195,13 @@ module _ {S H : Type 0} (rules : Rules S H) where
     reads r k = on_value r (λ meaning. meant_core meaning chain k s.local) k s.local
 
     read_as : (x : Result (Meaning H) (EvalAltResult H)) → meant globals s.local.around s.local.scope variable ≡ x → (new : State S H)
-        (r : Result (Dynamic H) (EvalAltResult H)) → ((k : List (Frame H)) → Goes rules (with_core (reads x k) s) (at (ended r) k new)) →
+        (r : Result (Dynamic H) (EvalAltResult H)) →
+        ((k : List (Frame H)) → Leads (machine rules) (cut rules) (with_core (reads x k) s) (at (ended r) k new)) →
         Runs rules (ReadRoot variable chain) s r new
-    unfolding Steps
+    unfolding Goes
     read_as x is new r goes k = step_by rules _ _ (Go (read_root_core globals variable chain k s.local)) refl
-        (subst (λ (y : Result (Meaning H) (EvalAltResult H)). Goes rules (with_core (reads y k) s) (at (ended r) k new)) (sym is) (goes k))
+        (subst (λ (y : Result (Meaning H) (EvalAltResult H)).
+        Leads (machine rules) (cut rules) (with_core (reads y k) s) (at (ended r) k new)) (sym is) (goes k))
 
     -- it means no entry
     module _ (missing : entry_named variable.path.names variable.name s.local.scope ≡ None) where
@@ -208,14 +214,14 @@ module _ {S H : Type 0} (rules : Rules S H) where
 
       -- the walk begins on a temporary
       pub temporary_begins : (v : Dynamic H) (new : State S H) (r : Result (Dynamic H) (EvalAltResult H)) → Ok v ≡ beside →
-          StartsAs rules (begun_core false None v chain) s r new → Runs rules (ReadRoot variable chain) s r new
-      unfolding StartsAs
+          Goes rules (begun_core false None v chain) s (core (ended r)) new → Runs rules (ReadRoot variable chain) s r new
+      unfolding Goes
       temporary_begins v new r is runs = read_as (temporary (Ok v)) (means_temporary (Ok v) is) new r runs
 
       -- or there is none
       pub temporary_missing : (e : EvalAltResult H) → (is_out_of_memory e ≡ false → Err e ≡ beside) →
           Runs rules (ReadRoot variable chain) s (Err e) s
-      unfolding Steps
+      unfolding Goes
       temporary_missing (error.ErrorOutOfMemory p) told k = out_before_step {at = p} here
       temporary_missing e told k = read_as (temporary (Err e)) (means_temporary (Err e) (told refl)) s (Err e) (λ k. here) k
 
@@ -238,8 +244,8 @@ module _ {S H : Type 0} (rules : Rules S H) where
       -- the walk begins on its value
       pub root_begins : (new : State S H) (r : Result (Dynamic H) (EvalAltResult H)) (held : Bool) →
           held ≡ is_held s.local.around.cells v.value → held ≡ false →
-          StartsAs rules (begun_core true (Some (FromEntry i)) v chain) s r new → Runs rules (ReadRoot variable chain) s r new
-      unfolding StartsAs
+          Goes rules (begun_core true (Some (FromEntry i)) v chain) s (core (ended r)) new → Runs rules (ReadRoot variable chain) s r new
+      unfolding Goes
       root_begins new r held says is runs = read_as (of_entry i (Ok v))
           (means_entry (Ok v) (looked_free s.local.around.cells variable.name variable.at v.value v (sym says ∙ is))) new r runs
 
@@ -265,7 +271,7 @@ module _ {S H : Type 0} (rules : Rules S H) where
     pub variable_runs : (index : Option ℕ) →
         LendsVariable (globals_of rules.setting.offer) was variable (entries_of old) (Ok (index, v)) (entries_of mid) →
         GoesBack index w (entries_of mid) (entries_of new) →
-        WalkRuns rules (record chain { in_place = is_some index }) (state_of before was old (lending held v)) answer
+        Steps rules (Walk (record chain { in_place = is_some index })) (state_of before was old (lending held v)) (ended_or_changed answer)
         (state_of left is old (lending held w)) →
         Runs rules (ReadRoot variable chain) (state_of before was old held) r (state_of left is new held)
     variable_runs (Some i) lends gives runs = root_begins variable chain (state_of before was old held) i v lends.0 lends.1.0
@@ -283,24 +289,27 @@ module _ {S H : Type 0} (rules : Rules S H) where
     -- what comes of it, flattened
     came_up : (x : Result (Dynamic H) (EvalAltResult H)) → x ≡ flat s.local.around.cells v pos → (new : State S H)
         (r : Result (Dynamic H) (EvalAltResult H)) (k : List (Frame H)) →
-        Goes rules (with_core (on_value x (λ y. begun_core false None y chain k s.local) k s.local) s) (at (ended r) k new) →
-        Goes rules (at (Back v) (RootValue chain ∷ k) s) (at (ended r) k new)
+        Leads (machine rules) (cut rules) (with_core (on_value x (λ y. begun_core false None y chain k s.local) k s.local) s)
+        (at (ended r) k new) →
+        Leads (machine rules) (cut rules) (at (Back v) (RootValue chain ∷ k) s) (at (ended r) k new)
     came_up x same new r k goes = step_by rules _ _ (Go (up_core rules.setting (RootValue chain) v k s.local)) refl
         (subst (λ (y : Result (Dynamic H) (EvalAltResult H)).
-        Goes rules (with_core (on_value y (λ z. begun_core false None z chain k s.local) k s.local) s) (at (ended r) k new))
+        Leads (machine rules) (cut rules) (with_core (on_value y (λ z. begun_core false None z chain k s.local) k s.local) s)
+        (at (ended r) k new))
         (same ∙ ap (flat s.local.around.cells v) is) goes)
 
     -- the walk begins on it
     pub value_begins : (x : Dynamic H) → Ok x ≡ flat s.local.around.cells v pos → (new : State S H)
         (r : Result (Dynamic H) (EvalAltResult H)) →
-        StartsAs rules (begun_core false None x chain) s r new → RunsUnder rules (Back v) (RootValue chain) s r new
-    unfolding StartsAs RunsUnder
+        Goes rules (begun_core false None x chain) s (core (ended r)) new →
+        Goes rules (core_over (Back v) (RootValue chain)) s (core (ended r)) new
+    unfolding Goes
     value_begins x same new r runs k = came_up (Ok x) same new r k (runs k)
 
     -- or it is not had
     pub value_fails : (e : EvalAltResult H) → (is_out_of_memory e ≡ false → Err e ≡ flat s.local.around.cells v pos) →
-        RunsUnder rules (Back v) (RootValue chain) s (Err e) s
-    unfolding RunsUnder
+        Goes rules (core_over (Back v) (RootValue chain)) s (core (ended (Err e))) s
+    unfolding Goes
     value_fails (error.ErrorOutOfMemory p) same k =
         out_before_step {at = p} (step_by rules _ _ (Go (core (Fail (error.ErrorOutOfMemory p)) k s.local)) refl here)
     value_fails e same k = came_up (Err e) (same refl) s (Err e) k here

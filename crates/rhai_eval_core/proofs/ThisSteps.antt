@@ -9,13 +9,14 @@ use Rattle.rhai_tree.specs.Positions.{position_of}
 use Rattle.rhai_values.specs.declared.base.value.Dynamic.{Dynamic}
 use Rattle.rhai_state.specs.declared.error.EvalAltResult.TheVariants as error
 use Rattle.rhai_machine.specs.machine.Machine.{Go}
-use Rattle.rhai_machine.specs.machine.Memory.{here}
-use Rattle.rhai_machine.specs.language.Setting.{Rules}
+use Rattle.rhai_machine.specs.machine.Memory.{here, Leads}
+use Rattle.rhai_machine.specs.language.Setting.{Rules, cut}
 use Rattle.rhai_machine.specs.language.State.{State}
 use Rattle.rhai_machine.specs.language.Names.{bound_this}
 use Rattle.rhai_machine.specs.language.Assignment.{assignment_move, to_this}
 use Rattle.rhai_machine.specs.language.Frames.{Frame, core, AssignThisValue, Eval, Fail, OpenStmt}
-use Rattle.rhai_machine.specs.language.Runs.{at, Goes}
+use Rattle.rhai_machine.specs.language.Runs.{at}
+use Rattle.rhai_machine.specs.language.Language.{machine}
 use Rattle.rhai_steps.proofs.Pieces.{step_by}
 
 module _ {S H : Type 0} (rules : Rules S H) (op : OpAssignment) (lhs rhs : Expr) (pos : Position) (restoring : Bool)
@@ -32,12 +33,14 @@ module _ {S H : Type 0} (rules : Rules S H) (op : OpAssignment) (lhs rhs : Expr)
 
   -- `this` has to be bound
   pub this_unbound : is_some s.local.this ≡ false →
-      Goes rules (at (OpenStmt (layer.Assignment op lhs rhs) restoring) k s) (at (Fail (error.ErrorUnboundThis pos)) k s)
+      Leads (machine rules) (cut rules) (at (OpenStmt (layer.Assignment op lhs rhs) restoring) k s)
+      (at (Fail (error.ErrorUnboundThis pos)) k s)
   this_unbound none = step_by rules _ _ (Go (core (Fail (error.ErrorUnboundThis pos)) k s.local))
       (ap (λ (form : ExprLayer). assignment_move form op rhs k s.local) is ∙ ap Go (unbound s.local.this none)) here
 
   -- and then the value is evaluated
-  pub this_begins : is_some s.local.this ≡ true → Goes rules (at (OpenStmt (layer.Assignment op lhs rhs) restoring) k s)
+  pub this_begins : is_some s.local.this ≡ true →
+      Leads (machine rules) (cut rules) (at (OpenStmt (layer.Assignment op lhs rhs) restoring) k s)
       (at (Eval rhs) (AssignThisValue op pos (position_of rhs) ∷ k) s)
   this_begins none = step_by rules _ _ (Go (core (Eval rhs) (AssignThisValue op pos (position_of rhs) ∷ k) s.local))
       (ap (λ (form : ExprLayer). assignment_move form op rhs k s.local) is ∙ ap Go (bound s.local.this none)) here

@@ -16,12 +16,13 @@ use Rattle.rhai_values.specs.declared.base.value.AccessMode.TheVariants.{ReadWri
 use Rattle.rhai_state.specs.Errors.{is_catchable, is_out_of_memory}
 use Rattle.rhai_machine.specs.machine.Machine.{Go}
 use Rattle.rhai_machine.specs.machine.Point.{after}
-use Rattle.rhai_machine.specs.machine.Memory.{here, next, out_before_step}
+use Rattle.rhai_machine.specs.machine.Memory.{here, next, out_before_step, Leads}
 use Rattle.rhai_machine.specs.language.Frames.{Back, CatchBranch, core, ended, Enter, Fail, Frame, RestoreScope, TryBody}
-use Rattle.rhai_machine.specs.language.Runs.{at, with_core, Goes}
-use Rattle.rhai_machine.specs.language.Setting.{Rules}
+use Rattle.rhai_machine.specs.language.Runs.{at, with_core}
+use Rattle.rhai_machine.specs.language.Setting.{Rules, cut}
 use Rattle.rhai_machine.specs.language.State.{Held, State}
 use Rattle.rhai_machine.specs.language.Tries.{branch_core, branch_with, catch_variable}
+use Rattle.rhai_machine.specs.language.Language.{machine}
 use Rattle.rhai_steps.specs.States.{local_of, state_of}
 use Rattle.rhai_steps.proofs.Pieces.{faulted, step_by}
 use Rattle.rhai_catches.specs.Branches.{bound, left_by, room_for_caught}
@@ -35,24 +36,25 @@ never e is = cc
 module _ {S H : Type 0} (rules : Rules S H) (k : List (Frame H)) where
   module _ (variable : Expr) (branch : StmtBlock) where
     -- the body went well, or ended by an error that passes
-    pub try_done : (v : Dynamic H) (l : State S H) → Goes rules (at (Back v) (TryBody variable branch ∷ k) l) (at (Back v) k l)
+    pub try_done : (v : Dynamic H) (l : State S H) →
+        Leads (machine rules) (cut rules) (at (Back v) (TryBody variable branch ∷ k) l) (at (Back v) k l)
     unfolding after
     try_done v l = next here
 
     pub try_passes : (e : EvalAltResult H) (l : State S H) → is_catchable e ≡ false →
-        Goes rules (at (Fail e) (TryBody variable branch ∷ k) l) (at (Fail e) k l)
+        Leads (machine rules) (cut rules) (at (Fail e) (TryBody variable branch ∷ k) l) (at (Fail e) k l)
     try_passes e l is = step_by rules _ _ (Go (core (Fail e) k l.local)) (rw is refl) here
 
     -- or by one that is caught
     pub try_catches : (e : EvalAltResult H) (l : State S H) → is_catchable e ≡ true →
-        Goes rules (at (Fail e) (TryBody variable branch ∷ k) l)
+        Leads (machine rules) (cut rules) (at (Fail e) (TryBody variable branch ∷ k) l)
         (with_core (branch_core rules.setting (catch_variable (out-Expr variable)) e branch k l.local) l)
     try_catches e l is = step_by rules _ _ (Go (branch_core rules.setting (catch_variable (out-Expr variable)) e branch k l.local))
         (rw is refl) here
 
   -- what comes out of a branch, below which the scope goes back to its length
   pub branch_left : (caught : EvalAltResult H) (r : Result (Dynamic H) (EvalAltResult H)) (l : State S H) →
-      Goes rules (at (ended r) (CatchBranch caught ∷ k) l) (at (ended (left_by l.local.around.cells caught r)) k l)
+      Leads (machine rules) (cut rules) (at (ended r) (CatchBranch caught ∷ k) l) (at (ended (left_by l.local.around.cells caught r)) k l)
   unfolding after
   branch_left caught (Ok v) l = next here
   branch_left caught (Err e) l = next here
@@ -67,7 +69,7 @@ module _ {S H : Type 0} (rules : Rules S H) (k : List (Frame H)) where
   module _ (caught : EvalAltResult H) (branch : StmtBlock) (l : State S H) where
     with_not : (full : Bool) (variable : Ident) (v : Dynamic H) (e : EvalAltResult H) →
         (is_out_of_memory e ≡ false → Err e ≡ room_for_caught (Some variable) full) →
-        Goes rules (with_core (branch_with full variable v caught branch k l.local) l) (at (Fail e) k l)
+        Leads (machine rules) (cut rules) (with_core (branch_with full variable v caught branch k l.local) l) (at (Fail e) k l)
     unfolding after
     with_not true variable v e told = faulted rules e (error.ErrorTooManyVariables variable.pos) (λ m. err_same _ _ _ refl (told m)) k l
     with_not false variable v (error.ErrorOutOfMemory pos) told =
@@ -77,7 +79,7 @@ module _ {S H : Type 0} (rules : Rules S H) (k : List (Frame H)) where
     -- it has no room, or memory runs out
     pub branch_not : (o : Option Ident) (e : EvalAltResult H) →
         (is_out_of_memory e ≡ false → Err e ≡ room_for_caught o (nat_le rules.setting.limits.max_variables (length l.local.scope))) →
-        Goes rules (with_core (branch_core rules.setting o caught branch k l.local) l) (at (Fail e) k l)
+        Leads (machine rules) (cut rules) (with_core (branch_core rules.setting o caught branch k l.local) l) (at (Fail e) k l)
     unfolding after
     branch_not (Some variable) e told = with_not _ variable _ e told
     branch_not None (error.ErrorOutOfMemory pos) told = out_before_step {at = pos} (next here)
@@ -88,7 +90,8 @@ module _ {S H : Type 0} (rules : Rules S H) (k : List (Frame H)) where
       (base : ℕ) (there : base ≡ length (entries_of old)) where
     with_bound : (full : Bool) (variable : Ident) (v : Dynamic H) → Ok tt ≡ room_for_caught {H = H} (Some variable) full →
         entries_of new ≡ entries_of old ++ new_entry variable.name ReadWrite v ∷ [] →
-        Goes rules (with_core (branch_with full variable v caught branch k (local_of global old held)) (state_of t global old held))
+        Leads (machine rules) (cut rules)
+        (with_core (branch_with full variable v caught branch k (local_of global old held)) (state_of t global old held))
         (at (Enter branch.statements true) (CatchBranch caught ∷ RestoreScope base ∷ k) (state_of t global new held))
     with_bound true variable v told is = cc
     with_bound false variable v told is = rw (is, there) here
@@ -96,7 +99,8 @@ module _ {S H : Type 0} (rules : Rules S H) (k : List (Frame H)) where
     pub branch_on : (o : Option Ident) →
         Ok tt ≡ room_for_caught {H = H} o (nat_le rules.setting.limits.max_variables (length (entries_of old))) →
         entries_of new ≡ entries_of old ++ bound o global.source caught →
-        Goes rules (with_core (branch_core rules.setting o caught branch k (local_of global old held)) (state_of t global old held))
+        Leads (machine rules) (cut rules)
+        (with_core (branch_core rules.setting o caught branch k (local_of global old held)) (state_of t global old held))
         (at (Enter branch.statements true) (CatchBranch caught ∷ below o base) (state_of t global new held))
     branch_on None told is = rw (is, append-nil (entries_of old)) here
     branch_on (Some variable) told is = with_bound _ variable _ told is
@@ -105,7 +109,8 @@ module _ {S H : Type 0} (rules : Rules S H) (k : List (Frame H)) where
   pub scope_back : (o : Option Ident) (r : Result (Dynamic H) (EvalAltResult H)) (n : ℕ) (t : S) (global : GlobalRuntimeState H)
       (old new : Scope H) (held : Held H) → (o ≡ None → take n (entries_of old) ≡ entries_of old) →
       entries_of new ≡ take n (entries_of old) →
-      Goes rules (at (ended r) (below o n) (state_of t global old held)) (at (ended r) k (state_of t global new held))
+      Leads (machine rules) (cut rules) (at (ended r) (below o n) (state_of t global old held))
+      (at (ended r) k (state_of t global new held))
   unfolding after
   scope_back None r n t global old new held whole is = rw (is, whole refl) here
   scope_back (Some variable) (Ok v) n t global old new held whole is = next (rw is here)

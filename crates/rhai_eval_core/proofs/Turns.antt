@@ -10,7 +10,7 @@ use Rattle.rhai_state.specs.declared.error.EvalAltResult.TheVariants as error
 use Rattle.rhai_machine.specs.machine.Machine.{Move, Halt, Go}
 use Rattle.rhai_machine.specs.machine.Unwinding.{Passes}
 use Rattle.rhai_machine.specs.machine.Point.{Point, paid, after}
-use Rattle.rhai_machine.specs.machine.Memory.{MemoryUnwinds, here, next, out_before_step, out_in_native}
+use Rattle.rhai_machine.specs.machine.Memory.{MemoryUnwinds, here, next, out_before_step, out_in_native, Leads}
 use Rattle.rhai_machine.specs.language.Setting.{Rules, cut}
 use Rattle.rhai_machine.specs.language.State.{State, Local}
 use Rattle.rhai_machine.specs.language.Frames.{Control, Frame, Core, core, ended, Exec, Enter, Run, Back, Fail, OpenStmt, RestOfList}
@@ -18,7 +18,7 @@ use Rattle.rhai_machine.specs.language.Frames.{RestoreList}
 use Rattle.rhai_machine.specs.language.Limits.{IsRefused}
 use Rattle.rhai_machine.specs.language.Memory.{IsOutOfMemory}
 use Rattle.rhai_machine.specs.language.Language.{machine, move_at}
-use Rattle.rhai_machine.specs.language.Runs.{at, Goes, Steps, Runs}
+use Rattle.rhai_machine.specs.language.Runs.{at, Runs, Goes}
 use Rattle.rhai_machine.specs.language.Values.{unit_value}
 use Rattle.rhai_machine.specs.language.Statements.{saved_by, deeper}
 use Rattle.rhai_machine.proofs.LanguageLaws.{unwinds}
@@ -90,16 +90,17 @@ module _ {S H : Type 0} (rules : Rules S H) where
   abbrev Charged : Point S (Core H) → Point S (Core H) → Type 0
   Charged p q = IsLost q.core ⊎ (p.count < q.count)
 
-  stays_lost : {p q : Point S (Core H)} → Goes rules p q → IsLost p.core → IsLost q.core
+  stays_lost : {p q : Point S (Core H)} → Leads (machine rules) (cut rules) p q → IsLost p.core → IsLost q.core
   stays_lost steps is = stays_out (machine rules) (cut rules) IsLost lost steps is
 
-  paid_charges : (lets : Bool) (at : Position) (d : Core H) (p q : Point S (Core H)) → Goes rules (paid (machine rules) lets at d p) q →
+  paid_charges : (lets : Bool) (at : Position) (d : Core H) (p q : Point S (Core H)) →
+      Leads (machine rules) (cut rules) (paid (machine rules) lets at d p) q →
       Charged p q
   paid_charges true at d p q steps = inr (omega (arith, counts (machine rules) (cut rules) steps))
   paid_charges false at d p q steps = inl (stays_lost steps (inl (at, refl)))
 
   exec_charges : (stmt : Stmt) (restoring : Bool) (k : List (Frame H)) (l : State S H) {q : Point S (Core H)} → IsDone q.core.control →
-      Goes rules (at (Exec stmt restoring) k l) q → Charged (at (Exec stmt restoring) k l) q
+      Leads (machine rules) (cut rules) (at (Exec stmt restoring) k l) q → Charged (at (Exec stmt restoring) k l) q
   unfolding after
   exec_charges stmt restoring k l done here = absurd done
   exec_charges stmt restoring k l {q} done (next steps) =
@@ -110,15 +111,17 @@ module _ {S H : Type 0} (rules : Rules S H) where
 
   run_charges : (stmt : Stmt) (rest : List Stmt) (restoring : Bool) (last : Dynamic H) (k : List (Frame H)) (l : State S H)
       {q : Point S (Core H)} → IsDone q.core.control →
-      Goes rules (at (Run (stmt ∷ rest) restoring last) k l) q → Charged (at (Run (stmt ∷ rest) restoring last) k l) q
+      Leads (machine rules) (cut rules) (at (Run (stmt ∷ rest) restoring last) k l) q →
+      Charged (at (Run (stmt ∷ rest) restoring last) k l) q
   unfolding after
   run_charges stmt rest restoring last k l done here = absurd done
   run_charges stmt rest restoring last k l done (next steps) = exec_charges stmt restoring (RestOfList rest restoring ∷ k) l done steps
   run_charges stmt rest restoring last k l done (out_before_step {at = pos} steps) = inl (stays_lost steps (inr (pos, refl)))
-  run_charges stmt rest restoring last k l done (out_in_native {at = pos} is e first state may steps) = inl (stays_lost steps (inr (pos, refl)))
+  run_charges stmt rest restoring last k l done (out_in_native {at = pos} is e first state may steps) =
+      inl (stays_lost steps (inr (pos, refl)))
 
   enter_charges : (stmt : Stmt) (rest : List Stmt) (l : State S H) {q : Point S (Core H)} → IsDone q.core.control →
-      Goes rules (at (Enter (stmt ∷ rest) true) [] l) q → Charged (at (Enter (stmt ∷ rest) true) [] l) q
+      Leads (machine rules) (cut rules) (at (Enter (stmt ∷ rest) true) [] l) q → Charged (at (Enter (stmt ∷ rest) true) [] l) q
   unfolding after
   enter_charges stmt rest l done here = absurd done
   enter_charges stmt rest l done (next steps) =
@@ -129,7 +132,8 @@ module _ {S H : Type 0} (rules : Rules S H) where
   enter_charges stmt rest l done (out_before_step {at = pos} steps) = inl (stays_lost steps (inr (pos, refl)))
   enter_charges stmt rest l done (out_in_native {at = pos} is e first state may steps) = inl (stays_lost steps (inr (pos, refl)))
 
-  empty_idles : (l : State S H) {q : Point S (Core H)} → IsDone q.core.control → Goes rules (at (Enter [] true) [] l) q → IsIdle q.core
+  empty_idles : (l : State S H) {q : Point S (Core H)} → IsDone q.core.control →
+      Leads (machine rules) (cut rules) (at (Enter [] true) [] l) q → IsIdle q.core
   unfolding after
   empty_idles l done here = absurd done
   empty_idles l done (next steps) = stays_out (machine rules) (cut rules) IsIdle idle steps (inr (tt, refl))
@@ -172,13 +176,13 @@ module _ {S H : Type 0} (rules : Rules S H) where
 
   pub body_charges : (stmts : List Stmt) (old new : State S H) (r : Result (Dynamic H) (EvalAltResult H)) → stmts ≢ [] →
       Runs rules (Enter stmts true) old r new → OnOk (after_body (turn_in r)) (old.count < new.count)
-  unfolding Steps
+  unfolding Goes
   body_charges [] old new r some runs = absurd (some refl)
   body_charges (stmt ∷ rest) old new r some runs = ended_charges stmt rest old new r (enter_charges stmt rest old (done r) (runs []))
 
   -- a `break` or a `continue` comes out of a body only after a charge
   leaves_after : (stmts : List Stmt) (old new : State S H) (e : EvalAltResult H) → leaves_turn e ≡ true →
-      Goes rules (at (Enter stmts true) [] old) (at (Fail e) [] new) → old.count < new.count
+      Leads (machine rules) (cut rules) (at (Enter stmts true) [] old) (at (Fail e) [] new) → old.count < new.count
   leaves_after [] old new e leaves steps = absurd (no_way e new.local leaves (empty_idles old tt steps))
   leaves_after (stmt ∷ rest) old new e leaves steps = elim (enter_charges stmt rest old tt steps) [
     | inl is ↦ absurd (way_kept e [] new.local leaves is)
@@ -187,7 +191,7 @@ module _ {S H : Type 0} (rules : Rules S H) where
 
   leaves_charges : (stmts : List Stmt) (old new : State S H) (e : EvalAltResult H) → leaves_turn e ≡ true →
       Runs rules (Enter stmts true) old (Err e) new → old.count < new.count
-  unfolding Steps
+  unfolding Goes
   leaves_charges stmts old new e leaves runs = leaves_after stmts old new e leaves (runs [])
 
   -- a body that ended by a `break` or a `continue` has charged

@@ -13,13 +13,14 @@ use Rattle.rhai_state.specs.declared.state.GlobalRuntimeState.{GlobalRuntimeStat
 use Rattle.rhai_state.specs.Errors.{is_out_of_memory}
 use Rattle.rhai_state.specs.Scope.{entries_of}
 use Rattle.rhai_machine.specs.machine.Machine.{Go}
-use Rattle.rhai_machine.specs.machine.Memory.{here}
-use Rattle.rhai_machine.specs.language.Setting.{Rules}
+use Rattle.rhai_machine.specs.machine.Memory.{here, Leads}
+use Rattle.rhai_machine.specs.language.Setting.{Rules, cut}
 use Rattle.rhai_machine.specs.language.State.{Held}
 use Rattle.rhai_machine.specs.language.Statements.{defined_core}
 use Rattle.rhai_machine.specs.language.Values.{flat, unit_value}
 use Rattle.rhai_machine.specs.language.Frames.{Frame, core, ended, on_value, Back, DefineValue, Fail}
-use Rattle.rhai_machine.specs.language.Runs.{at, Goes}
+use Rattle.rhai_machine.specs.language.Runs.{at}
+use Rattle.rhai_machine.specs.language.Language.{machine}
 use Rattle.rhai_steps.specs.States.{local_of, state_of}
 use Rattle.rhai_steps.proofs.Pieces.{step_by}
 use Rattle.rhai_context.specs.Ends.{came, error_in}
@@ -35,7 +36,8 @@ module _ {S H : Type 0} (rules : Rules S H) (t : S) (g entered : GlobalRuntimeSt
   -- the variable is there, and entered where it has to be
   defines : Ok v ≡ flat (cells_of g.cells) given value_at → entered.num_operations ≡ g.num_operations →
       Declares v ident index options restoring (local_of g old held) (local_of entered new held) →
-      Goes rules (at (Back given) (frame ∷ k) (state_of t g old held)) (at (Back unit_value) k (state_of t entered new held))
+      Leads (machine rules) (cut rules) (at (Back given) (frame ∷ k) (state_of t g old held))
+      (at (Back unit_value) k (state_of t entered new held))
   defines flattened counts is =
       step_by rules _ _ (Go (core (Back unit_value) k (local_of entered new held)))
       (ap (λ (r : Result (Dynamic H) (EvalAltResult H)). Go (on_value r (λ x. defined_core x ident index options restoring k
@@ -43,14 +45,14 @@ module _ {S H : Type 0} (rules : Rules S H) (t : S) (g entered : GlobalRuntimeSt
 
   -- or there was no memory for that
   defines_not : (e : EvalAltResult H) → is_out_of_memory e ≡ true → entries_of new ≡ entries_of old →
-      Goes rules (at (Back given) (frame ∷ k) (state_of t g old held)) (at (Fail e) k (state_of t g new held))
+      Leads (machine rules) (cut rules) (at (Back given) (frame ∷ k) (state_of t g old held)) (at (Fail e) k (state_of t g new held))
   defines_not e is_out same = rw same (fails_on rules given frame k (state_of t g old held) e (λ x. refl)
       (λ told. let never : true ≡ false = sym is_out ∙ told in cc))
 
   -- or it is to be exported, and no variable has its name
   misses : (e : EvalAltResult H) → Ok v ≡ flat (cells_of g.cells) given value_at → entered.num_operations ≡ g.num_operations →
       Misses v ident index options restoring e (local_of g old held) (local_of entered new held) →
-      Goes rules (at (Back given) (frame ∷ k) (state_of t g old held)) (at (Fail e) k (state_of t entered new held))
+      Leads (machine rules) (cut rules) (at (Back given) (frame ∷ k) (state_of t g old held)) (at (Fail e) k (state_of t entered new held))
   misses e flattened counts is =
       step_by rules _ _ (Go (core (Fail e) k (local_of entered new held)))
       (ap (λ (r : Result (Dynamic H) (EvalAltResult H)). Go (on_value r (λ x. defined_core x ident index options restoring k
@@ -61,7 +63,7 @@ module _ {S H : Type 0} (rules : Rules S H) (t : S) (g entered : GlobalRuntimeSt
       entered.num_operations ≡ g.num_operations →
       (is_out ≡ false → Misses v ident index options restoring e (local_of g old held) (local_of entered new held)) →
       (is_out ≡ true → entered ≡ g) → entries_of new ≡ entries_of old →
-      Goes rules (at (Back given) (frame ∷ k) (state_of t g old held)) (at (Fail e) k (state_of t entered new held))
+      Leads (machine rules) (cut rules) (at (Back given) (frame ∷ k) (state_of t g old held)) (at (Fail e) k (state_of t entered new held))
   declared_not e true is flattened counts missed same same_scope = rw (same refl) (defines_not e is same_scope)
   declared_not e false is flattened counts missed same same_scope = misses e flattened counts (missed refl)
 
@@ -73,7 +75,8 @@ module _ {S H : Type 0} (rules : Rules S H) (t : S) (g entered : GlobalRuntimeSt
       (done ≡ false → is_out_of_memory (error_in place) ≡ false →
       Misses v ident index options restoring (error_in place) (local_of g old held) (local_of entered new held)) →
       (done ≡ false → is_out_of_memory (error_in place) ≡ true → entered ≡ g) → (done ≡ false → entries_of new ≡ entries_of old) →
-      Goes rules (at (Back given) (frame ∷ k) (state_of t g old held)) (at (ended (came done out place)) k (state_of t entered new held))
+      Leads (machine rules) (cut rules) (at (Back given) (frame ∷ k) (state_of t g old held))
+      (at (ended (came done out place)) k (state_of t entered new held))
   declared true out place flattened value is counts missed same same_scope = rw (value refl) (defines flattened counts (is refl))
   declared false out place flattened value is counts missed same same_scope =
       declared_not (error_in place) (is_out_of_memory (error_in place)) refl flattened counts (missed refl) (same refl) (same_scope refl)

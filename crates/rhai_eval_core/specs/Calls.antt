@@ -1,5 +1,5 @@
 -- How the parts of a call are told.
-use Rattle.std.specs.Prelude.{◌≡◌, ◌+◌, ℕ, Bool, true, List, [], ◌∷◌, Option, Result, Ok, Err, IsTrue, codes, length}
+use Rattle.std.specs.Prelude.{◌≡◌, ◌+◌, ℕ, Bool, List, [], ◌∷◌, Option, Result, Ok, Err, codes, length}
 use Rattle.rhai_tree.specs.declared.expr.Expr.{Expr}
 use Rattle.rhai_tree.specs.declared.expr.FnCallExpr.{FnCallExpr}
 use Rattle.rhai_tree.specs.declared.expr.Namespace.{Namespace}
@@ -8,56 +8,34 @@ use Rattle.rhai_tree.specs.declared.token.Token.{Token}
 use Rattle.rhai_values.specs.declared.base.value.Dynamic.{Dynamic}
 use Rattle.rhai_values.specs.declared.base.value.FnPtr.{FnPtr, out-FnPtr}
 use Rattle.rhai_state.specs.declared.error.EvalAltResult.{EvalAltResult}
-use Rattle.rhai_state.specs.declared.scope.ScopeEntry.{ScopeEntry}
-use Rattle.rhai_functions.specs.Entering.{parameters}
-use Rattle.rhai_context.specs.Ends.{came}
-use Rattle.rhai_machine.specs.machine.Point.{Point}
 use Rattle.rhai_machine.specs.language.Setting.{Rules}
 use Rattle.rhai_machine.specs.language.State.{Local, State}
-use Rattle.rhai_machine.specs.language.Frames.{Operation, Control, Purpose, Frame, Core, core, Fail, ended}
+use Rattle.rhai_machine.specs.language.Frames.{Operation, Purpose, Frame, Core, core, Fail}
 use Rattle.rhai_machine.specs.language.Frames.{ToCallFunction, ToCallNumber, ToCurry}
 use Rattle.rhai_machine.specs.language.Arguments.{arguments_core, arguments_there, flattens, function_core, keyword_of, linked_to}
 use Rattle.rhai_machine.specs.language.Arguments.{operation_named, pointer_core}
-use Rattle.rhai_machine.specs.language.Runs.{at, with_core, Goes}
+use Rattle.rhai_machine.specs.language.Runs.{Goes}
 use Rattle.rhai_eval_core.specs.declared.call.keywords.PointerUse.{PointerUse}
 use Rattle.rhai_eval_core.specs.declared.call.keywords.PointerUse.TheVariants as code
 
 module _ {S H : Type 0} (rules : Rules S H) where
-  -- from the core to which a rule leads, over any stack, to how it ended
-  unfoldable pub StartsAs : (start : List (Frame H) → Local H → Core H) → State S H → Result (Dynamic H) (EvalAltResult H) → State S H →
-      Type 0
-  StartsAs start old result new = (k : List (Frame H)) → Goes rules (with_core (start k old.local) old) (at (ended result) k new)
-
-  -- from a control over a frame to what comes of the frame
-  unfoldable pub RunsUnder : Control H → Frame H → State S H → Result (Dynamic H) (EvalAltResult H) → State S H → Type 0
-  RunsUnder c f old result new = (k : List (Frame H)) → Goes rules (at c (f ∷ k) old) (at (ended result) k new)
-
   -- a pointer that is called
   abbrev pub pointer_called : FnPtr H → Position → List Expr → (captures : Bool) → List (Frame H) → Local H → Core H
   pointer_called pointer at args captures k l =
-      pointer_core rules.setting (linked_to pointer (length (out-FnPtr H pointer).curry + length args) l.around.lib) pointer at args captures
+      pointer_core rules.setting (linked_to pointer (length (out-FnPtr H pointer).curry + length args) l.around.lib) pointer at args
+      captures
       k l
 
   -- all arguments are there for what they are for, or an error comes down
-  abbrev pub collected : Purpose H → Result (List (Dynamic H)) (EvalAltResult H) → List (Frame H) → State S H → Point S (Core H)
-  collected purpose (Ok values) k new = with_core (arguments_there rules.setting purpose values k new.local) new
-  collected purpose (Err e) k new = at (Fail e) k new
+  abbrev pub collected : Purpose H → Result (List (Dynamic H)) (EvalAltResult H) → List (Frame H) → Local H → Core H
+  collected purpose (Ok values) k l = arguments_there rules.setting purpose values k l
+  collected purpose (Err e) k l = core (Fail e) k l
 
   -- from the arguments of a call behind those that are there to where all of them are there, whatever they are for
   unfoldable pub Collects : (flattened : Bool) → (made : List (Dynamic H)) → List Expr → State S H →
       Result (List (Dynamic H)) (EvalAltResult H) → State S H → Type 0
-  Collects flattened made args old result new = (purpose : Purpose H) → flattens purpose ≡ flattened → (k : List (Frame H)) →
-      Goes rules (with_core (arguments_core rules.setting purpose made args k old.local) old) (collected purpose result k new)
-
-  -- from the arguments of a call by name to where all of them are the variables of its function, and the libraries are what they were;
-  -- or to an error
-  unfoldable pub Fills : (params : List (List ℕ)) → List Expr → (well : Bool) → List (ScopeEntry H) → State S H →
-      Option (EvalAltResult H) → State S H → Type 0
-  Fills params args well entries old error new = (values : List (Dynamic H))
-      × (Collects true [] args old (came well values error) new)
-      × (IsTrue well → entries ≡ parameters params values)
-      × (IsTrue well → length values ≡ length args)
-      × (IsTrue well → new.local.around.lib ≡ old.local.around.lib)
+  Collects flattened made args old result new = (purpose : Purpose H) → flattens purpose ≡ flattened →
+      Goes rules (arguments_core rules.setting purpose made args) old (collected purpose result) new
 
 module _ {H : Type 0} where
   -- what is no operator on its operands is a keyword, or a call by name

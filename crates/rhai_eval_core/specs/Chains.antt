@@ -9,12 +9,13 @@ use Rattle.rhai_tree.specs.Reading as walk
 use Rattle.rhai_tree.specs.Reading.{sound}
 use Rattle.rhai_values.specs.declared.base.value.Dynamic.{Dynamic}
 use Rattle.rhai_state.specs.declared.error.EvalAltResult.{EvalAltResult}
-use Rattle.rhai_machine.specs.machine.Point.{Point}
-use Rattle.rhai_machine.specs.language.Setting.{Rules}
+use Rattle.rhai_machine.specs.machine.Memory.{Leads}
+use Rattle.rhai_machine.specs.language.Setting.{Rules, cut}
 use Rattle.rhai_machine.specs.language.State.{State}
-use Rattle.rhai_machine.specs.language.Frames.{Chain, Frame, Core, ChainArguments, ChainRoot, Fail, OpenChain}
+use Rattle.rhai_machine.specs.language.Frames.{Chain, ChainRoot, Control, Fail, OpenChain}
+use Rattle.rhai_machine.specs.language.Language.{machine}
 use Rattle.rhai_machine.specs.language.Expressions.{literal_of}
-use Rattle.rhai_machine.specs.language.Runs.{at, Goes}
+use Rattle.rhai_machine.specs.language.Runs.{at}
 use Rattle.rhai_chains.specs.Chains.{Walks}
 use Rattle.rhai_chains.specs.declared.arguments.Ready.{Ready}
 use Rattle.rhai_chains.specs.declared.arguments.Ready.TheVariants as code
@@ -51,19 +52,13 @@ module _ {H : Type 0} where
   HasAsked (Ok values) before form = (assigned : Bool) (count : ℕ) → Walks assigned form count → length values ≡ before + count
   HasAsked (Err e) before form = ⊤
 
-module _ {S H : Type 0} (rules : Rules S H) where
   -- the values of all links are there for a chain's root, or an error comes down
-  abbrev pub gathered : Chain H → Result (List (Dynamic H)) (EvalAltResult H) → List (Frame H) → State S H → Point S (Core H)
-  gathered chain (Ok values) k new = at (ChainRoot (record chain { args = values })) k new
-  gathered chain (Err e) k new = at (Fail e) k new
+  abbrev pub gathered : Chain H → Result (List (Dynamic H)) (EvalAltResult H) → Control H
+  gathered chain (Ok values) = ChainRoot (record chain { args = values })
+  gathered chain (Err e) = Fail e
 
+module _ {S H : Type 0} (rules : Rules S H) where
   -- at one point of a chain's run the values of all its links are there, and it goes on with the root
   abbrev pub AsksFirst : Chain H → (old : State S H) → Type 0
-  AsksFirst chain old =
-      (values : List (Dynamic H)) × (there : State S H) × Goes rules (at (OpenChain chain) [] old) (gathered chain (Ok values) [] there)
-
-  -- from the arguments of a chain's links behind those that are there to where all of them are there, whatever the whole chain is
-  unfoldable pub Gathers : (rest : ExprLayer) → (made : List (Dynamic H)) → State S H → Result (List (Dynamic H)) (EvalAltResult H) →
-      State S H → Type 0
-  Gathers rest made old result new = (chain : Chain H) (k : List (Frame H)) →
-      Goes rules (at (ChainArguments chain rest made) k old) (gathered chain result k new)
+  AsksFirst chain old = (values : List (Dynamic H)) × (there : State S H) × Leads (machine rules) (cut rules)
+      (at (OpenChain chain) [] old) (at (gathered chain (Ok values)) [] there)

@@ -3,8 +3,9 @@ use Rattle.std.specs.Prelude.{ℕ, List}
 use Rattle.rhai_tree.specs.Names.{Name}
 use Rattle.rhai_state.specs.Native.{Natives}
 use Rattle.rhai_state.specs.Scope.{names_in}
-use Rattle.rhai_machine.specs.language.Setting.{Offer, Rules, rules_of}
+use Rattle.rhai_machine.specs.language.Setting.{Offer, Rules}
 use Rattle.rhai_machine.specs.language.State.{State}
+use Rattle.rhai_steps.specs.Sessions as session
 use Rattle.rhai_steps.specs.States.{holding, state_of}
 use Rattle.rhai_context.specs.declared.Context.{Context}
 use Rattle.rhai_eval_core.specs.declared.evaluator.Evaluator.{Evaluator}
@@ -12,18 +13,11 @@ use Rattle.rhai_eval_core.specs.declared.evaluator.Evaluator.{Evaluator}
 module _ {H : Type 0} where
   -- what an evaluator offers a run: its switches and its modules
   abbrev pub offer_of : Evaluator H → Offer H
-  offer_of evaluator = record {
-    fast_operators = evaluator.fast_operators;
-    allow_shadowing = evaluator.allow_shadowing;
-    fail_on_invalid_map_property = evaluator.fail_on_invalid_map_property;
-    global_modules = evaluator.offered.global_modules.now;
-    global_sub_modules = evaluator.offered.global_sub_modules.now;
-    modules = evaluator.modules.now.modules;
-  }
+  offer_of evaluator = session.offer_of evaluator.session
 
-  -- the rules of a run, by a host's type names, the limits and the offer of an evaluator, and the natives of a table
+  -- the rules of a run, by a host's type names, the session of an evaluator, and the natives of a table
   abbrev pub under : {S : Type 0} → (H → List ℕ) → Evaluator H → Natives S H → Rules S H
-  under host evaluator natives = rules_of evaluator.limits.now host (offer_of evaluator) natives
+  under host evaluator natives = session.under host evaluator.session natives
 
   -- all that a run changes
   abbrev pub state_in : {S : Type 0} → S → Context H → State S H

@@ -5,18 +5,19 @@ ghost use Rattle.std.specs.Prelude.{◌≡◌, ◌≤◌, [], IsTrue, map, true,
 ghost use Rattle.std.specs.Option.{option_copied};
 ghost use Rattle.rhai_tree.specs.Frame.{all_resolve_exprs, resolves_call, tests_of};
 ghost use Rattle.rhai_tree.specs.declared.expr.Expr.TheOpen as layer;
-ghost use Rattle.rhai_machine.specs.language.Frames.{OpenExpr, CallNamed, ToCall, ToCallOn, ToCallOnThis};
-ghost use Rattle.rhai_machine.specs.language.Arguments.{arguments_core, is_captured};
-ghost use Rattle.rhai_machine.specs.language.Runs.{Runs};
+ghost use Rattle.rhai_machine.specs.language.Frames.{OpenExpr, CallNamed, ToCall, ToCallOn, ToCallOnThis, core};
+ghost use Rattle.rhai_machine.specs.language.Frames.{ended};
+ghost use Rattle.rhai_machine.specs.language.Arguments.{arguments_core, is_captured, arguments_there};
+ghost use Rattle.rhai_machine.specs.language.Runs.{Runs, Goes};
+ghost use Rattle.rhai_steps.specs.Operations.{operation_of};
 ghost use Rattle.rhai_steps.specs.Agreement.{KeepsSight, variable_is_good};
-ghost use Rattle.rhai_calls.specs.Called.{with_args};
+ghost use Rattle.rhai_calls.specs.Called.{with_args, came_out};
 ghost use Rattle.rhai_call_forms.specs.Forms.{IsForm};
 ghost use Rattle.rhai_call_forms.specs.declared.forms.CallForm.TheVariants as form;
 ghost use Rattle.rhai_call_forms.specs.Leading.{all_args, leading_seen, variable_read};
-ghost use Rattle.rhai_callees.specs.Going.{GoesOut};
 ghost use Rattle.rhai_context.specs.Ends.{came};
 ghost use Rattle.rhai_eval_core.specs.Agreement.{KeepsNames, SuitsNames};
-ghost use Rattle.rhai_eval_core.specs.Calls.{StartsAs, called};
+ghost use Rattle.rhai_eval_core.specs.Calls.{called};
 ghost use Rattle.rhai_eval_core.specs.States.{state_in, under};
 ghost use Rattle.rhai_state.specs.Scope.{entries_of};
 ghost use Rattle.rhai_machine.specs.language.Calls.{plainly};
@@ -40,14 +41,15 @@ use rhai_calls::dispatch::Called;
 use rhai_context::Context;
 use rhai_context::outcomes::charge;
 use rhai_few::Few;
+use rhai_functions::function::Function;
 use rhai_plain::callee::plain_callee;
 use rhai_state::scope::Scope;
 use rhai_state::table::NativeTable;
-use rhai_steps::variables::is_plain;
+use rhai_steps::operation::Operation;
+use rhai_steps::variables::{Variable, is_plain};
 use rhai_tree::Items;
 use rhai_tree::expr::{Expr, FnCallExpr};
 use rhai_tree::position::Position;
-use rhai_tree::token::Token;
 use rhai_values::base::value::{Dynamic, Host};
 
 /// Tells whether a call that captures its caller's variables runs on them: there are some.
@@ -75,7 +77,7 @@ impl<'e, H: Host> Evaluator<'e, H> {
             (state_in (T.state table.old) run.old)
             (came result run.new.value run.new.error) (state_in (T.state table.new) run.new) }
     {
-        if may_operate(self.fast_operators, call) {
+        if may_operate(self.session.fast_operators, call) {
             return self.run_operation(run, table, call, pos);
         }
         self.run_function(run, table, call, pos)
@@ -92,7 +94,7 @@ impl<'e, H: Host> Evaluator<'e, H> {
         pos: Position,
     ) -> bool
         requires resolves { SuitsNames run.old (resolves_call call.now pos) }
-        requires form { IsForm form.Function self.now.fast_operators call.now.op_token call.now.args }
+        requires form { IsForm form.Function self.now.session.fast_operators call.now.op_token call.now.args }
         ensures counts { IsTrue result → run.old.global.num_operations ≤ run.new.global.num_operations }
         ensures names { IsTrue result → KeepsNames run.old run.new }
         ensures runs { Runs (under H.name_of self.now T.natives) (OpenExpr (layer.Expr::FnCall call.now pos))
@@ -107,9 +109,7 @@ impl<'e, H: Host> Evaluator<'e, H> {
             return self.run_qualified_call(run, table, path, name, call.args.as_slice(), pos);
         }
         let at_once = call_at_once(
-            self.limits,
-            self.alloc,
-            &self.offered,
+            &self.session,
             &mut run.global,
             table,
             &mut run.scope,
@@ -123,7 +123,18 @@ impl<'e, H: Host> Evaluator<'e, H> {
         }
         let (name, first, rest) = parts_of_call(call);
         let captures = call.capture_parent_scope;
-        self.run_call(run, table, name, call.op_token, first, rest, captures, pos)
+        self.run_call(
+            run,
+            table,
+            &Operation {
+                name,
+                token: call.op_token,
+                at: pos,
+            },
+            first,
+            rest,
+            captures,
+        )
     }
 
     /// Evaluates a call of a keyword, or of a function by its name. How it ended stands in the run.
@@ -133,37 +144,30 @@ impl<'e, H: Host> Evaluator<'e, H> {
         &self,
         run: &mut Context<H>,
         table: &mut T,
-        name: &str,
-        token: Option<Token>,
+        operation: &Operation<'_>,
         first: Option<&Expr>,
         rest: &[Expr],
         captures: bool,
-        pos: Position,
     ) -> bool
         requires { SuitsNames run.old
             (all_resolve_exprs (map tests_of (all_args (option_copied first) rest.now))) }
         ensures counts { IsTrue result → run.old.global.num_operations ≤ run.new.global.num_operations }
         ensures names { IsTrue result → KeepsNames run.old run.new }
-        ensures runs { StartsAs (under H.name_of self.now T.natives)
-            (called (record { name = name.now; token = token; at = pos })
-            (all_args (option_copied first.entry) rest.now) captures)
-            (state_in (T.state table.old) run.old)
-            (came result run.new.value run.new.error) (state_in (T.state table.new) run.new) }
+        ensures runs { Goes (under H.name_of self.now T.natives)
+            (called (operation_of operation.now) (all_args (option_copied first.entry) rest.now) captures)
+            (state_in (T.state table.old) run.old) (core (ended (came result run.new.value run.new.error)))
+            (state_in (T.state table.new) run.new) }
     {
         match first {
             None => {
-                let curried = Items::new(self.alloc);
-                self.run_named(
-                    run, table, name, token, curried, first, rest, captures, false, pos,
-                )
+                let curried = Items::new(self.session.alloc);
+                self.run_named(run, table, operation, curried, first, rest, captures, false)
             }
-            Some(arg) => match keyword_of(name, token, 1 + rest.len()) {
-                Some(word) => self.run_keyword(run, table, word, arg, rest, captures, pos),
+            Some(arg) => match keyword_of(operation.name, operation.token, 1 + rest.len()) {
+                Some(word) => self.run_keyword(run, table, word, arg, rest, captures, operation.at),
                 None => {
-                    let curried = Items::new(self.alloc);
-                    self.run_named(
-                        run, table, name, token, curried, first, rest, captures, false, pos,
-                    )
+                    let curried = Items::new(self.session.alloc);
+                    self.run_named(run, table, operation, curried, first, rest, captures, false)
                 }
             },
         }
@@ -178,21 +182,19 @@ impl<'e, H: Host> Evaluator<'e, H> {
         &self,
         run: &mut Context<H>,
         table: &mut T,
-        name: &str,
-        token: Option<Token>,
+        operation: &Operation<'_>,
         curried: Items<Dynamic<H>>,
         first: Option<&Expr>,
         rest: &[Expr],
         captures: bool,
         natives_alone: bool,
-        pos: Position,
     ) -> bool
         requires { SuitsNames run.old
             (all_resolve_exprs (map tests_of (all_args (option_copied first) rest.now))) }
         ensures counts { IsTrue result → run.old.global.num_operations ≤ run.new.global.num_operations }
         ensures names { IsTrue result → KeepsNames run.old run.new }
         ensures runs { Runs (under H.name_of self.now T.natives)
-            (CallNamed (record { name = name.now; token = token; at = pos }) curried
+            (CallNamed (operation_of operation.now) curried
             (all_args (option_copied first.entry) rest.now) captures natives_alone)
             (state_in (T.state table.old) run.old)
             (came result run.new.value run.new.error) (state_in (T.state table.new) run.new) }
@@ -205,10 +207,15 @@ impl<'e, H: Host> Evaluator<'e, H> {
             captures,
         ) {
             drop(curried);
-            if !charge(self.limits, &mut run.global, &mut run.error, this_at) {
+            if !charge(
+                &self.session.limits,
+                &mut run.global,
+                &mut run.error,
+                this_at,
+            ) {
                 return false;
             }
-            let mut values = Few::new(self.alloc);
+            let mut values = Few::new(self.session.alloc);
             if !self.run_more_args(run, table, &mut values, rest, true) {
                 drop(values);
                 return false;
@@ -216,24 +223,27 @@ impl<'e, H: Host> Evaluator<'e, H> {
             let called = self.call_with_this(
                 run,
                 table,
-                name,
-                token,
+                operation,
                 this_at,
                 &mut values,
                 natives_alone,
-                pos,
             );
-            let done = self.finish_call(run, table, called, &mut values, true, pos);
+            let done = self.finish_call(run, table, called, &mut values, true, operation.at);
             drop(values);
             return done;
         }
         match first_variable(&run.scope, curried.as_slice(), first, rest, captures) {
             Some(variable) => {
                 drop(curried);
-                if !charge(self.limits, &mut run.global, &mut run.error, variable.pos) {
+                if !charge(
+                    &self.session.limits,
+                    &mut run.global,
+                    &mut run.error,
+                    variable.pos,
+                ) {
                     return false;
                 }
-                let mut values = Few::new(self.alloc);
+                let mut values = Few::new(self.session.alloc);
                 if !self.run_more_args(run, table, &mut values, variable.rest, true) {
                     drop(values);
                     return false;
@@ -241,28 +251,24 @@ impl<'e, H: Host> Evaluator<'e, H> {
                 let called = self.call_with_variable(
                     run,
                     table,
-                    name,
-                    token,
+                    operation,
                     variable,
                     &mut values,
                     natives_alone,
-                    pos,
                 );
-                let done = self.finish_call(run, table, called, &mut values, true, pos);
+                let done = self.finish_call(run, table, called, &mut values, true, operation.at);
                 drop(values);
                 done
             }
             None => self.run_on_values(
                 run,
                 table,
-                name,
-                token,
+                operation,
                 curried,
                 first,
                 rest,
                 captures,
                 natives_alone,
-                pos,
             ),
         }
     }
@@ -272,39 +278,36 @@ impl<'e, H: Host> Evaluator<'e, H> {
         &self,
         run: &mut Context<H>,
         table: &mut T,
-        name: &str,
-        token: Option<Token>,
+        operation: &Operation<'_>,
         variable: FirstVariable<'_>,
         values: &mut Few<Dynamic<H>>,
         natives_alone: bool,
-        pos: Position,
-    ) -> Called<H>
+    ) -> Called<Dynamic<H>, Function<H>, H>
         requires { SuitsNames run.old (variable_is_good variable.offset variable.name.now
             variable.namespace.now.path) }
         ensures counts { run.old.global.num_operations ≤ run.new.global.num_operations }
         ensures names { KeepsNames run.old run.new }
-        ensures runs { GoesOut (under H.name_of self.now T.natives)
-            (ToCallOn (record { name = name.now; token = token; at = pos })
-            (variable_read (leading_seen variable.entry))
-            (plainly natives_alone false)) values.old true pos (state_in (T.state table.old) run.old)
-            (with_args result values.new) (state_in (T.state table.new) run.new) }
+        ensures runs { let rules = under H.name_of self.now T.natives in
+            Goes rules
+            (arguments_there rules.setting (ToCallOn (operation_of operation.now) (variable_read (leading_seen variable.entry)) (plainly natives_alone false)) values.old)
+            (state_in (T.state table.old) run.old)
+            (came_out true operation.now.at (with_args result values.new))
+            (state_in (T.state table.new) run.new) }
     {
         call_on_variable(
-            self.limits,
-            self.alloc,
-            &self.offered,
+            &self.session,
             &mut run.global,
             table,
             &mut run.scope,
             natives_alone,
-            name,
-            token,
-            variable.offset,
-            variable.name,
-            variable.namespace,
-            variable.pos,
+            operation,
+            &Variable {
+                offset: variable.offset,
+                name: variable.name,
+                namespace: variable.namespace,
+                at: variable.pos,
+            },
             values,
-            pos,
         )
     }
 
@@ -313,34 +316,30 @@ impl<'e, H: Host> Evaluator<'e, H> {
         &self,
         run: &mut Context<H>,
         table: &mut T,
-        name: &str,
-        token: Option<Token>,
+        operation: &Operation<'_>,
         this_at: Position,
         values: &mut Few<Dynamic<H>>,
         natives_alone: bool,
-        pos: Position,
-    ) -> Called<H>
+    ) -> Called<Dynamic<H>, Function<H>, H>
         ensures counts { run.old.global.num_operations ≤ run.new.global.num_operations }
         ensures sight { KeepsSight run.old.global run.new.global }
         ensures scope { run.new.scope ≡ run.old.scope }
-        ensures runs { GoesOut (under H.name_of self.now T.natives)
-            (ToCallOnThis (record { name = name.now; token = token; at = pos }) this_at
-            (plainly natives_alone false)) values.old true pos (state_in (T.state table.old) run.old)
-            (with_args result values.new) (state_in (T.state table.new) run.new) }
+        ensures runs { let rules = under H.name_of self.now T.natives in
+            Goes rules
+            (arguments_there rules.setting (ToCallOnThis (operation_of operation.now) this_at (plainly natives_alone false)) values.old)
+            (state_in (T.state table.old) run.old)
+            (came_out true operation.now.at (with_args result values.new))
+            (state_in (T.state table.new) run.new) }
     {
         call_on_this(
-            self.limits,
-            self.alloc,
-            &self.offered,
+            &self.session,
             &mut run.global,
             table,
             &mut run.this,
             natives_alone,
-            name,
-            token,
+            operation,
             this_at,
             values,
-            pos,
         )
     }
 
@@ -349,34 +348,29 @@ impl<'e, H: Host> Evaluator<'e, H> {
         &self,
         run: &mut Context<H>,
         table: &mut T,
-        name: &str,
-        token: Option<Token>,
+        operation: &Operation<'_>,
         curried: Items<Dynamic<H>>,
         values: &mut Few<Dynamic<H>>,
         natives_alone: bool,
-        pos: Position,
-    ) -> Called<H>
+    ) -> Called<Dynamic<H>, Function<H>, H>
         ensures counts { run.old.global.num_operations ≤ run.new.global.num_operations }
         ensures sight { KeepsSight run.old.global run.new.global }
         ensures scope { run.new.scope ≡ run.old.scope }
-        ensures runs { (on_scope : _) → GoesOut (under H.name_of self.now T.natives)
-            (ToCall (record { name = name.now; token = token; at = pos }) curried
-            (plainly natives_alone on_scope)) values.old (not on_scope) pos
+        ensures runs { (on_scope : _) → let rules = under H.name_of self.now T.natives in
+            Goes rules
+            (arguments_there rules.setting (ToCall (operation_of operation.now) curried (plainly natives_alone on_scope)) values.old)
             (state_in (T.state table.old) run.old)
-            (with_args result values.new) (state_in (T.state table.new) run.new) }
+            (came_out (not on_scope) operation.now.at (with_args result values.new))
+            (state_in (T.state table.new) run.new) }
     {
         call_values(
-            self.limits,
-            self.alloc,
-            &self.offered,
+            &self.session,
             &mut run.global,
             table,
             natives_alone,
-            name,
-            token,
+            operation,
             curried,
             values,
-            pos,
         )
     }
 
@@ -387,45 +381,32 @@ impl<'e, H: Host> Evaluator<'e, H> {
         &self,
         run: &mut Context<H>,
         table: &mut T,
-        name: &str,
-        token: Option<Token>,
+        operation: &Operation<'_>,
         curried: Items<Dynamic<H>>,
         first: Option<&Expr>,
         rest: &[Expr],
         captures: bool,
         natives_alone: bool,
-        pos: Position,
     ) -> bool
         requires { SuitsNames run.old
             (all_resolve_exprs (map tests_of (all_args (option_copied first) rest.now))) }
         ensures counts { IsTrue result → run.old.global.num_operations ≤ run.new.global.num_operations }
         ensures names { IsTrue result → KeepsNames run.old run.new }
         ensures runs { let rules = under H.name_of self.now T.natives in
-            StartsAs rules (arguments_core rules.setting
-            (ToCall (record { name = name.now; token = token; at = pos }) curried
-            (plainly natives_alone (is_captured captures (entries_of run.old.scope)))) []
-            (all_args (option_copied first.entry) rest.now))
-            (state_in (T.state table.old) run.old)
-            (came result run.new.value run.new.error) (state_in (T.state table.new) run.new) }
+            Goes rules
+            (arguments_core rules.setting (ToCall (operation_of operation.now) curried (plainly natives_alone (is_captured captures (entries_of run.old.scope)))) [] (all_args (option_copied first.entry) rest.now))
+            (state_in (T.state table.old) run.old) (core (ended (came result run.new.value run.new.error)))
+            (state_in (T.state table.new) run.new) }
     {
         let on_scope = is_on_scope(&run.scope, captures);
-        let mut values = Few::new(self.alloc);
+        let mut values = Few::new(self.session.alloc);
         if !self.run_all_args(run, table, &mut values, first, rest) {
             drop(curried);
             drop(values);
             return false;
         }
-        let called = self.call_with(
-            run,
-            table,
-            name,
-            token,
-            curried,
-            &mut values,
-            natives_alone,
-            pos,
-        );
-        let done = self.finish_call(run, table, called, &mut values, !on_scope, pos);
+        let called = self.call_with(run, table, operation, curried, &mut values, natives_alone);
+        let done = self.finish_call(run, table, called, &mut values, !on_scope, operation.at);
         drop(values);
         done
     }

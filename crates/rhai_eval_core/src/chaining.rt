@@ -7,14 +7,14 @@ ghost use Rattle.rhai_tree.specs.declared.expr.Expr.{out-Expr};
 ghost use Rattle.rhai_tree.specs.declared.expr.Expr.TheOpen as layer;
 ghost use Rattle.rhai_tree.specs.Frame.{resolves_expr, target_resolves, tests_of};
 ghost use Rattle.rhai_state.specs.Errors.{is_out_of_memory};
-ghost use Rattle.rhai_machine.specs.language.Frames.{ChainRoot, OpenChain, OpenStmt, chain_on};
+ghost use Rattle.rhai_machine.specs.language.Frames.{ChainRoot, OpenChain, OpenStmt, chain_on, ChainArguments};
 ghost use Rattle.rhai_machine.specs.language.Links.{first_in};
-ghost use Rattle.rhai_machine.specs.language.Runs.{Runs};
+ghost use Rattle.rhai_machine.specs.language.Runs.{Runs, Steps};
 ghost use Rattle.rhai_chains.specs.Chains.{Walks, chain_at, new_of};
 ghost use Rattle.rhai_chains.specs.Ready.{at_once, IsReady};
 ghost use Rattle.rhai_context.specs.Ends.{came, error_in};
 ghost use Rattle.rhai_eval_core.specs.Agreement.{KeepsNames, SuitsNames};
-ghost use Rattle.rhai_eval_core.specs.Chains.{Gathers, HasAsked, IsGiven, MayWalk, StartsFrom, AsksFirst};
+ghost use Rattle.rhai_eval_core.specs.Chains.{gathered, HasAsked, IsGiven, MayWalk, StartsFrom, AsksFirst};
 ghost use Rattle.rhai_eval_core.specs.Chains.{behind_resolves};
 ghost use Rattle.rhai_eval_core.specs.States.{state_in, under};
 ghost use Rattle.rhai_machine.specs.language.Links.{link_of as link_in};
@@ -34,6 +34,7 @@ use rhai_context::outcomes::charge;
 use rhai_few::Few;
 use rhai_state::error::EvalAltResult;
 use rhai_state::table::NativeTable;
+use rhai_steps::variables::Variable;
 use rhai_tree::expr::{Expr, OpAssignment};
 use rhai_values::base::value::{Dynamic, Host};
 use std::alloc::Global;
@@ -119,8 +120,9 @@ impl<'e, H: Host> Evaluator<'e, H> {
             (chain_on root.now (out-Expr chain.now) (new_of new))
             (state_in (T.state table.old) run.old) }
     {
-        let mut values = Few::new(self.alloc);
-        let Some(asks) = take_ready_args(self.alloc, &mut values, &mut run.error, chain) else {
+        let mut values = Few::new(self.session.alloc);
+        let Some(asks) = take_ready_args(self.session.alloc, &mut values, &mut run.error, chain)
+        else {
             drop(new);
             drop(values);
             return false;
@@ -183,14 +185,19 @@ impl<'e, H: Host> Evaluator<'e, H> {
         ensures names { IsTrue result → KeepsNames run.old run.new }
         ensures asked { HasAsked (came result values.new run.new.error) (length values.old)
             (out-Expr chain.now) }
-        ensures gathers { Gathers (under H.name_of self.now T.natives) (out-Expr chain.now) values.old
-            (state_in (T.state table.old) run.old) (came result values.new run.new.error)
-            (state_in (T.state table.new) run.new) }
+        ensures gathers { (whole : _) → Steps (under H.name_of self.now T.natives)
+            (ChainArguments whole (out-Expr chain.now) values.old) (state_in (T.state table.old) run.old)
+            (gathered whole (came result values.new run.new.error)) (state_in (T.state table.new) run.new) }
     {
         let Some(link) = link_of(chain) else {
             unreachable!()
         };
-        if !charge(self.limits, &mut run.global, &mut run.error, link.rest_at) {
+        if !charge(
+            &self.session.limits,
+            &mut run.global,
+            &mut run.error,
+            link.rest_at,
+        ) {
             return false;
         }
         if !self.run_more_args(run, table, values, asked(link), true) {
@@ -232,16 +239,27 @@ impl<'e, H: Host> Evaluator<'e, H> {
                 namespace,
                 pos,
             } => {
-                if !charge(self.limits, &mut run.global, &mut run.error, *pos) {
+                if !charge(&self.session.limits, &mut run.global, &mut run.error, *pos) {
                     drop(new);
                     return false;
                 }
                 self.walk_variable(
-                    run, table, *offset, name, namespace, *pos, root, chain, args, new,
+                    run,
+                    table,
+                    &Variable {
+                        offset: *offset,
+                        name,
+                        namespace,
+                        at: *pos,
+                    },
+                    root,
+                    chain,
+                    args,
+                    new,
                 )
             }
             Expr::ThisPtr(pos) => {
-                if !charge(self.limits, &mut run.global, &mut run.error, *pos) {
+                if !charge(&self.session.limits, &mut run.global, &mut run.error, *pos) {
                     drop(new);
                     return false;
                 }
@@ -284,7 +302,7 @@ impl<'e, H: Host> Evaluator<'e, H> {
             return false;
         }
         let (cells, out) = (&run.global.cells, &mut run.value);
-        let Some(value) = take_flat(self.alloc, cells, out, &mut run.error, rhs) else {
+        let Some(value) = take_flat(self.session.alloc, cells, out, &mut run.error, rhs) else {
             return false;
         };
         let new = Some(NewValue { op, value });

@@ -1,21 +1,9 @@
-//! What a run reads of an engine.
+//! The evaluator: a session, whose methods are the functions of the cycle.
 
-use rhai_functions::function::Offered;
-use rhai_state::limits::Limits;
-use rhai_values::base::value::ModuleTable;
-use std::alloc::Global;
+use rhai_state::session::Session;
 
-/// What a run reads of an engine: its limits and switches, the modules that it offers, and where memory comes
-/// from.
+/// An evaluator of trees. It reads no more of an engine than its session has.
 #[derive(Drop)]
 pub struct Evaluator<'e, H> {
-    pub alloc: Global,
-    pub limits: &'e Limits,
-    pub fast_operators: bool,
-    pub allow_shadowing: bool,
-    pub fail_on_invalid_map_property: bool,
-    /// The modules that names lead to.
-    pub offered: Offered<'e, H>,
-    /// Modules that an `import` finds.
-    pub modules: &'e ModuleTable<H>,
+    pub session: Session<'e, H>,
 }

@@ -8,8 +8,8 @@ ghost use Rattle.rhai_state.specs.Scope.{entries_of};
 ghost use Rattle.rhai_machine.specs.language.Values.{is_handle, is_truth};
 ghost use Rattle.rhai_machine.specs.language.Frames.{Eval};
 ghost use Rattle.rhai_machine.specs.language.Runs.{Runs};
-ghost use Rattle.rhai_machine.specs.language.Setting.{rules_of};
 ghost use Rattle.rhai_steps.specs.Agreement.{AgreesAt, KeepsSight};
+ghost use Rattle.rhai_steps.specs.Sessions.{under as under_session};
 ghost use Rattle.rhai_steps.specs.States.{state_of};
 ghost use Rattle.rhai_operands.specs.Standing.{condition_truth};
 ghost use Rattle.rhai_operands.specs.Tests.{Tests};
@@ -27,13 +27,12 @@ use rhai_context::outcomes::{charge_expr, truth_left};
 use rhai_operands::operators::truth_in_place;
 use rhai_operands::reading::read_expr;
 use rhai_state::error::EvalAltResult;
-use rhai_state::limits::Limits;
 use rhai_state::scope::Scope;
+use rhai_state::session::Session;
 use rhai_state::state::GlobalRuntimeState;
 use rhai_state::table::NativeTable;
 use rhai_tree::expr::Expr;
 use rhai_values::base::value::Host;
-use std::alloc::Global;
 
 /// Tells whether a condition holds that is answered at once. Under fast operators that is one that compares
 /// operands which stand; None in Some where it stopped the run. None for any other: then nothing is charged.
@@ -43,29 +42,27 @@ use std::alloc::Global;
 /// `ErrorTooManyOperations` at the operator or an operand where the count has reached the limit.
 #[inline(always)]
 fn holds_at_once<H: Host, T: NativeTable<H>>(
-    limits: &Limits,
-    alloc: Global,
+    session: &Session<'_, H>,
     global: &mut GlobalRuntimeState<H>,
     table: &T,
     scope: &Scope<H>,
     place: &mut Option<EvalAltResult<H>>,
     test: &Expr,
-    is_fast: bool,
 ) -> Option<Option<bool>>
     requires { AgreesAt global.old scope.now (resolves_expr test.now) }
-    ensures found { is_some result ≡ (is_fast && is_some (condition_truth (out-Expr test.now) (entries_of scope.now))) }
+    ensures found { is_some result ≡ (session.now.fast_operators && is_some (condition_truth (out-Expr test.now) (entries_of scope.now))) }
     ensures left_alone { result ≡ None → global.new ≡ global.old }
     ensures charges { IfSome result (λ told. IfSome told (λ _.
         global.old.num_operations < global.new.num_operations)) }
     ensures memory { IfSome result (λ told. told ≡ None → is_out_of_memory (error_in place.new) ≡ false) }
     ensures sight { KeepsSight global.old global.new }
-    ensures runs { (offer : _) (held : _) → offer.fast_operators ≡ is_fast →
-        IfSome result (λ told. Tests (rules_of limits.now H.name_of offer T.natives) test.now
+    ensures runs { (held : _) → IfSome result (λ told. Tests (under_session H.name_of session.now T.natives) test.now
         (state_of (T.state table.now) global.old scope.now held)
         (came_test told place.new) (state_of (T.state table.now) global.new scope.now held)) }
 {
+    let is_fast = session.fast_operators;
     if is_fast {
-        truth_in_place(limits, alloc, global, table, scope, place, test)
+        truth_in_place(session, global, table, scope, place, test)
     } else {
         None
     }
@@ -91,7 +88,7 @@ impl<'e, H: Host> Evaluator<'e, H> {
         ensures plain { IsTrue result → is_handle run.new.value.value ≡ true → IsTrue (asks_expr expr.now).0 }
         ensures truth { IsTrue result → is_truth run.new.value.value ≡ false → IsTrue (asks_expr expr.now).1 }
     {
-        if !charge_expr(self.limits, &mut run.global, &mut run.error, expr) {
+        if !charge_expr(&self.session.limits, &mut run.global, &mut run.error, expr) {
             return false;
         }
         match expr {
@@ -110,9 +107,8 @@ impl<'e, H: Host> Evaluator<'e, H> {
             Expr::Dot(root, ..) => self.read_chain(run, table, root.get(), expr),
             Expr::Index(root, ..) => self.read_chain(run, table, root.get(), expr),
             _ => read_expr(
-                self.alloc,
+                &self.session,
                 &run.global,
-                &self.offered,
                 &run.scope,
                 &run.this,
                 &mut run.value,
@@ -143,14 +139,12 @@ impl<'e, H: Host> Evaluator<'e, H> {
             IsTrue (asks_expr test.now).1 }
     {
         match holds_at_once(
-            self.limits,
-            self.alloc,
+            &self.session,
             &mut run.global,
             &*table,
             &run.scope,
             &mut run.error,
             test,
-            self.fast_operators,
         ) {
             Some(told) => told,
             None => {
@@ -158,7 +152,7 @@ impl<'e, H: Host> Evaluator<'e, H> {
                     return None;
                 }
                 truth_left(
-                    self.alloc,
+                    self.session.alloc,
                     &run.global.cells,
                     &mut run.value,
                     &mut run.error,

@@ -7,19 +7,18 @@ ghost use Rattle.rhai_state.specs.Scope.{entries_of};
 ghost use Rattle.rhai_machine.specs.language.Activations.{NoThis};
 ghost use Rattle.rhai_machine.specs.language.Bodies.{this_by, variables_before};
 ghost use Rattle.rhai_machine.specs.language.Calls.{entry_of};
-ghost use Rattle.rhai_machine.specs.language.Frames.{EnterFunction, EnterOnFocus};
+ghost use Rattle.rhai_machine.specs.language.Frames.{EnterFunction, EnterOnFocus, core, ended, ended_or_changed};
 ghost use Rattle.rhai_machine.specs.language.Methods.{method_core};
-ghost use Rattle.rhai_machine.specs.language.Runs.{Runs};
+ghost use Rattle.rhai_machine.specs.language.Runs.{Runs, Goes};
 ghost use Rattle.rhai_machine.specs.language.State.{HasMemory};
 ghost use Rattle.rhai_steps.specs.Agreement.{KeepsSight};
 ghost use Rattle.rhai_steps.specs.States.{local_of, state_of};
 ghost use Rattle.rhai_calls.specs.Called.{came_out, with_args};
 ghost use Rattle.rhai_context.specs.Ends.{came, came_changed};
-ghost use Rattle.rhai_steps.specs.OnFocus.{lending, RunsFrom};
+ghost use Rattle.rhai_steps.specs.OnFocus.{lending};
 ghost use Rattle.rhai_functions.specs.Entering.{TakesSome};
 ghost use Rattle.rhai_eval_core.specs.Agreement.{KeepsNames};
 ghost use Rattle.rhai_eval_core.specs.Bodies.{args_left, behind_call, entered, is_entered};
-ghost use Rattle.rhai_eval_core.specs.Calls.{StartsAs};
 ghost use Rattle.rhai_eval_core.specs.States.{state_in, under};
 
 use crate::evaluator::Evaluator;
@@ -32,9 +31,10 @@ use rhai_context::outcomes::charge;
 use rhai_context::{Context, put_aside};
 use rhai_few::Few;
 use rhai_functions::function::Function;
-use rhai_methods::calls::MethodCall;
+use rhai_methods::calls::MethodEntry;
 use rhai_methods::methods::call_method;
 use rhai_state::table::NativeTable;
+use rhai_steps::operation::Operation;
 use rhai_tree::checked::CheckedFn;
 use rhai_tree::position::Position;
 use rhai_values::base::value::{Dynamic, EncapsulatedEnviron, Host};
@@ -59,7 +59,7 @@ impl<'e, H: Host> Evaluator<'e, H> {
         ensures charges { IsTrue result → run.old.global.num_operations < run.new.global.num_operations }
         ensures sight { IsTrue restores → KeepsSight run.old.global run.new.global }
         ensures args { HasMemory (came result run.new.value run.new.error) → args.new ≡ args_left
-            (is_entered self.now.limits.now run.old.global.num_operations level
+            (is_entered self.now.session.limits run.old.global.num_operations level
             (length (entries_of run.old.scope)) def.now)
             (length def.now.params) args.old }
         ensures taken { TakesSome args.old args.new }
@@ -74,10 +74,10 @@ impl<'e, H: Host> Evaluator<'e, H> {
             (came result run.new.value run.new.error)
             (behind_call e caller (state_in (T.state table.new) run.new)) }
     {
-        if !charge(self.limits, &mut run.global, &mut run.error, pos) {
+        if !charge(&self.session.limits, &mut run.global, &mut run.error, pos) {
             return false;
         }
-        let limits = self.limits;
+        let limits = &self.session.limits;
         let (global, scope) = (&mut run.global, &mut run.scope);
         let def = def.def();
         match open_function(limits, level, global, scope, def, environ, args, pos) {
@@ -90,7 +90,15 @@ impl<'e, H: Host> Evaluator<'e, H> {
                 let done = self.run_stmt_block(run, table, statements, restores);
                 let (global, out, place) = (&mut run.global, &mut run.value, &mut run.error);
                 close_body(
-                    self.alloc, global, out, place, def, environ, exit, done, pos,
+                    self.session.alloc,
+                    global,
+                    out,
+                    place,
+                    def,
+                    environ,
+                    exit,
+                    done,
+                    pos,
                 )
             }
             Err(error) => stop(&mut run.error, error),
@@ -118,7 +126,7 @@ impl<'e, H: Host> Evaluator<'e, H> {
             (came result run.new.value run.new.error)
             (state_of (T.state table.new) run.new.global scope held) }
     {
-        let aside = put_aside(self.alloc, run, None);
+        let aside = put_aside(self.session.alloc, run, None);
         let (def, environ, level) = body_of(&function, run.global.level);
         let done = self.run_body(run, table, def, environ, args, true, level, pos);
         end_fresh(run, aside, function);
@@ -161,17 +169,16 @@ impl<'e, H: Host> Evaluator<'e, H> {
         &self,
         run: &mut Context<H>,
         table: &mut T,
-        called: Called<H>,
+        called: Called<Dynamic<H>, Function<H>, H>,
         args: &mut Few<Dynamic<H>>,
         is_fresh: bool,
         pos: Position,
     ) -> bool
         ensures counts { run.old.global.num_operations ≤ run.new.global.num_operations }
         ensures names { IsTrue result → KeepsNames run.old run.new }
-        ensures runs { StartsAs (under H.name_of self.now T.natives)
-            (came_out is_fresh pos (with_args called args.old))
-            (state_in (T.state table.old) run.old)
-            (came result run.new.value run.new.error) (state_in (T.state table.new) run.new) }
+        ensures runs { Goes (under H.name_of self.now T.natives) (came_out is_fresh pos (with_args called args.old))
+            (state_in (T.state table.old) run.old) (core (ended (came result run.new.value run.new.error)))
+            (state_in (T.state table.new) run.new) }
     {
         match called {
             Called::Ended(result) => settle(&mut run.error, &mut run.value, result),
@@ -209,12 +216,19 @@ impl<'e, H: Host> Evaluator<'e, H> {
             (state_of (T.state table.new) run.new.global scope (lending held focus.new)) }
     {
         let (cells, place) = (&mut run.global.cells, &mut run.error);
-        let Some(above) = enter_focus(self.alloc, cells, place, focus, &function, &*args, pos)
-        else {
+        let Some(above) = enter_focus(
+            self.session.alloc,
+            cells,
+            place,
+            focus,
+            &function,
+            &*args,
+            pos,
+        ) else {
             drop(function);
             return false;
         };
-        let aside = lend_focus(self.alloc, run, focus);
+        let aside = lend_focus(self.session.alloc, run, focus);
         let (def, environ, level) = body_of(&function, run.global.level);
         let done = self.run_body(run, table, def, environ, args, true, level, pos);
         leave_focus(run, focus, aside, above);
@@ -241,42 +255,44 @@ impl<'e, H: Host> Evaluator<'e, H> {
         ensures scope { run.new.scope ≡ run.old.scope }
         ensures this { run.new.this ≡ run.old.this }
         ensures runs { (scope : _) (held : _) → let rules = under H.name_of self.now T.natives in
-            RunsFrom rules (method_core rules.setting
-            (record { name = name.now; at = pos; first_at = first_arg_pos; was_handle = was_handle })
-            args.old focus.old)
+            Goes rules
+            (method_core rules.setting (record { name = name.now; at = pos; first_at = first_arg_pos; was_handle = was_handle }) args.old focus.old)
             (state_of (T.state table.old) run.old.global scope (lending held focus.old))
-            (came_changed result run.new.value run.new.error)
+            (core (ended_or_changed (came_changed result run.new.value run.new.error)))
             (state_of (T.state table.new) run.new.global scope (lending held focus.new)) }
     {
-        let (limits, global) = (self.limits, &mut run.global);
+        let global = &mut run.global;
         match call_method(
-            limits,
-            self.alloc,
-            &self.offered,
+            &self.session,
             global,
             table,
-            name,
+            &Operation {
+                name,
+                token: None,
+                at: pos,
+            },
             focus,
             args,
             first_arg_pos,
-            pos,
             was_handle,
         ) {
-            MethodCall::Ended(result) => settle_changed(&mut run.error, &mut run.value, result),
-            MethodCall::OnTarget(function, args) => {
-                let mut args = args;
-                let values = args.as_mut_slice();
-                let done = self.enter_on_focus(run, table, function, focus, values, pos);
-                drop(args);
-                unchanged(done)
-            }
-            MethodCall::Alone(function, args) => {
-                let mut args = args;
-                let values = args.as_mut_slice();
-                let done = self.enter_fresh(run, table, function, values, pos);
-                drop(args);
-                unchanged(done)
-            }
+            Called::Ended(result) => settle_changed(&mut run.error, &mut run.value, result),
+            Called::Enters(entry) => match entry {
+                MethodEntry::OnTarget(function, args) => {
+                    let mut args = args;
+                    let values = args.as_mut_slice();
+                    let done = self.enter_on_focus(run, table, function, focus, values, pos);
+                    drop(args);
+                    unchanged(done)
+                }
+                MethodEntry::Alone(function, args) => {
+                    let mut args = args;
+                    let values = args.as_mut_slice();
+                    let done = self.enter_fresh(run, table, function, values, pos);
+                    drop(args);
+                    unchanged(done)
+                }
+            },
         }
     }
 }

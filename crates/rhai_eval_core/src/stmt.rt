@@ -1,5 +1,6 @@
 //! Statements. Ports upstream's `eval/stmt.rs`; the contracts speak of the machine's runs.
 
+ghost use Rattle.rhai_assign.specs.Assignments.{statement_of};
 ghost use Rattle.std.specs.Prelude.{◌≡◌, ◌<◌, ◌≤◌, IfErr, IfSome, IsTrue, true, false};
 ghost use Rattle.std.specs.Prelude.{None, length, map};
 ghost use Rattle.rhai_tree.specs.Frame.{tests_of, target_resolves, resolves_expr, resolves_stmt};
@@ -9,8 +10,8 @@ ghost use Rattle.rhai_tree.specs.declared.expr.Expr.TheOpen as layer;
 ghost use Rattle.rhai_state.specs.Errors.{is_out_of_memory};
 ghost use Rattle.rhai_machine.specs.language.Frames.{Exec, OpenStmt, Enter, Run};
 ghost use Rattle.rhai_machine.specs.language.Runs.{Runs};
-ghost use Rattle.rhai_machine.specs.language.Setting.{rules_of};
 ghost use Rattle.rhai_steps.specs.Agreement.{AgreesAt, KeepsSight, changes, passes};
+ghost use Rattle.rhai_steps.specs.Sessions.{under as under_session};
 ghost use Rattle.rhai_steps.specs.States.{state_of};
 ghost use Rattle.rhai_assign.specs.Keeps.{Keeps};
 ghost use Rattle.rhai_context.specs.Ends.{came};
@@ -27,7 +28,7 @@ mod tries;
 mod walks;
 
 use crate::evaluator::Evaluator;
-use rhai_assign::in_place::assign_in_place;
+use rhai_assign::in_place::{Assignment, assign_in_place};
 use rhai_assign::left::{assign_from_run, assign_this_from_run};
 use rhai_assign::lists::open_list;
 use rhai_context::Context;
@@ -35,22 +36,19 @@ use rhai_context::ends::{leave_unit, put_unit, stop};
 use rhai_context::outcomes::{charge_stmt, flatten_at};
 use rhai_items::assign_item;
 use rhai_modules::importing::{import_module, may_import};
-use rhai_sharing::declaring::{declare, is_declarable};
+use rhai_sharing::declaring::{Declaration, declare, is_declarable};
 use rhai_sharing::exporting::export_variable;
 use rhai_sharing::share_variables;
 use rhai_state::error::EvalAltResult;
-use rhai_state::limits::Limits;
 use rhai_state::scope::Scope;
+use rhai_state::session::Session;
 use rhai_state::state::GlobalRuntimeState;
 use rhai_state::table::NativeTable;
 use rhai_steps::loops::choose_list;
-use rhai_steps::variables::leave_list;
+use rhai_steps::variables::{Variable, leave_list};
 use rhai_tree::expr::{Expr, Ident, OpAssignment, Stmt, StmtBlock};
-use rhai_tree::flags::ASTFlags;
 use rhai_tree::position::Position;
 use rhai_values::base::value::{Dynamic, Host};
-use std::alloc::Global;
-use std::num::NonZeroUsize;
 
 /// Assigns at once under fast operators, where that is possible. It is by an operator to a variable, where
 /// its value is an operand that stands and there is a built-in for it, and to an item of an array that a
@@ -60,43 +58,45 @@ use std::num::NonZeroUsize;
 /// # Errors
 /// Those of `assign_in_place`.
 fn assign_at_once<H: Host, T: NativeTable<H>>(
-    limits: &Limits,
-    alloc: Global,
+    session: &Session<'_, H>,
     global: &mut GlobalRuntimeState<H>,
     table: &T,
     scope: &mut Scope<H>,
     out: &mut Dynamic<H>,
     place: &mut Option<EvalAltResult<H>>,
-    op: &OpAssignment,
-    lhs: &Expr,
-    rhs: &Expr,
-    is_fast: bool,
+    assignment: &Assignment<'_>,
 ) -> Option<bool>
-    requires resolves_target { AgreesAt global.old scope.old (target_resolves (tests_of lhs.now)) }
-    requires resolves { AgreesAt global.old scope.old (resolves_expr rhs.now) }
+    requires resolves_target { AgreesAt global.old scope.old (target_resolves (tests_of assignment.now.left.now)) }
+    requires resolves { AgreesAt global.old scope.old (resolves_expr assignment.now.right.now) }
     ensures left_global { result ≡ None → global.new ≡ global.old }
     ensures left_scope { result ≡ None → scope.new ≡ scope.old }
     ensures keeps { Keeps global.old global.new scope.old scope.new }
     ensures sight { KeepsSight global.old global.new }
-    ensures runs { (offer : _) (held : _) (restoring : _) → offer.fast_operators ≡ is_fast →
-        IfSome result (λ done. Runs (rules_of limits.now H.name_of offer T.natives)
-        (OpenStmt (layer.Assignment op.now lhs.now rhs.now) restoring)
+    ensures runs { (held : _) (restoring : _) → IfSome result (λ done. Runs (under_session H.name_of session.now T.natives)
+        (OpenStmt (statement_of assignment.now) restoring)
         (state_of (T.state table.now) global.old scope.old held)
         (came done out.new place.new) (state_of (T.state table.now) global.new scope.new held)) }
 {
+    let is_fast = session.fast_operators;
     if !is_fast {
         return None;
     }
-    if let Expr::Index(..) = lhs {
-        if !assign_item(limits, global, table, scope, op, lhs, rhs) {
+    if let Expr::Index(..) = assignment.left {
+        if !assign_item(
+            session,
+            global,
+            table,
+            scope,
+            assignment.op,
+            assignment.left,
+            assignment.right,
+        ) {
             return None;
         }
         put_unit(out);
         return Some(true);
     }
-    assign_in_place(
-        limits, alloc, global, table, scope, out, place, op, lhs, rhs,
-    )
+    assign_in_place(session, global, table, scope, out, place, assignment)
 }
 
 impl<'e, H: Host> Evaluator<'e, H> {
@@ -119,7 +119,7 @@ impl<'e, H: Host> Evaluator<'e, H> {
         ensures memory { IfErr (came result run.new.value run.new.error) (λ error.
             is_out_of_memory error ≡ true → IsTrue (asks_stmt stmt.now)) }
     {
-        if !charge_stmt(self.limits, &mut run.global, &mut run.error, stmt) {
+        if !charge_stmt(&self.session.limits, &mut run.global, &mut run.error, stmt) {
             return false;
         }
         match stmt {
@@ -129,7 +129,7 @@ impl<'e, H: Host> Evaluator<'e, H> {
                     return false;
                 }
                 flatten_at(
-                    self.alloc,
+                    self.session.alloc,
                     &run.global.cells,
                     &mut run.value,
                     &mut run.error,
@@ -143,7 +143,16 @@ impl<'e, H: Host> Evaluator<'e, H> {
             Stmt::Assignment(op, lhs, rhs) => { self.run_assignment(run, table, op, lhs, rhs) }
             Stmt::If(test, body, branch, _) => self.run_if(run, table, test, body, branch),
             Stmt::Var(ident, value, index, options, pos) => self.run_var(
-                run, table, ident, value, *index, *options, *pos, restoring,
+                run,
+                table,
+                &Declaration {
+                    ident,
+                    index: *index,
+                    options: *options,
+                    restoring,
+                    at: *pos,
+                },
+                value,
             ),
             Stmt::While(test, body, _) => self.run_while(run, table, test, body),
             Stmt::Do(test, body, options, _) => { self.run_do(run, table, test, body, *options) }
@@ -182,7 +191,7 @@ impl<'e, H: Host> Evaluator<'e, H> {
             Stmt::Share(variables) => {
                 let names = variables.as_slice();
                 share_variables(
-                    self.limits,
+                    &self.session,
                     &mut run.global,
                     &*table,
                     &mut run.scope,
@@ -192,8 +201,7 @@ impl<'e, H: Host> Evaluator<'e, H> {
                 )
             }
             Stmt::Export(ident, alias, _) => export_variable(
-                self.limits,
-                &run.global,
+                &self.session,
                 &*table,
                 &mut run.scope,
                 &mut run.value,
@@ -259,17 +267,17 @@ impl<'e, H: Host> Evaluator<'e, H> {
             (came result run.new.value run.new.error) (state_in (T.state table.new) run.new) }
     {
         let at_once = assign_at_once(
-            self.limits,
-            self.alloc,
+            &self.session,
             &mut run.global,
             &*table,
             &mut run.scope,
             &mut run.value,
             &mut run.error,
-            op,
-            lhs,
-            rhs,
-            self.fast_operators,
+            &Assignment {
+                op,
+                left: lhs,
+                right: rhs,
+            },
         );
         if let Some(done) = at_once {
             return done;
@@ -308,24 +316,23 @@ impl<'e, H: Host> Evaluator<'e, H> {
                     return false;
                 }
                 let (cells, out, place) = (&run.global.cells, &mut run.value, &mut run.error);
-                if !flatten_at(self.alloc, cells, out, place, rhs) {
+                if !flatten_at(self.session.alloc, cells, out, place, rhs) {
                     return false;
                 }
                 assign_from_run(
-                    self.limits,
-                    self.alloc,
-                    &self.offered,
+                    &self.session,
                     &mut run.global,
                     table,
                     &mut run.scope,
                     &mut run.value,
                     &mut run.error,
-                    *offset,
-                    name,
-                    namespace,
-                    *pos,
+                    &Variable {
+                        offset: *offset,
+                        name,
+                        namespace,
+                        at: *pos,
+                    },
                     op,
-                    self.fast_operators,
                 )
             }
             Expr::ThisPtr(pos) => {
@@ -336,12 +343,11 @@ impl<'e, H: Host> Evaluator<'e, H> {
                     return false;
                 }
                 let (cells, out, place) = (&run.global.cells, &mut run.value, &mut run.error);
-                if !flatten_at(self.alloc, cells, out, place, rhs) {
+                if !flatten_at(self.session.alloc, cells, out, place, rhs) {
                     return false;
                 }
                 assign_this_from_run(
-                    self.limits,
-                    self.alloc,
+                    &self.session,
                     &mut run.global,
                     table,
                     &mut run.this,
@@ -349,7 +355,6 @@ impl<'e, H: Host> Evaluator<'e, H> {
                     &mut run.error,
                     *pos,
                     op,
-                    self.fast_operators,
                 )
             }
             _ => self.assign_chain(run, table, op, lhs, rhs),
@@ -363,31 +368,27 @@ impl<'e, H: Host> Evaluator<'e, H> {
         &self,
         run: &mut Context<H>,
         table: &mut T,
-        ident: &Ident,
+        declaration: &Declaration<'_>,
         value: &Expr,
-        index: Option<NonZeroUsize>,
-        options: ASTFlags,
-        pos: Position,
-        restoring: bool,
     ) -> bool
         requires resolves { SuitsNames run.old
-            (var_resolves index ident.now (tests_of value.now) options pos) }
+            (var_resolves declaration.now.index declaration.now.ident.now (tests_of value.now) declaration.now.options declaration.now.at) }
         ensures counts { IsTrue result → run.old.global.num_operations ≤ run.new.global.num_operations }
-        ensures names { IsTrue result → ChangesNames run.old (naming (var_names index ident.now.name)) run.new }
-        ensures declared { IsTrue result → names run.new ≡ var_names index ident.now.name (names run.old) }
+        ensures names { IsTrue result → ChangesNames run.old (naming (var_names declaration.now.index declaration.now.ident.now.name)) run.new }
+        ensures declared { IsTrue result → names run.new ≡ var_names declaration.now.index declaration.now.ident.now.name (names run.old) }
         ensures runs { Runs (under H.name_of self.now T.natives)
-            (OpenStmt (layer.Var ident.now value.now index options pos) restoring)
+            (OpenStmt (layer.Var declaration.now.ident.now value.now declaration.now.index declaration.now.options declaration.now.at) declaration.now.restoring)
             (state_in (T.state table.old) run.old) (came result run.new.value run.new.error)
             (state_in (T.state table.new) run.new) }
     {
         if !is_declarable(
-            self.limits,
-            self.allow_shadowing,
+            &self.session.limits,
+            self.session.allow_shadowing,
             &run.scope,
             &mut run.error,
-            &ident.name,
-            index,
-            pos,
+            &declaration.ident.name,
+            declaration.index,
+            declaration.at,
         ) {
             return false;
         }
@@ -395,7 +396,7 @@ impl<'e, H: Host> Evaluator<'e, H> {
             return false;
         }
         if !flatten_at(
-            self.alloc,
+            self.session.alloc,
             &run.global.cells,
             &mut run.value,
             &mut run.error,
@@ -404,16 +405,12 @@ impl<'e, H: Host> Evaluator<'e, H> {
             return false;
         }
         declare(
-            self.alloc,
+            self.session.alloc,
             &mut run.global,
             &mut run.scope,
             &mut run.value,
             &mut run.error,
-            ident,
-            index,
-            options,
-            restoring,
-            pos,
+            declaration,
         )
     }
 
@@ -436,15 +433,15 @@ impl<'e, H: Host> Evaluator<'e, H> {
             (state_in (T.state table.old) run.old) (came result run.new.value run.new.error)
             (state_in (T.state table.new) run.new) }
     {
-        if !may_import(self.limits, &run.global, &mut run.error, pos) {
+        if !may_import(&self.session.limits, &run.global, &mut run.error, pos) {
             return false;
         }
         if !self.run_expr(run, table, path) {
             return false;
         }
-        let (modules, out, place) = (self.modules, &mut run.value, &mut run.error);
+        let (modules, out, place) = (self.session.modules, &mut run.value, &mut run.error);
         import_module(
-            self.alloc,
+            self.session.alloc,
             modules,
             &mut run.global,
             out,
@@ -481,12 +478,11 @@ impl<'e, H: Host> Evaluator<'e, H> {
             return self.run_statements(run, table, statements, restoring);
         }
         let Some(saved) = open_list(
-            self.limits,
+            &self.session,
             &mut run.global,
             &*table,
             &mut run.scope,
             statements,
-            self.fast_operators,
         ) else {
             put_unit(&mut run.value);
             return true;

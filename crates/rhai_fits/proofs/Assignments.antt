@@ -176,7 +176,8 @@ module _ {H : Type 0} (own : H → List Reached) (P : Reached → Type 0) (least
         rest = (h.1, tt);
       };
       answered = λ reply left r g. lent_good reply (target_left u left) u k l r h (left_flat u left t g) b;
-      out_in_native = λ e left g. run_out_below u.attempt e (record u { target = target_left u left }) k (put u.place (target_left u left) l)
+      out_in_native = λ e left g.
+          run_out_below u.attempt e (record u { target = target_left u left }) k (put u.place (target_left u left) l)
           (put_below own P least u.place (target_left u left) k l b (left_flat u left t g));
     }
 

@@ -21,7 +21,8 @@ use Rattle.rhai_machine.specs.language.Functions.{Function, key_by}
 use Rattle.rhai_machine.specs.language.Activations.{ThisFrom, NoThis, OwnThis, TheFocus, Entered, CallExit, Variables, Caller, UpTo}
 use Rattle.rhai_machine.specs.language.Activations.{Without}
 use Rattle.rhai_machine.specs.language.Handles.{focus_of, entered_by, entered}
-use Rattle.rhai_machine.specs.language.Bodies.{this_back, focus_back, variables_before, this_by, with_environ, variables_after, statements_of}
+use Rattle.rhai_machine.specs.language.Bodies.{this_back, focus_back, variables_before, this_by, with_environ, variables_after}
+use Rattle.rhai_machine.specs.language.Bodies.{statements_of}
 use Rattle.rhai_machine.specs.language.Bodies.{body_core, unless_full, unless_deep, opened_function, variables_back, called_back}
 use Rattle.rhai_machine.specs.language.Bodies.{left_by_error, returned}
 use Rattle.rhai_machine.specs.language.Frames.{Lender, Dispatch, Call, Frame, Core, CallEnd}

@@ -9,6 +9,7 @@ use Rattle.rhai_machine.specs.Types.{Dynamic, EvalAltResult, Expr, out-Expr, Pos
 use Rattle.rhai_values.specs.Cells.{IsNoHandle}
 use Rattle.rhai_values.specs.Layers.{layer_of}
 use Rattle.rhai_state.specs.ValueContents.{Reached}
+use Rattle.rhai_state.specs.Errors.{root_name}
 use Rattle.rhai_places.specs.declared.spot.Spot.{Spot}
 use Rattle.rhai_places.specs.declared.spot.Spot.TheVariants as spot
 use Rattle.rhai_places.specs.Parts.{part_of, value_at}
@@ -18,7 +19,7 @@ use Rattle.rhai_machine.specs.language.Values.{unit_value, is_handle, through}
 use Rattle.rhai_machine.specs.language.Variables.{Variable}
 use Rattle.rhai_machine.specs.language.Names.{Meaning, AtEntry, AsTemporary, bound_this, meant}
 use Rattle.rhai_machine.specs.language.Places.{focus_target}
-use Rattle.rhai_machine.specs.language.Links.{Link, LinkForm, AtIndex, AtProperty, AtMethod, asked_by, first_position, link_of, name_in}
+use Rattle.rhai_machine.specs.language.Links.{Link, LinkForm, AtIndex, AtProperty, AtMethod, asked_by, first_position, link_of}
 use Rattle.rhai_machine.specs.language.Frames.{Lender, FromEntry, FromThis, NewValue, Chain, Member, Property, Item, MemberAccess, ToChain}
 use Rattle.rhai_machine.specs.language.Frames.{Frame, Core, ChainEnd}
 use Rattle.rhai_machine.specs.language.Members.{focus_of, focused_on}
@@ -256,8 +257,8 @@ module _ {H : Type 0} (own : H → List Reached) (P : Reached → Type 0) (least
     pub assign_focus_good : (root : Expr) (new : NewValue H) (k : List (Frame H)) (l : Local H) → Flat own P least new.value → Below k l →
         Good (assign_focus s root new k l)
     assign_focus_good root new k l f b = on own P least (FitTarget own P least)
-        (focus_target l.around.cells (name_in (out-Expr root)) (start_of root) (focus_of l)) _ k l
-        (focus_gives own P least l (name_in (out-Expr root)) (start_of root) (focus_of l) b.local (focus_of_fits own P least l b.local)) b
+        (focus_target l.around.cells (root_name (out-Expr root)) (start_of root) (focus_of l)) _ k l
+        (focus_gives own P least l (root_name (out-Expr root)) (start_of root) (focus_of l) b.local (focus_of_fits own P least l b.local)) b
         (λ target t. assign_good own P least s new.op.op _ target new.value k l t f b)
 
     measured_below : (form : LinkForm) (source : Dynamic H) (at : Spot) (op_at : Position) (focus : Option (Dynamic H))

@@ -115,7 +115,8 @@ module _ {H : Type 0} (own : H → List Reached) (P : Reached → Type 0) where
   abbrev reached_call : FunctionCallError H → List Reached
   reached_call = fold-FunctionCallError H (List Reached) (List Reached) (in_error own) (λ call. call.error)
 
-  reached_in_call : (call : FunctionCallError H) (at : Position) → error_contents own (error.ErrorInFunctionCall call at) ≡ reached_call call
+  reached_in_call : (call : FunctionCallError H) (at : Position) →
+      error_contents own (error.ErrorInFunctionCall call at) ≡ reached_call call
   reached_in_call call at = rw (fold_out-EvalAltResult, outs-ErrorInFunctionCall) refl
 
   same_layer : (pos : Position) (l : layer.EvalAltResult-F H (EvalAltResult H) (FunctionCallError H)) →
@@ -163,7 +164,8 @@ module _ {H : Type 0} (own : H → List Reached) (P : Reached → Type 0) where
 
   abbrev reached_level : layer.EvalAltResult-F H (EvalAltResult H) (FunctionCallError H) → layer.EvalAltResult-F H (List Reached) (List
       Reached)
-  reached_level = map-EvalAltResult H (EvalAltResult H) (FunctionCallError H) (List Reached) (List Reached) (error_contents own) reached_call
+  reached_level = map-EvalAltResult H (EvalAltResult H) (FunctionCallError H) (List Reached) (List Reached)
+      (error_contents own) reached_call
 
   abbrev thrown_level : layer.EvalAltResult-F H (EvalAltResult H) (FunctionCallError H) → layer.EvalAltResult-F H (Option (Dynamic H))
       (Option (Dynamic H))

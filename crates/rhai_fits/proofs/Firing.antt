@@ -14,7 +14,8 @@ use Rattle.rhai_machine.specs.language.Values.{Cells}
 use Rattle.rhai_machine.specs.language.Places.{Place, InEntry, InCell, InThis, InFocus, is_barred, while_lent}
 use Rattle.rhai_machine.specs.language.Frames.{Operation, Lender, Call, Frame, Core, core}
 use Rattle.rhai_machine.specs.language.Calls.{First, builtin_of, lendable, in_cell, first_in, first_of, while_from, put_left, noted}
-use Rattle.rhai_machine.specs.language.Calls.{answered, with_position, missing, args_left, replied, missing_error, property_named, names_indexer}
+use Rattle.rhai_machine.specs.language.Calls.{answered, with_position, missing, args_left, replied, missing_error, property_named}
+use Rattle.rhai_machine.specs.language.Calls.{names_indexer}
 use Rattle.rhai_machine.specs.language.Calls.{first_type, types_of, not_found, barred_call, question_first, question_move, call_native}
 use Rattle.rhai_machine.specs.language.Calls.{fire_first, fire_move}
 use Rattle.rhai_fits.specs.Contents.{of_values, of_cells, of_result}

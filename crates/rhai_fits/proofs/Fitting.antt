@@ -41,7 +41,8 @@ module _ {H : Type 0} where
   focus_clean OwnThis before t u c = λ h. h
   focus_clean TheFocus before t u c = c
 
-  back_clean : (object : ThisFrom) (before t u : Option (Dynamic H)) → Clean t u → Clean (this_back object before t) (this_back object before u)
+  back_clean : (object : ThisFrom) (before t u : Option (Dynamic H)) → Clean t u →
+      Clean (this_back object before t) (this_back object before u)
   back_clean NoThis before t u c = λ h. h
   back_clean OwnThis before t u c = c
   back_clean TheFocus before t u c = λ h. h

@@ -21,7 +21,8 @@ use Rattle.rhai_machine.specs.language.Frames.{PartAssigned, MemberOperated, Cal
 use Rattle.rhai_machine.specs.language.Calls.{sized}
 use Rattle.rhai_machine.specs.language.Caught.{is_unit_seen, raised_if, raised}
 use Rattle.rhai_machine.specs.language.Members.{focus_of, focused_on}
-use Rattle.rhai_machine.specs.language.Unwinding.{ended_chain, restored, script_ended, measured_part, part_assigned, part_changed, operated_core}
+use Rattle.rhai_machine.specs.language.Unwinding.{ended_chain, restored, script_ended, measured_part, part_assigned, part_changed}
+use Rattle.rhai_machine.specs.language.Unwinding.{operated_core}
 use Rattle.rhai_machine.specs.language.Unwinding.{got_none, temporary_changed}
 use Rattle.rhai_fits.specs.Contents.{of_maybe, of_result, of_member, of_way_back}
 use Rattle.rhai_fits.specs.Sealed.{GoesBack}

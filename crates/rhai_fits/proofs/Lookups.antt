@@ -14,7 +14,8 @@ use Rattle.rhai_state.specs.ValueContents.{Reached}
 use Rattle.rhai_functions.specs.Called.{function_of}
 use Rattle.rhai_functions.specs.Functions.{FunctionKey, def_of, first_given, found_in, functions_of, has_key, if_shown, in_imports}
 use Rattle.rhai_functions.specs.Functions.{in_module, in_modules, in_named, is_public, is_shown, last_given, last_of, later_of, shown_in}
-use Rattle.rhai_functions.specs.Namespaces.{constant_among, constant_in, down, if_public, imported, module_in, module_if_named, public_in, root_in}
+use Rattle.rhai_functions.specs.Namespaces.{constant_among, constant_in, down, if_public, imported, module_in, module_if_named, public_in}
+use Rattle.rhai_functions.specs.Namespaces.{root_in}
 use Rattle.rhai_functions.specs.Qualified.{text_behind, found_or_missing, from_root, is_global, path_text, qualified, without_root}
 use Rattle.rhai_machine.specs.Types.{Dynamic, FnPtr, Import, out-Import, Module, out-Module, ModuleFn, out-ModuleFn, Position}
 use Rattle.rhai_machine.specs.language.Arguments.{KindLayer, linked, linked_to, own_function}
@@ -114,7 +115,8 @@ module _ {H : Type 0} (own : H → List Reached) (P : Reached → Type 0) (least
   down_fits [] from h = h
   down_fits (name ∷ path) from h = down_fits path (option_and_then (module_in name) from) (within_fits name from h)
 
-  named_so_fits : (name : List ℕ) (i : Import H) → FitModule own P (out-Import H i).module → There (FitModule own P) (module_if_named name i)
+  named_so_fits : (name : List ℕ) (i : Import H) → FitModule own P (out-Import H i).module →
+      There (FitModule own P) (module_if_named name i)
   named_so_fits name i h = if_there (FitModule own P) (bytes_eq (out-Import H i).name name) (out-Import H i).module h
 
   root_fits : (name : List ℕ) (imports : List (Import H)) (named : List (List ℕ) × List (Module H)) →

@@ -51,7 +51,8 @@ module _ {H : Type 0} (own : H → List Reached) where
   import_out i = rw fold_out-Import refl
 
   module_out : (m : Module H) →
-      module_contents own m ≡ each (map (contents_of own) (out-Module H m).constants.1) ++ (each (map reached_function (out-Module H m).functions)
+      module_contents own m ≡ each (map (contents_of own) (out-Module H m).constants.1) ++
+      (each (map reached_function (out-Module H m).functions)
       ++ each (map (module_contents own) (out-Module H m).sub_modules.1))
   module_out m = rw fold_out-Module refl
 

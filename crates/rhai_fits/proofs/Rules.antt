@@ -228,7 +228,8 @@ module _ {H : Type 0} (own : H → List Reached) (P : Reached → Type 0) (least
   comes_changed_good (StepDown above step) v k l f b = to own P least _ k _ f tt (step_left own P least above step k l b)
   comes_changed_good (Temporary above back) v k l f b = temporary_good own P least s back (focus_of l) v k _ b.stack.0.1
       (focus_of_fits own P least l b.local) f (refocus own P least _ above k l b.stack.0.0 b.back b)
-  comes_changed_good (PartMethod above at pos) v k l f b = part_changed_good own P least s (put_back above at (focus_of l)) above at pos v k l
+  comes_changed_good (PartMethod above at pos) v k l f b =
+      part_changed_good own P least s (put_back above at (focus_of l)) above at pos v k l
       (whole_fits own P least above at (focus_of l) b.stack.0) f b
   comes_changed_good (GetterTried access name) v k l f b = to own P least _ k l f tt (pop own P least _ k l b.back b)
   comes_changed_good (SetterTried access name value ignores) v k l f b = to own P least _ k l f tt (pop own P least _ k l b.back b)

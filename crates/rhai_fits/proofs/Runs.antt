@@ -11,7 +11,7 @@ use Rattle.rhai_machine.specs.machine.Memory.{Leads, here, next, out_before_step
 use Rattle.rhai_machine.specs.language.Setting.{Rules, cut}
 use Rattle.rhai_machine.specs.language.Frames.{Core, core, Fail}
 use Rattle.rhai_machine.specs.language.Language.{machine, move}
-use Rattle.rhai_machine.specs.language.Runs.{at, Steps}
+use Rattle.rhai_machine.specs.language.Runs.{at, Goes}
 use Rattle.rhai_fits.specs.Contents.{Contents, Nothing, OneValue, OneError, OneModule, Both, of_core, of_offer, Has, HasAt}
 use Rattle.rhai_fits.specs.Modules.{module_contents}
 use Rattle.rhai_fits.specs.Sealed.{Sealed}
@@ -264,7 +264,7 @@ module _ {S H : Type 0} (rules : Rules S H) (names : H → List ℕ) (lawful : L
   runs_keep p q s r = leads_keep rules names lawful (cut rules) p q s r
 
   pub steps_keep : StepsKeep rules
-  unfolding Steps
+  unfolding Goes
   steps_keep c d old new z s steps =
       runs_keep (at c [] old) (at d [] new) (record { control = z; stack = tt; goes_back = tt; cells = s }) (steps [])
 

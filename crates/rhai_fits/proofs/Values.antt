@@ -44,7 +44,8 @@ module _ {H : Type 0} (own : H → List Reached) where
   pub reached_value : (d : Dynamic H) → contents_of own d ≡ reached_union d.value
   reached_value d = simp fold_out-Dynamic
 
-  reached_pointer_out : (p : FnPtr H) → reached_pointer p ≡ each (map (contents_of own) (out-FnPtr H p).curry) ++ reached_kind (out-FnPtr H p).kind
+  reached_pointer_out : (p : FnPtr H) →
+      reached_pointer p ≡ each (map (contents_of own) (out-FnPtr H p).curry) ++ reached_kind (out-FnPtr H p).kind
   reached_pointer_out p = rw fold_out-FnPtr refl
 
   abbrev reached_layer : UnionLayer H → L

@@ -2,10 +2,12 @@
 use Rattle.std.specs.Prelude.{◌⊎◌, ◌<◌, ◌≤◌, ℕ, [], length}
 use Rattle.rhai_state.specs.ValueContents.{Reached, Cell}
 use Rattle.rhai_machine.specs.machine.Point.{Point}
-use Rattle.rhai_machine.specs.language.Setting.{Rules}
+use Rattle.rhai_machine.specs.language.Setting.{Rules, cut}
 use Rattle.rhai_machine.specs.language.Frames.{Control, Core}
-use Rattle.rhai_machine.specs.language.Runs.{at, Goes, Steps}
+use Rattle.rhai_machine.specs.language.Runs.{at, Steps}
 use Rattle.rhai_machine.specs.language.State.{State}
+use Rattle.rhai_machine.specs.machine.Memory.{Leads}
+use Rattle.rhai_machine.specs.language.Language.{machine}
 use Rattle.rhai_fits.specs.Contents.{HasAt}
 use Rattle.rhai_fits.specs.Sealed.{AreSealed, ControlSealed, Sealed}
 
@@ -28,7 +30,7 @@ module _ {S H : Type 0} (rules : Rules S H) where
 
   -- every run from a sealed core keeps this
   abbrev pub RunsKeep : Type 0
-  RunsKeep = (p q : Point S (Core H)) → Sealed p.core → Goes rules p q → Keeps p q
+  RunsKeep = (p q : Point S (Core H)) → Sealed p.core → Leads (machine rules) (cut rules) p q → Keeps p q
 
   -- the same of what an evaluator tells: a control with nothing below it, which assigns no handle, over a store that has none
   abbrev pub StepsKeep : Type 0
@@ -42,4 +44,4 @@ module _ {S H : Type 0} (rules : Rules S H) where
 
   -- every run from a point that fits comes to points that fit
   abbrev pub RunsFit : Type 0
-  RunsFit = (p q : Point S (Core H)) → IsFitting p → Goes rules p q → IsFitting q
+  RunsFit = (p q : Point S (Core H)) → IsFitting p → Leads (machine rules) (cut rules) p q → IsFitting q

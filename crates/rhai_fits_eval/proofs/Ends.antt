@@ -7,11 +7,12 @@ use Rattle.rhai_state.specs.Errors.{is_out_of_memory}
 use Rattle.rhai_state.specs.Native.{Lawful}
 use Rattle.rhai_state.specs.ValueContents.{Reached, Cell, Function, Constants, contents_of, error_contents}
 use Rattle.rhai_machine.specs.machine.Point.{Point}
-use Rattle.rhai_machine.specs.machine.Memory.{here}
-use Rattle.rhai_machine.specs.language.Setting.{Rules}
+use Rattle.rhai_machine.specs.machine.Memory.{here, Leads}
+use Rattle.rhai_machine.specs.language.Setting.{Rules, cut}
 use Rattle.rhai_machine.specs.language.State.{Local, State, HasMemory}
 use Rattle.rhai_machine.specs.language.Frames.{Control, Frame, Core, core, ended, ended_or_changed, Fail}
-use Rattle.rhai_machine.specs.language.Runs.{at, with_core, Goes}
+use Rattle.rhai_machine.specs.language.Runs.{at, with_core}
+use Rattle.rhai_machine.specs.language.Language.{machine}
 use Rattle.rhai_fits.specs.Contents.{Contents, Nothing, OneValue, OneError, OneModule, Both, of_maybe, of_result, of_control, of_core}
 use Rattle.rhai_fits.specs.Contents.{of_offer, Has, HasAt}
 use Rattle.rhai_fits.specs.Modules.{module_contents}
@@ -132,7 +133,7 @@ module _ {S H : Type 0} (rules : Rules S H) (given : Contents H) (old new : Stat
     -- ---- a run with nothing below
 
     module _ (before after : Option (Dynamic H)) (c : Core H) (d : Control H) (good : Good c)
-        (runs : Goes rules (with_core c (at_work before old)) (at d [] (at_work after new))) where
+        (runs : Leads (machine rules) (cut rules) (with_core c (at_work before old)) (at d [] (at_work after new))) where
       abbrev start : Point S (Core H)
       start = with_core c (at_work before old)
 
@@ -232,7 +233,8 @@ module _ {S H : Type 0} (rules : Rules S H) (given : Contents H) (old new : Stat
         | inl same ↦ fits_again before after (core (Fail e) [] (at_work before old).local) (Fail e)
             (fail own Stays (cells_in old) e [] (at_work before old).local (memory_fits own Stays (cells_in old) e is)
             (nothing_below s before place))
-            (subst (λ (t : State S H). Goes rules (at (Fail e) [] (at_work before old)) (at (Fail e) [] t)) (sym same) here) left leaves
+            (subst (λ (t : State S H). Leads (machine rules) (cut rules) (at (Fail e) [] (at_work before old)) (at (Fail e) [] t))
+            (sym same) here) left leaves
         | inr up ↦ fits_again before after (begins [] (at_work before old).local) (Fail e) good (goes_up_to rules (up [])) left leaves
       ]
 

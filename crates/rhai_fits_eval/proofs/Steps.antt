@@ -7,7 +7,6 @@ use Rattle.rhai_machine.specs.language.Setting.{Rules, cut}
 use Rattle.rhai_machine.specs.language.Frames.{Core}
 use Rattle.rhai_machine.specs.language.Language.{machine}
 use Rattle.rhai_machine.specs.language.Memory.{UpToMemory}
-use Rattle.rhai_machine.specs.language.Runs.{Goes}
 
 module _ {S H C : Type 0} (M : Machine S H C) (allows : ℕ → Bool) where
   leads : {p q : Point S C} → Reaches M allows p q → Leads M allows p q
@@ -20,9 +19,9 @@ module _ {S H C : Type 0} (M : Machine S H C) (allows : ℕ → Bool) where
   goes_on (in_native is at e first state may) r = out_in_native is e first state may r
 
 module _ {S H : Type 0} (rules : Rules S H) where
-  pub goes : {p q : Point S (Core H)} → Reaches (machine rules) (cut rules) p q → Goes rules p q
+  pub goes : {p q : Point S (Core H)} → Reaches (machine rules) (cut rules) p q → Leads (machine rules) (cut rules) p q
   goes r = leads (machine rules) (cut rules) r
 
-  pub goes_up_to : {p q : Point S (Core H)} → UpToMemory rules p q → Goes rules p q
+  pub goes_up_to : {p q : Point S (Core H)} → UpToMemory rules p q → Leads (machine rules) (cut rules) p q
   goes_up_to (inl r) = goes r
   goes_up_to (inr out) = goes out.steps ⨾ goes_on (machine rules) (cut rules) out.runs_out out.unwinds

@@ -45,7 +45,8 @@ module _ {H : Type 0} (own : H → List Reached) (P : Reached → Type 0) (least
         assign_focus_good own P least s o root new (MemberSet unit_value ∷ k) l flat
         (push own P least (MemberSet unit_value) k l (fit_unit own P) tt b.back b)
 
-    target_good : (what : Part H) (place : Dynamic H) (l : Local H) → Fit own P (value_walked_on what place) → Fit own P (shown what place) →
+    target_good : (what : Part H) (place : Dynamic H) (l : Local H) → Fit own P (value_walked_on what place) →
+        Fit own P (shown what place) →
         Below [] l → FitCore own P least (target_assigned s root new what place [] l)
     target_good part.Whole place l h g b = value_good [] l b
     target_good (part.Temporary v) place l h g b = value_good [] l b

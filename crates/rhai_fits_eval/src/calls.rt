@@ -3,11 +3,11 @@
 ghost use Rattle.std.specs.Prelude.{◌≡◌, ◌∷◌, ◌||◌, IfSome, Some, false, true};
 ghost use Rattle.rhai_values.specs.Cells.{cells_of, IsNoHandle};
 ghost use Rattle.rhai_places.specs.Targets.{shown};
-ghost use Rattle.rhai_machine.specs.language.Setting.{rules_of};
 ghost use Rattle.rhai_machine.specs.language.State.{HasMemory};
 ghost use Rattle.rhai_fits.specs.Contents.{Both, OneError, OneValue, of_result, of_values};
 ghost use Rattle.rhai_fits.specs.Sealed.{AreSealed};
 ghost use Rattle.rhai_methods.specs.Targets.{value_walked_on};
+ghost use Rattle.rhai_steps.specs.Sessions.{under as under_session};
 ghost use Rattle.rhai_steps.specs.States.{holding, state_of};
 ghost use Rattle.rhai_eval.specs.States.{under};
 ghost use Rattle.rhai_fits_eval.specs.InHand.{FitsAgain, of_done, of_lent, of_changed, of_target};
@@ -18,8 +18,8 @@ use rhai_places::spot::Access;
 use rhai_places::target::Target;
 use rhai_state::caches::Caches;
 use rhai_state::error::EvalAltResult;
-use rhai_state::limits::Limits;
 use rhai_state::scope::Scope;
+use rhai_state::session::Session;
 use rhai_state::state::GlobalRuntimeState;
 use rhai_state::table::NativeTable;
 use rhai_tree::expr::{Expr, OpAssignment};
@@ -153,8 +153,7 @@ pub fn get_indexed_mut<'t, H: Host, T: NativeTable<H>>(
 /// the function of `rhai_index` that `Engine::get_indexed_mut` calls, with what is left of the value that is
 /// indexed.
 pub fn refused_index<H: Host, T: NativeTable<H>>(
-    alloc: Global,
-    limits: &Limits,
+    session: &Session<'_, H>,
     global: &mut GlobalRuntimeState<H>,
     table: &mut T,
     object: &mut Dynamic<H>,
@@ -164,14 +163,14 @@ pub fn refused_index<H: Host, T: NativeTable<H>>(
 ) -> Option<EvalAltResult<H>>
     requires object { IsNoHandle object.old.value }
     requires sealed { AreSealed (cells_of global.old.cells) }
-    ensures fits { (offer : _) (scope : _) (this : _) → IfSome result (λ error.
-        FitsAgain (rules_of limits.now H.name_of offer T.natives)
+    ensures fits { (scope : _) (this : _) → IfSome result (λ error.
+        FitsAgain (under_session H.name_of session.now T.natives)
         (Both (OneValue object.old) (OneValue idx.old))
         (state_of (T.state table.old) global.old scope (holding this))
         (Both (OneError error) (Both (OneValue object.new) (OneValue idx.new)))
         (state_of (T.state table.new) global.new scope (holding this))) }
 {
-    match indexing::get_indexed_mut(object, alloc, limits, global, table, idx, how, use_indexers) {
+    match indexing::get_indexed_mut(object, session, global, table, idx, how, use_indexers) {
         Ok(_target) => None,
         Err(error) => Some(error),
     }

@@ -8,8 +8,9 @@ ghost use Rattle.rhai_functions.specs.Keys.{function_key_of};
 
 use crate::key::FnKey;
 use crate::lookup::find_function;
+use rhai_state::session::Offered;
+use rhai_tree::Shared;
 use rhai_tree::checked::CheckedFn;
-use rhai_tree::{Shared, Table};
 use rhai_values::base::value::{EncapsulatedEnviron, Import, Module, ModuleFn};
 use std::alloc::AllocError;
 
@@ -18,14 +19,6 @@ use std::alloc::AllocError;
 pub struct Function<H> {
     pub def: Shared<CheckedFn>,
     pub environ: Option<Shared<EncapsulatedEnviron<H>>>,
-}
-
-/// The modules of an engine that functions are found in: those whose functions are found without their names,
-/// and those that have names.
-#[derive(Drop)]
-pub struct Offered<'e, H> {
-    pub global_modules: &'e [Shared<Module<H>>],
-    pub global_sub_modules: &'e Table<Shared<Module<H>>>,
 }
 
 /// Shares a module's function, with an owner of its own, so that it can run while its module may change.

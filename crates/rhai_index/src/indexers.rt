@@ -17,9 +17,9 @@ use rhai_few::Few;
 use rhai_places::errors::indexing_error;
 use rhai_places::spot::{Access, Refusal};
 use rhai_state::error::EvalAltResult;
-use rhai_state::limits::Limits;
+use rhai_state::errors::non_pure;
+use rhai_state::session::Session;
 use rhai_state::table::{Answer, NativeTable};
-use rhai_steps::errors::non_pure;
 use rhai_steps::replies::{position_if_none, sized};
 use rhai_steps::values::{let_go, list_of, unit_value};
 use rhai_tree::position::Position;
@@ -80,8 +80,7 @@ fn not_indexed<H: Host>(
 
 /// Makes the result of a call of what the indexer answered, at the call's position.
 fn indexer_answer<H: Host>(
-    alloc: Global,
-    limits: &Limits,
+    session: &Session<'_, H>,
     cells: &CellStore<H>,
     answer: Answer<H>,
     object: &Dynamic<H>,
@@ -89,12 +88,12 @@ fn indexer_answer<H: Host>(
     pos: Position,
 ) -> Result<Dynamic<H>, EvalAltResult<H>>
     ensures told { IfSome (reply_of answer) (λ reply. Answers result
-        (indexer_result limits.now H.name_of (cells_of cells.now) object.now index.now pos reply)) }
+        (indexer_result session.now.limits H.name_of (cells_of cells.now) object.now index.now pos reply)) }
     ensures memory { HasMemory result → is_some (reply_of answer) ≡ true }
 {
     match answer {
-        Answer::Missing => Err(not_indexed(alloc, cells, object, index, pos)),
-        Answer::Value(value) => sized(alloc, limits, value, pos),
+        Answer::Missing => Err(not_indexed(session.alloc, cells, object, index, pos)),
+        Answer::Value(value) => sized(session, value, pos),
         Answer::Fault(error) => Err(position_if_none(error, pos)),
         Answer::NoMemory => Err(EvalAltResult::ErrorOutOfMemory(pos)),
     }
@@ -102,8 +101,7 @@ fn indexer_answer<H: Host>(
 
 /// Calls an indexer on the focus, unless the focus is barred from it.
 fn call_indexer<H: Host, T: NativeTable<H>>(
-    alloc: Global,
-    limits: &Limits,
+    session: &Session<'_, H>,
     cells: &CellStore<H>,
     table: &mut T,
     name: &str,
@@ -116,23 +114,22 @@ fn call_indexer<H: Host, T: NativeTable<H>>(
     requires { IsNoHandle object.old.value }
     ensures leaves { Leaves (call_effect T.natives (cells_of cells.now) pos barred (T.state table.old)
         name.now object.old others.now)
-        (indexer_result limits.now H.name_of (cells_of cells.now) object.old index.now pos)
+        (indexer_result session.now.limits H.name_of (cells_of cells.now) object.old index.now pos)
         object.new (T.state table.new) result }
     ensures reached { MayLeave H.name_of T.natives (T.state table.old)
         (indexer_request (cells_of cells.now) name.now object.old others.now pos)
         (Some object.new) (T.state table.new) }
 {
     if barred {
-        return Err(non_pure(alloc, name, pos));
+        return Err(non_pure(session.alloc, name, pos));
     }
     let answer = table.call(cells, name, Some(&mut *object), others, pos);
-    indexer_answer(alloc, limits, cells, answer, object, index, pos)
+    indexer_answer(session, cells, answer, object, index, pos)
 }
 
 /// Calls the indexer that reads on a focus that is no handle.
 pub(crate) fn ask_get<H: Host, T: NativeTable<H>>(
-    alloc: Global,
-    limits: &Limits,
+    session: &Session<'_, H>,
     cells: &CellStore<H>,
     table: &mut T,
     object: &mut Dynamic<H>,
@@ -140,7 +137,7 @@ pub(crate) fn ask_get<H: Host, T: NativeTable<H>>(
     pos: Position,
 ) -> Result<Dynamic<H>, EvalAltResult<H>>
     requires { IsNoHandle object.old.value }
-    ensures asked { Asked limits.now H.name_of T.natives (cells_of cells.now)
+    ensures asked { Asked session.now.limits H.name_of T.natives (cells_of cells.now)
         (read_call index.old pos) by_itself
         (T.state table.old) object.old (T.state table.new) object.new result }
     ensures reached { MayLeave H.name_of T.natives (T.state table.old)
@@ -150,13 +147,12 @@ pub(crate) fn ask_get<H: Host, T: NativeTable<H>>(
 {
     let is_pure = is_pure_on(cells, &*table, "index$get$", object, 2);
     let barred = is_barred(true, is_pure, object);
-    match list_of(alloc, replace(index, unit_value())) {
+    match list_of(session.alloc, replace(index, unit_value())) {
         Ok(others) => {
             let mut others = others;
             let args = others.as_slice();
             let result = call_indexer(
-                alloc,
-                limits,
+                session,
                 cells,
                 table,
                 "index$get$",

@@ -18,13 +18,12 @@ use rhai_places::indexing;
 use rhai_places::spot::Access;
 use rhai_places::target::{Part, Target};
 use rhai_state::error::EvalAltResult;
-use rhai_state::limits::Limits;
+use rhai_state::session::Session;
 use rhai_state::state::GlobalRuntimeState;
 use rhai_state::table::NativeTable;
 use rhai_steps::charges::track_operation;
 use rhai_tree::position::Position;
 use rhai_values::base::value::{Dynamic, Host, Union};
-use std::alloc::Global;
 
 /// Tells whether the host's indexer is asked. It is where it may be, and the focus is of no kind that is
 /// indexed without it.
@@ -55,8 +54,7 @@ fn asks_indexer<H: Host>(object: &Dynamic<H>, use_indexers: bool) -> bool
 /// above a limit. All others are those of `rhai_places::indexing::get_indexed_mut`.
 pub fn get_indexed_mut<'t, H: Host, T: NativeTable<H>>(
     target: &'t mut Dynamic<H>,
-    alloc: Global,
-    limits: &Limits,
+    session: &Session<'_, H>,
     global: &mut GlobalRuntimeState<H>,
     table: &mut T,
     idx: &mut Dynamic<H>,
@@ -66,21 +64,21 @@ pub fn get_indexed_mut<'t, H: Host, T: NativeTable<H>>(
     requires { IsNoHandle target.old.value }
     ensures* writes_back { sem 𝓛 (lends_indexed H.row
         (is_asked use_indexers (layer_of target.entry.now))
-        (is_called limits.now global.entry.now use_indexers (layer_of target.entry.now))
+        (is_called session.now.limits global.entry.now use_indexers (layer_of target.entry.now))
         (effect_of T.natives H.name_of (cells_of global.entry.now.cells) (T.state table.entry.now)
         (read_call idx.entry.now how.op_pos) target.entry.now).first
         (MayEndAs T.natives (T.state table.entry.now) (request_of (cells_of global.entry.now.cells)
         (read_call idx.entry.now how.op_pos) target.entry.now)) target.entry
         (found how H.name_of (cells_of global.entry.now.cells) target.entry.now idx.entry.now) result) }
-    ensures indexes { Indexes limits.now H.name_of T.natives T.state how use_indexers
+    ensures indexes { Indexes session.now.limits H.name_of T.natives T.state how use_indexers
         global.old table.old target.old idx.old global.new table.new idx.new result }
 {
-    track_operation(limits, global, Position::NONE)?;
+    track_operation(&session.limits, global, Position::NONE)?;
     if !asks_indexer(target, use_indexers) {
-        return indexing::get_indexed_mut(target, alloc, &global.cells, idx, how);
+        return indexing::get_indexed_mut(target, session.alloc, &global.cells, idx, how);
     }
-    track_operation(limits, global, how.op_pos)?;
-    let value = ask_get(alloc, limits, &global.cells, table, target, idx, how.op_pos)?;
+    track_operation(&session.limits, global, how.op_pos)?;
+    let value = ask_get(session, &global.cells, table, target, idx, how.op_pos)?;
     Ok(Target {
         at: target,
         part: Part::Temporary(value),

@@ -19,8 +19,8 @@ use Rattle.rhai_state.specs.declared.state.GlobalRuntimeState.{GlobalRuntimeStat
 use Rattle.rhai_state.specs.Scope.{entries_of}
 use Rattle.rhai_operators.specs.Direct.{integer_in}
 use Rattle.rhai_machine.specs.machine.Machine.{Charge, Go}
-use Rattle.rhai_machine.specs.machine.Memory.{here, ◌⨾◌}
-use Rattle.rhai_machine.specs.language.Setting.{Rules, limit_under}
+use Rattle.rhai_machine.specs.machine.Memory.{here, ◌⨾◌, Leads}
+use Rattle.rhai_machine.specs.language.Setting.{Rules, limit_under, cut}
 use Rattle.rhai_machine.specs.language.State.{Held, Local, State}
 use Rattle.rhai_machine.specs.language.Links.{AtIndex, Link, breaks, first_in, index_link, link_of, link_with}
 use Rattle.rhai_machine.specs.language.Frames.{Argument, CallArgument, Chain, ChainArguments, ChainRoot, Control, Core, Frame, NewValue}
@@ -29,8 +29,8 @@ use Rattle.rhai_machine.specs.language.Frames.{ToChain, chain_on, core, on_value
 use Rattle.rhai_machine.specs.language.Arguments.{arguments_core}
 use Rattle.rhai_machine.specs.language.Chains.{asked_move, open_move, opened_core}
 use Rattle.rhai_machine.specs.language.Expressions.{literal_of}
-use Rattle.rhai_machine.specs.language.Language.{move}
-use Rattle.rhai_machine.specs.language.Runs.{Goes, at, with_core}
+use Rattle.rhai_machine.specs.language.Language.{move, machine}
+use Rattle.rhai_machine.specs.language.Runs.{at, with_core}
 use Rattle.rhai_steps.specs.States.{local_of, state_of}
 use Rattle.rhai_steps.proofs.Pieces.{step_by}
 use Rattle.rhai_operands.specs.Standing.{integer_of, standing}
@@ -44,7 +44,8 @@ pub charged_on : {S H : Type 0} (rules : Rules S H) (t : S) (old new : GlobalRun
     (pos : Position) (k : List (Frame H)) (d : Local H → Core H) →
     move rules.setting (core c k (local_of old scope held)) ≡ Charge pos (d (local_of old scope held)) →
     old.num_operations < limit_under rules → new ≡ record old { num_operations = old.num_operations + 1 } →
-    Goes rules (at c k (state_of t old scope held)) (with_core (d (local_of new scope held)) (state_of t new scope held))
+    Leads (machine rules) (cut rules) (at c k (state_of t old scope held))
+    (with_core (d (local_of new scope held)) (state_of t new scope held))
 charged_on rules t old new scope held c pos k d charges room is = step_by rules _ _ _ charges (rw (lt-ltb _ _ room, is) here)
 
 module _ {H : Type 0} where
@@ -104,7 +105,7 @@ module _ {H : Type 0} (root index : Expr) (options : ASTFlags) (pos : Position) 
 
     -- a literal index is there
     literal_comes : (n : ℤ) (where_it_is : Position) → out-Expr index ≡ layer.IntegerConstant n where_it_is → (k : List (Frame H))
-        (s : State S H) → Goes rules (at (OpenChain begun) k s) (at (ChainRoot (indexed_by n)) k s)
+        (s : State S H) → Leads (machine rules) (cut rules) (at (OpenChain begun) k s) (at (ChainRoot (indexed_by n)) k s)
     literal_comes n where_it_is is k s = step_by rules _ _ (Go (core (ChainRoot (indexed_by n)) k s.local))
         (opens_by k s.local (layer.IntegerConstant n where_it_is) is) here
 
@@ -120,7 +121,7 @@ module _ {H : Type 0} (root index : Expr) (options : ASTFlags) (pos : Position) 
       variable_comes : (old mid new_state : GlobalRuntimeState H) → old.num_operations < limit_under rules →
           mid ≡ record old { num_operations = old.num_operations + 1 } → mid.num_operations < limit_under rules →
           new_state ≡ record mid { num_operations = mid.num_operations + 1 } → literal_of {H = H} (out-Expr index) ≡ None →
-          Goes rules (at (OpenChain begun) k (state_of t old scope held)) (at (ChainRoot (indexed_by z)) k
+          Leads (machine rules) (cut rules) (at (OpenChain begun) k (state_of t old scope held)) (at (ChainRoot (indexed_by z)) k
           (state_of t new_state scope held))
       variable_comes old mid new_state room is more last no_literal =
           step_by rules _ _ (Go (core (ChainArguments begun item []) k (local_of old scope held)))
@@ -142,7 +143,7 @@ module _ {H : Type 0} (root index : Expr) (options : ASTFlags) (pos : Position) 
       abbrev index_goes : (extra : ℕ) → GlobalRuntimeState H → GlobalRuntimeState H → Type 0
       index_goes extra old new_state = old.num_operations + extra ≤ limit_under rules →
           new_state ≡ record old { num_operations = old.num_operations + extra } →
-          Goes rules (at (OpenChain begun) k (state_of t old scope held)) (at (ChainRoot (indexed_by z)) k
+          Leads (machine rules) (cut rules) (at (OpenChain begun) k (state_of t old scope held)) (at (ChainRoot (indexed_by z)) k
           (state_of t new_state scope held))
 
       literal_goes : (n : ℤ) (where_it_is : Position) → out-Expr index ≡ layer.IntegerConstant n where_it_is →
@@ -153,9 +154,9 @@ module _ {H : Type 0} (root index : Expr) (options : ASTFlags) (pos : Position) 
           let number : Some n ≡ Some z = ap (λ (v : Dynamic H). integer_in v.value) same ∙ ap (λ (u : Union H). integer_in u) holds in
           let equal : n ≡ z = cc in
           let stays : old ≡ new_state = ap (λ (m : ℕ). record old { num_operations = m }) (omega arith) ∙ sym is in
-          subst (λ (g : GlobalRuntimeState H). Goes rules (at (OpenChain begun) k (state_of t old scope held))
+          subst (λ (g : GlobalRuntimeState H). Leads (machine rules) (cut rules) (at (OpenChain begun) k (state_of t old scope held))
           (at (ChainRoot (indexed_by z)) k (state_of t g scope held))) stays
-          (subst (λ (m : ℤ). Goes rules (at (OpenChain begun) k (state_of t old scope held))
+          (subst (λ (m : ℤ). Leads (machine rules) (cut rules) (at (OpenChain begun) k (state_of t old scope held))
           (at (ChainRoot (indexed_by m)) k (state_of t old scope held))) equal
           (literal_comes n where_it_is form k (state_of t old scope held)))
 

@@ -23,6 +23,7 @@ use Rattle.rhai_state.specs.declared.error.EvalAltResult.{EvalAltResult}
 use Rattle.rhai_state.specs.declared.scope.Scope.{Scope}
 use Rattle.rhai_state.specs.declared.state.GlobalRuntimeState.{GlobalRuntimeState}
 use Rattle.rhai_state.specs.Scope.{entries_of, revalued, value_in}
+use Rattle.rhai_state.specs.Errors.{root_name}
 use Rattle.rhai_places.specs.declared.spot.Spot.{Spot}
 use Rattle.rhai_places.specs.declared.spot.Spot.TheVariants as spot
 use Rattle.rhai_places.specs.declared.spot.Refusal.{Refusal}
@@ -33,14 +34,14 @@ use Rattle.rhai_places.specs.Parts.{value_at, with_value}
 use Rattle.rhai_places.specs.Paths.{ToPlace}
 use Rattle.rhai_operators.specs.Answers.{Answer, op_assign_of}
 use Rattle.rhai_machine.specs.machine.Machine.{Charge, Go}
-use Rattle.rhai_machine.specs.machine.Memory.{here, next, ◌⨾◌}
+use Rattle.rhai_machine.specs.machine.Memory.{here, next, ◌⨾◌, Leads}
 use Rattle.rhai_machine.specs.machine.Point.{after}
-use Rattle.rhai_machine.specs.language.Setting.{Rules, globals_of, limit_under}
+use Rattle.rhai_machine.specs.language.Setting.{Rules, globals_of, limit_under, cut}
 use Rattle.rhai_machine.specs.language.State.{Held, Local}
 use Rattle.rhai_machine.specs.language.Values.{Cells, is_handle, through_union, unit_value}
 use Rattle.rhai_machine.specs.language.Names.{Meaning, entry_named, looked_up, of_entry}
 use Rattle.rhai_machine.specs.language.Variables.{Variable, no_path, variable_named}
-use Rattle.rhai_machine.specs.language.Links.{Link, name_in}
+use Rattle.rhai_machine.specs.language.Links.{Link}
 use Rattle.rhai_machine.specs.language.Places.{InFocus, focus_at, is_constant, target, unless_constant}
 use Rattle.rhai_machine.specs.language.Frames.{Assignment, AssignedChain, Back, Chain, ChainEnd, ChainRoot, Changed, Core, Frame, FromEntry}
 use Rattle.rhai_machine.specs.language.Frames.{InPlace}
@@ -50,8 +51,8 @@ use Rattle.rhai_machine.specs.language.Chains.{assign_focus, assign_spot, begun_
 use Rattle.rhai_machine.specs.language.Chains.{meant_core, seen_move, stop_move, unless_barred_by, walk_move}
 use Rattle.rhai_machine.specs.language.Located.{access_by, bars_key, is_indexed, is_place_spot, is_unit, lacks_key, spot_of}
 use Rattle.rhai_machine.specs.language.Members.{focused_on}
-use Rattle.rhai_machine.specs.language.Language.{move}
-use Rattle.rhai_machine.specs.language.Runs.{Goes, at, with_core}
+use Rattle.rhai_machine.specs.language.Language.{move, machine}
+use Rattle.rhai_machine.specs.language.Runs.{at, with_core}
 use Rattle.rhai_machine.proofs.MeantLaws.{meant_at}
 use Rattle.rhai_steps.specs.States.{local_of, state_of}
 use Rattle.rhai_steps.proofs.Pieces.{charged, step_by}
@@ -133,7 +134,7 @@ module _ {S H : Type 0} (rules : Rules S H) (root index : Expr) (options : ASTFl
           ∙ ap (of_entry i) (looks (local_of reached scope held).around.cells name root_pos v.value v (no_handle v.value items holds)))
 
       -- the variable is charged and lent
-      pub root_comes : Goes rules (at (ChainRoot asked) k (state_of t old scope held))
+      pub root_comes : Leads (machine rules) (cut rules) (at (ChainRoot asked) k (state_of t old scope held))
           (at (Walk walked) (ChainEnd (Some (FromEntry i)) held.focus ∷ k) (state_of t reached scope (lent held)))
       root_comes = charged rules t old reached scope held (ChainRoot asked) (ReadRoot variable asked) root_pos
           (λ k. rw form refl) room is k
@@ -197,7 +198,7 @@ module _ {S H : Type 0} (rules : Rules S H) (root index : Expr) (options : ASTFl
         old.num_operations < limit_under rules →
         reached ≡ record old { num_operations = old.num_operations + 1 } → (k : List (Frame H)) (n : ℕ) →
         index_in (length items) z ≡ Some n → (x : Dynamic H) → value_at v (spot.Item n) ≡ Some x →
-        Goes rules (at (Walk walked) k (state_of t old scope (lent held)))
+        Leads (machine rules) (cut rules) (at (Walk walked) k (state_of t old scope (lent held)))
         (with_core (assign_focus rules.setting root new (Measured new.op.position ∷ StepDown v (ToPlace (spot.Item n)) ∷ k)
         (focused_on (Some x) (local_of reached scope held))) (state_of t reached scope (lent held)))
     item_comes t old reached scope held room is k n leads x there =
@@ -220,7 +221,7 @@ module _ {S H : Type 0} (rules : Rules S H) (root : Expr) (new : NewValue H) (to
   on_item = focused_on (Some x) l
 
   abbrev assignment : Assignment
-  assignment = record { path = no_path; name = name_in (out-Expr root); at = position_of root; op = new.op }
+  assignment = record { path = no_path; name = root_name (out-Expr root); at = position_of root; op = new.op }
 
   abbrev update : Update H
   update = record {
@@ -236,9 +237,9 @@ module _ {S H : Type 0} (rules : Rules S H) (root : Expr) (new : NewValue H) (to
   -- the item is written where it stands
   pub assigns_item : assign_focus rules.setting root new k on_item ≡ core (Back unit_value) k (focused_on (Some written) l)
   assigns_item =
-      ap (λ (u : Union H). on_value (focus_at l.around.cells (name_in (out-Expr root)) (start_of root) u x)
+      ap (λ (u : Union H). on_value (focus_at l.around.cells (root_name (out-Expr root)) (start_of root) u x)
       (λ place. assign_core rules.setting new.op.op assignment place new.value k on_item) k on_item) holds
-      ∙ ap (λ (b : Bool). on_value (unless_constant b (name_in (out-Expr root)) (start_of root) (target InFocus x))
+      ∙ ap (λ (b : Bool). on_value (unless_constant b (root_name (out-Expr root)) (start_of root) (target InFocus x))
       (λ place. assign_core rules.setting new.op.op assignment place new.value k on_item) k on_item) writable
       ∙ ap (λ (o : Option Token). assign_core rules.setting o assignment (target InFocus x) new.value k on_item) is_token
       ∙ ap (λ (b : Bool). update_core rules.setting (if_fast b (op_assign_of token x new.value)) update k on_item) fast
@@ -253,7 +254,7 @@ module _ {S H : Type 0} (rules : Rules S H) (t : S) (g : GlobalRuntimeState H) (
     (put_there : entries_of later ≡ revalued (entries_of scope) i (slice_get (entries_of scope) i)
     (with_value v (spot.Item n) (plain (value.Int r)))) (k : List (Frame H)) where
   -- the item is measured, and goes back into the array, and that into its variable
-  pub goes_up : Goes rules (at (Back unit_value) (Measured pos ∷ StepDown v (ToPlace (spot.Item n)) ∷ ChainEnd (Some
+  pub goes_up : Leads (machine rules) (cut rules) (at (Back unit_value) (Measured pos ∷ StepDown v (ToPlace (spot.Item n)) ∷ ChainEnd (Some
       (FromEntry i)) held.focus
       ∷ AssignedChain ∷ k) (state_of t g scope (record held { focus = Some (plain (value.Int r)) })))
       (at (Back unit_value) k (state_of t g later held))

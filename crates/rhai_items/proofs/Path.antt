@@ -29,8 +29,8 @@ use Rattle.rhai_operators.specs.Answers.{answer, op_assign_of}
 use Rattle.rhai_operators.specs.Direct.{integer_given, integer_in}
 use Rattle.rhai_operators.specs.Operators.{Outcome, op_assign_at}
 use Rattle.rhai_machine.specs.machine.Machine.{Go}
-use Rattle.rhai_machine.specs.machine.Memory.{here, ◌⨾◌}
-use Rattle.rhai_machine.specs.language.Setting.{Rules, limit_under}
+use Rattle.rhai_machine.specs.machine.Memory.{here, ◌⨾◌, Leads}
+use Rattle.rhai_machine.specs.language.Setting.{Rules, limit_under, cut}
 use Rattle.rhai_machine.specs.language.State.{Held}
 use Rattle.rhai_machine.specs.language.Names.{entry_named}
 use Rattle.rhai_machine.specs.language.Values.{unit_value}
@@ -38,7 +38,8 @@ use Rattle.rhai_machine.specs.language.Places.{InEntry, is_constant}
 use Rattle.rhai_machine.specs.language.Frames.{AssignChain, AssignedChain, ChainEnd, Eval, Frame, FromEntry, NewValue, OpenChain, OpenStmt}
 use Rattle.rhai_machine.specs.language.Frames.{chain_on, core, on_value}
 use Rattle.rhai_machine.specs.language.Assignment.{assignment_move}
-use Rattle.rhai_machine.specs.language.Runs.{Goes, Runs, Steps, at}
+use Rattle.rhai_machine.specs.language.Runs.{Runs, at, Goes}
+use Rattle.rhai_machine.specs.language.Language.{machine}
 use Rattle.rhai_steps.specs.States.{local_of, state_of}
 use Rattle.rhai_steps.proofs.Pieces.{step_by}
 use Rattle.rhai_operands.specs.Standing.{assigned_known, integer_of, integer_valued, standing}
@@ -106,7 +107,7 @@ module _ {H : Type 0} where
   knows_by token (Some x) o w is = knows_item token x o w (writable_in x) (integer_of o) refl refl is
 
   -- what is known of an index that leads to an item
-  pub record Leads (kind : UnionLayer H) (o : Option (Dynamic H)) (n : ℕ) : Type 0 where
+  pub record LeadsToItem (kind : UnionLayer H) (o : Option (Dynamic H)) (n : ℕ) : Type 0 where
     pub items : List (Dynamic H)
     pub holds : kind ≡ union.Array items
     pub x : Dynamic H
@@ -116,7 +117,7 @@ module _ {H : Type 0} where
     pub leads : index_in (length items) z ≡ Some n
 
   leads_in : (kind : UnionLayer H) (o : Option (Dynamic H)) (a : Option ℤ) (n : ℕ) → integer_of o ≡ a →
-      place_in_array kind a ≡ Some n → Leads kind o n
+      place_in_array kind a ≡ Some n → LeadsToItem kind o n
   leads_in (union.Array items) o (Some z) n number is =
       let stands = integer_stands o z number in
       record {
@@ -131,19 +132,20 @@ module _ {H : Type 0} where
   leads_in (union.Array items) o None n number is = cc
   leads_in kind o a n number is = cc
 
-  pub leads_by : (kind : UnionLayer H) (o : Option (Dynamic H)) (n : ℕ) → place_in_array kind (integer_of o) ≡ Some n → Leads kind o n
+  pub leads_by : (kind : UnionLayer H) (o : Option (Dynamic H)) (n : ℕ) → place_in_array kind (integer_of o) ≡ Some n →
+      LeadsToItem kind o n
   leads_by kind o n is = leads_in kind o (integer_of o) n refl is
 
 module _ {S H : Type 0} (rules : Rules S H) (t : S) (scope : Scope H) (held : Held H) (op : OpAssignment) (lhs root index rhs : Expr)
     (options : ASTFlags) (pos : Position) (restoring : Bool) (form : out-Expr lhs ≡ layer.Index root index options pos)
-    (alone : index_is_simple (out-Expr index) ≡ true) (offset : Option NonZeroUsize) (name : Name) (namespace : Namespace) (root_pos : Position)
-    (root_form : out-Expr root ≡ layer.Variable offset name namespace root_pos)
+    (alone : index_is_simple (out-Expr index) ≡ true) (offset : Option NonZeroUsize) (name : Name) (namespace : Namespace)
+    (root_pos : Position) (root_form : out-Expr root ≡ layer.Variable offset name namespace root_pos)
     (token : Token) (is_token : op.op ≡ Some token) (fast : rules.setting.offer.fast_operators ≡ true) (i : ℕ) (v : Dynamic H)
     (found_at : entry_named namespace.path name (entries_of scope) ≡ Some i) (stands : value_in (entries_of scope) (Some i) ≡ Some v) where
   -- the value comes
   value_comes : (y : Dynamic H) → standing (out-Expr rhs) (entries_of scope) ≡ Some y → (old mid : GlobalRuntimeState H) →
       old.num_operations < limit_under rules → mid ≡ record old { num_operations = old.num_operations + 1 } → (k : List (Frame H)) →
-      Goes rules (at (OpenStmt (layer.Assignment op lhs rhs) restoring) k (state_of t old scope held))
+      Leads (machine rules) (cut rules) (at (OpenStmt (layer.Assignment op lhs rhs) restoring) k (state_of t old scope held))
       (at (OpenChain (begun root index options pos (record { op = op; value = copy_of y }))) (AssignedChain ∷ k) (state_of t
       mid scope held))
   value_comes y given old mid room is k =
@@ -166,11 +168,11 @@ module _ {S H : Type 0} (rules : Rules S H) (t : S) (scope : Scope H) (held : He
     abbrev counted : ℕ → GlobalRuntimeState H
     counted n = record old { num_operations = old.num_operations + n }
 
-    assigned_by : Leads (layer_of v) (standing (out-Expr index) (entries_of scope)) n →
+    assigned_by : LeadsToItem (layer_of v) (standing (out-Expr index) (entries_of scope)) n →
         Knows token (value_at v (spot.Item n)) (standing (out-Expr rhs) (entries_of scope)) w →
         Runs rules (OpenStmt (layer.Assignment op lhs rhs) restoring) (state_of t old scope held) (Ok unit_value)
         (state_of t last later held)
-    unfolding Steps
+    unfolding Goes
     assigned_by to knows k =
         let extra = extra_of (out-Expr index) in
         let all : charges_of (out-Expr index) ≡ 3 + extra = charges_are (out-Expr index) in

@@ -4,7 +4,7 @@
 //! own specs/.
 #![tactic(auto)]
 
-ghost use Rattle.std.specs.Prelude.{◌≡◌, ◌<◌, IsTrue, IfSome, Some, Ok, length, slice_get, true, false};
+ghost use Rattle.std.specs.Prelude.{◌≡◌, ◌<◌, IfSome, Some, Ok, length, slice_get, true, false};
 ghost use Rattle.std.specs.Prelude.{unsigned_abs};
 ghost use Rattle.std.specs.Option.{option_map};
 ghost use Rattle.rhai_tree.specs.declared.expr.Expr.{out-Expr};
@@ -17,34 +17,26 @@ ghost use Rattle.rhai_places.specs.Indexing.{index_in};
 ghost use Rattle.rhai_places.specs.Parts.{IsPlace, value_at, with_value};
 ghost use Rattle.rhai_machine.specs.language.Frames.{OpenStmt};
 ghost use Rattle.rhai_machine.specs.language.Runs.{Runs};
-ghost use Rattle.rhai_machine.specs.language.Setting.{rules_of};
 ghost use Rattle.rhai_machine.specs.language.Values.{unit_value as unit};
 ghost use Rattle.rhai_steps.specs.Agreement.{AgreesAt, KeepsSight};
+ghost use Rattle.rhai_steps.specs.Sessions.{under};
 ghost use Rattle.rhai_steps.specs.States.{state_of};
 ghost use Rattle.rhai_assign.specs.Keeps.{Keeps};
-ghost use Rattle.rhai_items.specs.Items.{charges_of, index_is_simple, parts_in, place_in_array, writable_at};
-ghost use Rattle.rhai_assign.specs.InPlace.{writable_in};
+ghost use Rattle.rhai_items.specs.Items.{charges_of, parts_in, place_in_array, writable_at};
 
 use rhai_context::ends::put_number;
 use rhai_operands::operands::{integer_at, integer_in_place};
 use rhai_operands::operators::compute_known;
 use rhai_places::place::place_mut;
 use rhai_places::spot::Spot;
-use rhai_state::limits::Limits;
 use rhai_state::scope::Scope;
+use rhai_state::session::Session;
 use rhai_state::state::GlobalRuntimeState;
 use rhai_state::table::NativeTable;
 use rhai_steps::charges::charge_all;
-use rhai_steps::variables::entry_of_variable;
+use rhai_steps::variables::index_by_offset;
 use rhai_tree::expr::{Expr, OpAssignment};
 use rhai_values::base::value::{AccessMode, Dynamic, Host, Union};
-
-/// Tells whether an index is a literal integer or a variable.
-fn is_alone(index: &Expr) -> bool
-    ensures { result ≡ index_is_simple (out-Expr index.now) }
-{
-    matches!(index, Expr::IntegerConstant(..) | Expr::Variable { .. })
-}
 
 /// Returns the root and the index of an expression that is an item. The index is a literal integer or a
 /// variable, and nothing stands behind it. None for any other expression.
@@ -55,10 +47,10 @@ fn item_parts(lhs: &Expr) -> Option<(&Expr, &Expr)>
         return None;
     };
     let index = index.get();
-    if !is_alone(index) {
-        return None;
+    match index {
+        Expr::IntegerConstant(..) | Expr::Variable { .. } => Some((root.get(), index)),
+        _ => None,
     }
-    Some((root.get(), index))
 }
 
 /// Counts the operations that an assignment to an item charges. They are those of the value, the root and the
@@ -72,13 +64,6 @@ fn charges(index: &Expr) -> u64
     }
 }
 
-/// Returns how far an index is from zero.
-fn distance(index: i64) -> usize
-    ensures { result ≡ unsigned_abs index }
-{
-    index.unsigned_abs() as usize
-}
-
 /// Finds where an index leads in a sequence, counted from the end where it is negative. None where it leads
 /// nowhere.
 #[inline(always)]
@@ -86,7 +71,7 @@ fn place_of_index(length: usize, index: i64) -> Option<usize>
     ensures at { result ≡ index_in length index }
     ensures within { IfSome result (λ at. at < length) }
 {
-    let distance = distance(index);
+    let distance = index.unsigned_abs() as usize;
     if index >= 0 {
         if distance < length {
             Some(distance)
@@ -113,17 +98,6 @@ fn place_in_value<H>(source: &Dynamic<H>, index: Option<i64>) -> Option<usize>
     }
 }
 
-/// Returns the integer that a value is, None where it is a constant or of another type.
-#[inline(always)]
-fn writable_integer<H>(value: &Dynamic<H>) -> Option<i64>
-    ensures { result ≡ writable_in value.now }
-{
-    match value.mode {
-        AccessMode::ReadWrite => integer_at(value),
-        AccessMode::ReadOnly => None,
-    }
-}
-
 /// Reads the integer that an item of an array is. None where the value is no array or has no such item, or
 /// where that is a constant or of another type.
 #[inline(always)]
@@ -131,7 +105,13 @@ fn integer_of_item<H>(source: &Dynamic<H>, at: usize) -> Option<i64>
     ensures { result ≡ writable_at (value_at source.now (spot.Item at)) }
 {
     match &source.value {
-        Union::Array(items) => writable_integer(items.get().get(at)?),
+        Union::Array(items) => {
+            let item = items.get().get(at)?;
+            match item.mode {
+                AccessMode::ReadWrite => integer_at(item),
+                AccessMode::ReadOnly => None,
+            }
+        }
         _ => None,
     }
 }
@@ -155,7 +135,7 @@ fn write_item<H: Host>(scope: &mut Scope<H>, entry: usize, at: usize, value: Dyn
 /// changed. The table is not called.
 #[inline(never)]
 pub fn assign_item<H: Host, T: NativeTable<H>>(
-    limits: &Limits,
+    session: &Session<'_, H>,
     global: &mut GlobalRuntimeState<H>,
     _table: &T,
     scope: &mut Scope<H>,
@@ -169,8 +149,8 @@ pub fn assign_item<H: Host, T: NativeTable<H>>(
     ensures left_scope { result ≡ false → scope.new ≡ scope.old }
     ensures keeps { Keeps global.old global.new scope.old scope.new }
     ensures sight { KeepsSight global.old global.new }
-    ensures runs { result ≡ true → (offer : _) (held : _) (restoring : _) → offer.fast_operators ≡ true →
-        Runs (rules_of limits.now H.name_of offer T.natives)
+    ensures runs { result ≡ true → (held : _) (restoring : _) → session.now.fast_operators ≡ true →
+        Runs (under H.name_of session.now T.natives)
         (OpenStmt (layer.Assignment op.now lhs.now rhs.now) restoring)
         (state_of (T.state _table.now) global.old scope.old held)
         (Ok unit) (state_of (T.state _table.now) global.new scope.new held) }
@@ -190,7 +170,7 @@ pub fn assign_item<H: Host, T: NativeTable<H>>(
     let Some(token) = op.op else {
         return false;
     };
-    let Some(entry) = entry_of_variable(global, scope, *offset, name, namespace) else {
+    let Some(entry) = index_by_offset(global, scope, *offset, name, namespace) else {
         return false;
     };
     let position = integer_in_place(global, scope, index);
@@ -213,7 +193,7 @@ pub fn assign_item<H: Host, T: NativeTable<H>>(
         return false;
     };
     let count = charges(index);
-    if !charge_all(limits, global, count) {
+    if !charge_all(&session.limits, global, count) {
         drop(value);
         return false;
     }

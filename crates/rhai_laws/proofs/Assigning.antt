@@ -12,6 +12,7 @@ use Rattle.rhai_values.specs.Cells.{IsNoHandle}
 use Rattle.rhai_values.specs.Layers.{UnionLayer, layer_of}
 use Rattle.rhai_values.specs.Modes.{with_mode}
 use Rattle.rhai_state.specs.declared.error.EvalAltResult.TheVariants as error
+use Rattle.rhai_state.specs.Errors.{root_name}
 use Rattle.rhai_places.specs.declared.spot.Spot.{Spot}
 use Rattle.rhai_places.specs.Parts.{value_at, with_value}
 use Rattle.rhai_places.specs.Paths.{ToPlace}
@@ -23,7 +24,7 @@ use Rattle.rhai_machine.specs.language.State.{Local, State}
 use Rattle.rhai_machine.specs.language.Variables.{no_path}
 use Rattle.rhai_machine.specs.language.Values.{Cells, is_handle, through_union, unit_value}
 use Rattle.rhai_machine.specs.language.Places.{InFocus, focus_at, is_constant, target, unless_constant}
-use Rattle.rhai_machine.specs.language.Links.{Link, LinkForm, AtIndex, AtProperty, AtMethod, link_of, name_in}
+use Rattle.rhai_machine.specs.language.Links.{Link, LinkForm, AtIndex, AtProperty, AtMethod, link_of}
 use Rattle.rhai_machine.specs.language.Located.{access_by, bars_key, index_by, is_indexed, is_place_spot, spot_of}
 use Rattle.rhai_machine.specs.language.Frames.{NewValue, Chain, Control, Frame, Core, core, on_value, Walk, Locate, Back, Changed, Fail}
 use Rattle.rhai_machine.specs.language.Frames.{Assignment, StepDown, Measured}
@@ -270,7 +271,7 @@ module _ {S H : Type 0} (rules : Rules S H) (allows : ℕ → Bool) where
     module _ (new : NewValue H) (assigns : chain.new ≡ Some new) (plain : new.op.op ≡ None) (ends : link.behind ≡ None)
         (opens : Opens (access_by rules.setting true link) rules.setting.host_type state.local.around.cells v index s) where
       abbrev name : List ℕ
-      name = name_in (out-Expr chain.root)
+      name = root_name (out-Expr chain.root)
 
       abbrev frames : List (Frame H)
       frames = measured_place rules.setting link.form opens.source opens.at new.op.position k

@@ -477,7 +477,8 @@ module _ {H : Type 0} where
     }
 
     -- a move by way of another core
-    pub after : {b d : Core H} (c : Core H) → unwound c.stack (outline c.local) ≡ unwound b.stack (outline b.local) → (MeetsAsked b → MeetsAsked c) →
+    pub after : {b d : Core H} (c : Core H) → unwound c.stack (outline c.local) ≡ unwound b.stack (outline b.local) →
+        (MeetsAsked b → MeetsAsked c) →
         Keeps c d → Keeps b d
     after c o n q = record {
       sound = q.sound;
@@ -616,7 +617,8 @@ module _ {H : Type 0} where
     step_left above (ToCell n) k l = quiet tt (ap (unwound k) (left_cell above n l)) (λ t. t)
 
     -- a value is written to a place
-    put_names_meet : (place : Place) (v : Dynamic H) (k : List (Frame H)) (l : Local H) → MeetsAsked (calm k l) → MeetsAsked (calm k (put place v l))
+    put_names_meet : (place : Place) (v : Dynamic H) (k : List (Frame H)) (l : Local H) → MeetsAsked (calm k l) →
+        MeetsAsked (calm k (put place v l))
     put_names_meet place v k l t = rw (put_names place v l, put_imports place v l) t
 
     pub put_keeps : (place : Place) (v : Dynamic H) (k : List (Frame H)) (l : Local H) → Stands place l →

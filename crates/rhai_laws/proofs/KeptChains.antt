@@ -14,6 +14,7 @@ use Rattle.rhai_values.specs.declared.base.value.Union.TheVariants as value
 use Rattle.rhai_values.specs.Cells.{value_of_cell}
 use Rattle.rhai_values.specs.Layers.{layer_of}
 use Rattle.rhai_state.specs.declared.error.EvalAltResult.{EvalAltResult}
+use Rattle.rhai_state.specs.Errors.{root_name}
 use Rattle.rhai_places.specs.declared.spot.Spot.{Spot}
 use Rattle.rhai_places.specs.declared.spot.Spot.TheVariants as spot
 use Rattle.rhai_places.specs.Parts.{part_of, value_at}
@@ -23,7 +24,7 @@ use Rattle.rhai_machine.specs.language.Values.{is_handle, through_union, through
 use Rattle.rhai_machine.specs.language.Variables.{Variable, no_path}
 use Rattle.rhai_machine.specs.language.Names.{Meaning, AtEntry, AsTemporary, bound_this, meant}
 use Rattle.rhai_machine.specs.language.Places.{focus_target}
-use Rattle.rhai_machine.specs.language.Links.{Link, LinkForm, AtIndex, AtProperty, AtMethod, asked_by, first_position, link_of, name_in}
+use Rattle.rhai_machine.specs.language.Links.{Link, LinkForm, AtIndex, AtProperty, AtMethod, asked_by, first_position, link_of}
 use Rattle.rhai_machine.specs.language.Frames.{Lender, NewValue, Chain, Member, Property, Item, MemberAccess, ToChain, Frame, Core, core}
 use Rattle.rhai_machine.specs.language.Frames.{on_value}
 use Rattle.rhai_machine.specs.language.Frames.{OpenChain, ChainArguments, ChainRoot, ReadRoot, Walk, Locate}
@@ -223,9 +224,9 @@ module _ {H : Type 0} (a : Asked) where
     pub assign_focus_keeps : (root : Expr) (new : NewValue H) (k : List (Frame H)) (l : Local H) →
         Keeps a (calm k l) (assign_focus s root new k l)
     assign_focus_keeps root new k l =
-        stored_keeps a s (focus_target l.around.cells (name_in (out-Expr root)) (start_of root) (focus_of l))
-        (record { path = no_path; name = name_in (out-Expr root); at = position_of root; op = new.op }) new.value k l
-        (λ t is. focus_stands (name_in (out-Expr root)) (start_of root) (focus_of l) t l is)
+        stored_keeps a s (focus_target l.around.cells (root_name (out-Expr root)) (start_of root) (focus_of l))
+        (record { path = no_path; name = root_name (out-Expr root); at = position_of root; op = new.op }) new.value k l
+        (λ t is. focus_stands (root_name (out-Expr root)) (start_of root) (focus_of l) t l is)
 
     assign_member_keeps : (token : Option Token) (access : MemberAccess H) (root : Expr) (new : NewValue H) (k : List (Frame H))
         (l : Local H) →

@@ -11,7 +11,8 @@ use Rattle.rhai_machine.specs.language.Setting.{Rules, cut, limit_under}
 use Rattle.rhai_machine.specs.language.State.{Local, State, Surroundings}
 use Rattle.rhai_machine.specs.language.Frames.{Control, Frame, Core, core, Exec, EnterFunction, OpenStmt, Enter, Run, Fail}
 use Rattle.rhai_machine.specs.language.Language.{machine}
-use Rattle.rhai_machine.specs.language.Runs.{at, with_core, Goes, Steps}
+use Rattle.rhai_machine.specs.language.Runs.{at, with_core, Steps, Goes}
+use Rattle.rhai_machine.specs.machine.Memory.{Leads}
 use Rattle.rhai_values.specs.declared.base.value.Import.{Import}
 use Rattle.rhai_laws.specs.Kept.{declares, forgotten_cell, is_import, Around, Sound, names_of, adds_names, AddsNone, Restores, Grown, Kept}
 use Rattle.rhai_laws.specs.Steady.{Moves, Steady}
@@ -157,11 +158,12 @@ module _ {S H : Type 0} (rules : Rules S H) where
     -- and so does a run
     run_keeps : (c d : Control H) (old new : State S H) → Sound c old.local → Steps rules c old d new →
         Keeps a (core c [] old.local) (core d [] new.local)
-    unfolding Steps
+    unfolding Goes
     run_keeps c d old new h steps = keeps (machine rules) (cut rules) (Stays a) steady (steps []) h
 
     -- and so does a run from a core to which a rule led
-    pub goes_keep : (b c : Core H) (d : Control H) (old new : State S H) → Keeps a b c → Goes rules (with_core c old) (at d [] new) →
+    pub goes_keep : (b c : Core H) (d : Control H) (old new : State S H) → Keeps a b c →
+        Leads (machine rules) (cut rules) (with_core c old) (at d [] new) →
         Keeps a b (core d [] new.local)
     goes_keep b c d old new led goes = through a led (keeps (machine rules) (cut rules) (Stays a) steady goes led.sound)
 
@@ -195,13 +197,13 @@ module _ {S H : Type 0} (rules : Rules S H) where
 
   -- charges are only added
   pub counted : (c d : Control H) (old new : State S H) → Steps rules c old d new → old.count ≤ new.count
-  unfolding Steps
+  unfolding Goes
   counted c d old new steps = counts (machine rules) (cut rules) (steps [])
 
   -- a count within the limit stays within it
   pub counted_within : (c d : Control H) (old new : State S H) → Steps rules c old d new → old.count ≤ limit_under rules →
       new.count ≤ limit_under rules
-  unfolding Steps
+  unfolding Goes
   counted_within c d old new steps = within (machine rules) (limit_under rules) (steps [])
 
   -- what every run leaves, also where memory runs out
@@ -264,7 +266,7 @@ module _ {S H : Type 0} (rules : Rules S H) where
 
   -- the same of a run from a core to which a rule led, whatever is asked of the names
   module _ (c : Core H) (d : Control H) (old new : State S H) (led : (a : Asked) → Keeps a (calm [] old.local) c)
-      (goes : Goes rules (with_core c old) (at d [] new)) where
+      (goes : Leads (machine rules) (cut rules) (with_core c old) (at d [] new)) where
     -- it leaves as many imports, so they are the same
     same_from : length new.local.around.imports ≡ length old.local.around.imports
     same_from =

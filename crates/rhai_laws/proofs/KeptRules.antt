@@ -72,7 +72,8 @@ use Rattle.rhai_machine.specs.language.Unwinding.{up_core, down_core, changed_up
 use Rattle.rhai_machine.specs.language.Language.{move_at}
 use Rattle.rhai_laws.specs.Kept.{declares, is_import, Sound, names_of, adds_names}
 use Rattle.rhai_laws.specs.Steady.{Moves}
-use Rattle.rhai_laws.proofs.Keeping.{Asked, Grows, Free, Imports, MeetsAsked, begins_self, begins_through, unwound, Keeps, quiet, through, after}
+use Rattle.rhai_laws.proofs.Keeping.{Asked, Grows, Free, Imports, MeetsAsked, begins_self, begins_through, unwound, Keeps, quiet, through}
+use Rattle.rhai_laws.proofs.Keeping.{after}
 use Rattle.rhai_laws.proofs.Keeping.{calm}
 use Rattle.rhai_laws.proofs.Keeping.{any_by, calm_meets}
 use Rattle.rhai_laws.proofs.Keeping.{ended_keeps, step_left, call_left, constant_outline, function_entered, started_by, stopped_by}
@@ -271,7 +272,8 @@ module _ {H : Type 0} (a : Asked) where
 
   -- a value that did not come adds none
   undefined_names : (index : Option NonZeroUsize) (ident : Ident) (options : ASTFlags) (restoring : Bool) (value_at : Position)
-      (k : List (Frame H)) (l : Local H) → MeetsAsked a (calm (DefineValue ident index options restoring value_at ∷ k) l) → MeetsAsked a (calm k l)
+      (k : List (Frame H)) (l : Local H) → MeetsAsked a (calm (DefineValue ident index options restoring value_at ∷ k) l) →
+      MeetsAsked a (calm k l)
   undefined_names None ident options restoring value_at k l t =
       (t.0, t.1.1 (names_of l) (begins_self (names_of l)) t.0, t.2)
   undefined_names (Some offset) ident options restoring value_at k l t = t

@@ -7,14 +7,14 @@ use Rattle.rhai_state.specs.declared.error.EvalAltResult.{EvalAltResult}
 use Rattle.rhai_state.specs.declared.error.EvalAltResult.TheVariants as error
 use Rattle.rhai_machine.specs.machine.Unwinding.{Passes}
 use Rattle.rhai_machine.specs.machine.Point.{Point, Reaches}
-use Rattle.rhai_machine.specs.machine.Memory.{MemoryUnwinds}
+use Rattle.rhai_machine.specs.machine.Memory.{MemoryUnwinds, Leads}
 use Rattle.rhai_machine.specs.language.Setting.{Rules, cut}
 use Rattle.rhai_machine.specs.language.State.{Local, State, HasMemory}
 use Rattle.rhai_machine.specs.language.Frames.{Control, Frame, Core, ended, Fail, CallEnd, Top}
 use Rattle.rhai_machine.specs.language.Unwinding.{down_core}
 use Rattle.rhai_machine.specs.language.Language.{move_at, machine}
 use Rattle.rhai_machine.specs.language.Memory.{IsOutOfMemory, UpToMemory}
-use Rattle.rhai_machine.specs.language.Runs.{at, Goes}
+use Rattle.rhai_machine.specs.language.Runs.{at}
 use Rattle.rhai_laws.proofs.MemoryLaws.{straight, up_to}
 
 module _ {S H : Type 0} (rules : Rules S H) where
@@ -49,13 +49,14 @@ module _ {S H : Type 0} (rules : Rules S H) where
   -- where a run does not end out of memory, the machine takes its steps by itself
   pub steps_with_memory : {p : Point S (Core H)} (r : Result (Dynamic H) (EvalAltResult H)) (k : List (Frame H)) (new : State S H) →
       HasMemory r →
-      Goes rules p (at (ended r) k new) → Reaches (machine rules) (cut rules) p (at (ended r) k new)
-  steps_with_memory r k new has steps = straight (machine rules) (cut rules) IsOutOfMemory memory_unwinds steps (λ is. had_memory r has is.0 is.1)
+      Leads (machine rules) (cut rules) p (at (ended r) k new) → Reaches (machine rules) (cut rules) p (at (ended r) k new)
+  steps_with_memory r k new has steps =
+      straight (machine rules) (cut rules) IsOutOfMemory memory_unwinds steps (λ is. had_memory r has is.0 is.1)
 
   pub with_memory : {p : Point S (Core H)} (r : Result (Dynamic H) (EvalAltResult H)) (new : State S H) → HasMemory r →
-      Goes rules p (at (ended r) [] new) → Reaches (machine rules) (cut rules) p (at (ended r) [] new)
+      Leads (machine rules) (cut rules) p (at (ended r) [] new) → Reaches (machine rules) (cut rules) p (at (ended r) [] new)
   with_memory r new has steps = steps_with_memory r [] new has steps
 
   -- else it does so up to where memory runs out
-  pub runs_up_to_memory : {p q : Point S (Core H)} → Goes rules p q → UpToMemory rules p q
+  pub runs_up_to_memory : {p q : Point S (Core H)} → Leads (machine rules) (cut rules) p q → UpToMemory rules p q
   runs_up_to_memory steps = up_to (machine rules) (cut rules) IsOutOfMemory memory_unwinds steps

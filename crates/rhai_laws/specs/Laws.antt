@@ -8,9 +8,9 @@ use Rattle.rhai_machine.specs.language.Setting.{Rules, cut}
 use Rattle.rhai_machine.specs.language.State.{State, HasMemory}
 use Rattle.rhai_machine.specs.language.Frames.{Control, Core, ended}
 use Rattle.rhai_machine.specs.language.Language.{machine}
-use Rattle.rhai_machine.specs.machine.Memory.{RunsOut}
+use Rattle.rhai_machine.specs.machine.Memory.{RunsOut, Leads}
 use Rattle.rhai_machine.specs.language.Memory.{IsOutOfMemory, UpToMemory}
-use Rattle.rhai_machine.specs.language.Runs.{at, Goes, Steps}
+use Rattle.rhai_machine.specs.language.Runs.{at, Steps}
 use Rattle.rhai_laws.specs.Kept.{Sound, names_of, AddsNone, Restores, Grown, Kept}
 use Rattle.rhai_laws.specs.Memory.{IsLeft}
 
@@ -18,12 +18,13 @@ module _ {S H : Type 0} (rules : Rules S H) where
   -- where a run does not end out of memory, the machine takes its steps by itself
   abbrev pub GoesWithMemory : Type 0
   GoesWithMemory =
-      (p : Point S (Core H)) (r : Result (Dynamic H) (EvalAltResult H)) (new : State S H) → HasMemory r → Goes rules p (at (ended r) [] new)
+      (p : Point S (Core H)) (r : Result (Dynamic H) (EvalAltResult H)) (new : State S H) → HasMemory r →
+      Leads (machine rules) (cut rules) p (at (ended r) [] new)
       → Reaches (machine rules) (cut rules) p (at (ended r) [] new)
 
   -- else it does so up to where memory runs out
   abbrev pub GoesUpToMemory : Type 0
-  GoesUpToMemory = (p q : Point S (Core H)) → Goes rules p q → UpToMemory rules p q
+  GoesUpToMemory = (p q : Point S (Core H)) → Leads (machine rules) (cut rules) p q → UpToMemory rules p q
 
   -- where memory ran out count and table's state stay as they were there
   abbrev pub OutOfMemoryStays : Type 0

@@ -18,7 +18,8 @@ module _ {S H Core : Type 0} (M : Machine S H Core) where
 
     -- the machine takes the steps by itself, or up to where memory runs out
     abbrev pub IsUpTo : Type 0
-    IsUpTo = MemoryUnwinds M W → (allows : ℕ → Bool) (p q : Point S Core) → Leads M allows p q → Reaches M allows p q ⊎ RunsOut M allows W p q
+    IsUpTo = MemoryUnwinds M W → (allows : ℕ → Bool) (p q : Point S Core) → Leads M allows p q →
+        Reaches M allows p q ⊎ RunsOut M allows W p q
 
     -- where memory ran out, count and table stay as they were there
     abbrev pub LeavesAll : Type 0

@@ -10,13 +10,14 @@ use Rattle.rhai_values.specs.Layers.{layer_of}
 use Rattle.rhai_places.specs.declared.spot.Spot.{Spot}
 use Rattle.rhai_places.specs.declared.spot.Spot.TheVariants as spot
 use Rattle.rhai_places.specs.Parts.{part_of, value_at}
+use Rattle.rhai_state.specs.Errors.{root_name}
 use Rattle.rhai_machine.specs.language.Setting.{Globals, Setting}
 use Rattle.rhai_machine.specs.language.State.{Local}
 use Rattle.rhai_machine.specs.language.Values.{is_handle, through, unit_value}
 use Rattle.rhai_machine.specs.language.Variables.{Variable}
 use Rattle.rhai_machine.specs.language.Names.{Meaning, AtEntry, AsTemporary, bound_this, meant}
 use Rattle.rhai_machine.specs.language.Places.{focus_target}
-use Rattle.rhai_machine.specs.language.Links.{Link, LinkForm, AtIndex, AtProperty, AtMethod, asked_by, first_position, link_of, name_in}
+use Rattle.rhai_machine.specs.language.Links.{Link, LinkForm, AtIndex, AtProperty, AtMethod, asked_by, first_position, link_of}
 use Rattle.rhai_machine.specs.language.Frames.{Lender, NewValue, Chain, Member, Property, Item, MemberAccess, ToChain, Frame, Core, core}
 use Rattle.rhai_machine.specs.language.Frames.{ChainEnd, PartMethod, PartAssigned, MemberLink, MemberGot, MemberSet}
 use Rattle.rhai_machine.specs.language.Calls.{place_of, sized}
@@ -180,7 +181,7 @@ module _ {H : Type 0} (a : Asked) where
     pub assign_focus_keeps : (root : Expr) (new : NewValue H) (k : List (Frame H)) (l : Local H) → Calm a k l →
         Good a (assign_focus s root new k l)
     assign_focus_keeps root new k l h =
-        store_keeps a s (focus_target l.around.cells (name_in (out-Expr root)) (start_of root) (focus_of l)) _ new.value k l h
+        store_keeps a s (focus_target l.around.cells (root_name (out-Expr root)) (start_of root) (focus_of l)) _ new.value k l h
 
     assign_member_keeps : (token : Option Token) (access : MemberAccess H) (root : Expr) (new : NewValue H) (k : List (Frame H))
         (l : Local H) → Calm a k l → Good a (assign_member s token access root new k l)

@@ -4,12 +4,12 @@ use Rattle.rhai_state.specs.declared.error.EvalAltResult.TheVariants as error
 use Rattle.rhai_state.specs.declared.scope.ScopeEntry.{ScopeEntry}
 use Rattle.rhai_machine.specs.machine.Machine.{Charge}
 use Rattle.rhai_machine.specs.machine.Point.{Point}
-use Rattle.rhai_machine.specs.language.Setting.{Rules}
+use Rattle.rhai_machine.specs.language.Setting.{Rules, cut}
 use Rattle.rhai_machine.specs.language.State.{Local}
 use Rattle.rhai_machine.specs.language.Activations.{Entered, Variables, Caller}
 use Rattle.rhai_machine.specs.language.Frames.{Frame, Core, core, EnterFunction, Fail, DefineValue, ForItems, CallEnd}
-use Rattle.rhai_machine.specs.language.Language.{move}
-use Rattle.rhai_machine.specs.language.Runs.{Goes}
+use Rattle.rhai_machine.specs.language.Language.{move, machine}
+use Rattle.rhai_machine.specs.machine.Memory.{Leads}
 
 -- the last of some numbers is told of the bottom, and is at most `bottom`; each other one is at most the limit
 abbrev pub Within : (limit bottom : ℕ) → List ℕ → Type 0
@@ -61,14 +61,15 @@ module _ {S H : Type 0} (rules : Rules S H) where
   -- every later point, also where memory runs out. A scope at the bottom may have more, up to `bottom`, and grows no further either.
   abbrev pub ScopesKeepToTheLimit : Type 0
   ScopesKeepToTheLimit = (bottom : ℕ) (p q : Point S (Core H)) → rules.setting.limits.max_variables ≤ bottom →
-      DeclaresNone p.core.stack → Within rules.setting.limits.max_variables bottom (scope_lengths p.core) → Goes rules p q →
+      DeclaresNone p.core.stack → Within rules.setting.limits.max_variables bottom (scope_lengths p.core) →
+      Leads (machine rules) (cut rules) p q →
       Within rules.setting.limits.max_variables bottom (scope_lengths q.core)
 
   -- No function runs at a level above `max_call_levels`: where none on the stack does, none does at any later point, also where memory runs
   -- out, whatever the level at the bottom is. So from a start with no function on the stack none ever does.
   abbrev pub LevelsKeepToTheLimit : Type 0
   LevelsKeepToTheLimit = (bottom : ℕ) (p q : Point S (Core H)) → Within rules.setting.limits.max_call_levels bottom (levels p.core) →
-      Goes rules p q → Within rules.setting.limits.max_call_levels bottom (levels q.core)
+      Leads (machine rules) (cut rules) p q → Within rules.setting.limits.max_call_levels bottom (levels q.core)
 
   -- a function that is called at a level above the limit fails at its call, which is charged: its body is not entered
   abbrev pub TooDeepFails : Type 0

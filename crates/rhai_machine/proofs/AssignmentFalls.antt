@@ -13,7 +13,8 @@ use Rattle.rhai_machine.specs.language.Setting.{Setting}
 use Rattle.rhai_machine.specs.language.State.{Local}
 use Rattle.rhai_machine.specs.language.Frames.{Attempt, InPlace, AsValue, Assignment, Update, Frame, core, FireUpdate}
 use Rattle.rhai_machine.specs.language.Places.{Place, Target, put}
-use Rattle.rhai_machine.specs.language.Assignment.{native_of, written_core, done, if_fast, says_missing, operation_of, target_left, update_core}
+use Rattle.rhai_machine.specs.language.Assignment.{native_of, written_core, done, if_fast, says_missing, operation_of, target_left}
+use Rattle.rhai_machine.specs.language.Assignment.{update_core}
 use Rattle.rhai_machine.specs.language.Assignment.{assign_core, store_core, changed_core, fault_core, value_core, answered_core}
 use Rattle.rhai_machine.specs.language.Assignment.{barred_core, call_update, fire_update}
 use Rattle.rhai_machine.specs.language.Calls.{replied, applied, sized, with_position}

@@ -14,6 +14,7 @@ use Rattle.rhai_values.specs.declared.base.value.Union.TheVariants as value
 use Rattle.rhai_values.specs.Cells.{with_held}
 use Rattle.rhai_values.specs.Layers.{layer_of}
 use Rattle.rhai_state.specs.declared.error.EvalAltResult.{EvalAltResult}
+use Rattle.rhai_state.specs.Errors.{root_name}
 use Rattle.rhai_places.specs.declared.spot.Spot.{Spot}
 use Rattle.rhai_places.specs.declared.spot.Spot.TheVariants as spot
 use Rattle.rhai_places.specs.Parts.{part_of, value_at}
@@ -23,14 +24,13 @@ use Rattle.rhai_machine.specs.language.Setting.{Globals, Setting}
 use Rattle.rhai_machine.specs.language.State.{Local}
 use Rattle.rhai_machine.specs.language.Values.{unit_value, is_handle, through}
 use Rattle.rhai_machine.specs.language.Frames.{Frame, Core, core, Eval, NewValue, Chain, Member, Property, Item, MemberAccess, OpenChain}
-use Rattle.rhai_machine.specs.language.Frames.{ChainArguments, ChainRoot, ReadRoot, Walk, RootValue, StepDown, PartMethod, PartAssigned}
+use Rattle.rhai_machine.specs.language.Frames.{ChainArguments, ChainRoot, Walk, RootValue, StepDown, PartMethod, PartAssigned}
 use Rattle.rhai_machine.specs.language.Frames.{MemberLink, MemberGot, MemberSet}
 use Rattle.rhai_machine.specs.language.Calls.{sized}
-use Rattle.rhai_machine.specs.machine.Machine.{Halt, Charge}
 use Rattle.rhai_machine.specs.language.Variables.{Variable}
 use Rattle.rhai_machine.specs.language.Names.{Meaning, AtEntry, AsTemporary, meant}
 use Rattle.rhai_machine.specs.language.Places.{focus_target}
-use Rattle.rhai_machine.specs.language.Links.{Link, LinkForm, AtIndex, AtProperty, AtMethod, first_position, link_of, name_in}
+use Rattle.rhai_machine.specs.language.Links.{Link, LinkForm, AtIndex, AtProperty, AtMethod, first_position, link_of}
 use Rattle.rhai_machine.specs.language.Members.{focus_of, focused_on, got_by, unless_ignored, set_by, getter_missing, setter_missing}
 use Rattle.rhai_machine.specs.language.Members.{indexer_missing}
 use Rattle.rhai_machine.specs.language.Located.{index_by, is_indexed, is_map, is_place_spot, is_unit, spot_of}
@@ -169,7 +169,7 @@ module _ {H : Type 0} where
 
     pub assign_focus_falls : (root : Expr) (new : NewValue H) (k : List (Frame H)) (l : Local H) →
         size (assign_focus s root new k l) < 12 + stack_size k
-    assign_focus_falls root new k l = on_falls (focus_target l.around.cells (name_in (out-Expr root)) (start_of root) (focus_of l)) _ k l
+    assign_focus_falls root new k l = on_falls (focus_target l.around.cells (root_name (out-Expr root)) (start_of root) (focus_of l)) _ k l
         (λ target. assign_falls s new.op.op _ target new.value k l)
 
     -- what a link does with a place or a part

@@ -31,7 +31,8 @@ module _ {S H : Type 0} (table : Table S H) (host : H → List ℕ) where
         (export 1 (codes "y") None ∷ []) (Err (ErrorVariableNotFound (codes "y") (column 2))) 1
         (nothing_but (known_as (entry (codes "x") (integer 1)) (codes "y" ∷ []) ∷ []))
     -- it is charged at the statement
-    pub refused : Fails table (limited host 1) (stmt.Noop (column 1) ∷ export 3 (codes "x") None ∷ []) (ErrorTooManyOperations (column 3)) 1 []
+    pub refused : Fails table (limited host 1) (stmt.Noop (column 1) ∷ export 3 (codes "x") None ∷ [])
+        (ErrorTooManyOperations (column 3)) 1 []
     -- a new variable under its own name, and not the older one of the name
     pub declared : Ends table (usual host) (nothing_but (entry (codes "x") (integer 1) ∷ []))
         (export_let 1 None (codes "x") (int 16 2) ∷ []) (Ok unit) 2

@@ -6,15 +6,18 @@ use Rattle.rhai_tree.specs.declared.literal.Literal.TheVariants as literal
 use Rattle.rhai_tree.specs.declared.token.Token.TheVariants.{EqualsTo}
 use Rattle.rhai_values.specs.declared.base.value.Union.TheVariants as kind
 use Rattle.rhai_values.specs.Copy.{plain}
-use Rattle.rhai_state.specs.declared.error.EvalAltResult.TheVariants.{ErrorDataRace, ErrorMismatchDataType, ErrorTooManyOperations, ErrorVariableNotFound}
-use Rattle.rhai_machine_samples.specs.Trees.{column, int, bool, var, op, braces, inner, switch_, result_if, result_of, case_of, break_, loop_}
+use Rattle.rhai_state.specs.declared.error.EvalAltResult.TheVariants.{ErrorDataRace, ErrorMismatchDataType, ErrorTooManyOperations}
+use Rattle.rhai_state.specs.declared.error.EvalAltResult.TheVariants.{ErrorVariableNotFound}
+use Rattle.rhai_machine_samples.specs.Trees.{column, int, bool, var, op, braces, inner, switch_, result_if, result_of, case_of, break_}
+use Rattle.rhai_machine_samples.specs.Trees.{loop_}
 use Rattle.rhai_machine_samples.specs.Runs.{Table, Ends, Fails, Returns, usual, limited, nothing_but, entry, integer, truth, unit}
 use Rattle.rhai_machine_samples.specs.Handles.{handle, one_cell, EndsOver}
 use Rattle.rhai_machine_samples.specs.Items.{array}
 
 -- `switch 1 { 1 if 2 => 3, _ => 4 }`
 abbrev pub no_truth : List Stmt
-no_truth = switch_ 1 (int 8 1) (result_if (int 17 2) (int 22 3) ∷ result_of (int 30 4) ∷ []) (case_of (literal.Int (pos 1)) 0 ∷ []) [] (Some 1)
+no_truth = switch_ 1 (int 8 1) (result_if (int 17 2) (int 22 3) ∷ result_of (int 30 4) ∷ []) (case_of (literal.Int (pos 1)) 0 ∷ []) []
+    (Some 1)
     ∷ []
 
 -- `switch 1 { 1 if 1 == 1 => 2 }`

@@ -14,7 +14,8 @@ use Rattle.rhai_machine.specs.language.State.{Local}
 use Rattle.rhai_machine.specs.language.Setting.{Setting}
 use Rattle.rhai_machine.specs.language.Turns.{ForLoop, Turns, OfItems, OfIntegers}
 use Rattle.rhai_machine.specs.language.Frames.{Frame, ForTurn, RestoreScope}
-use Rattle.rhai_machine_samples.specs.Trees.{column, int, var, op, braces, inner, ident, for_, assign, break_, continue_, return_, throw_, shared}
+use Rattle.rhai_machine_samples.specs.Trees.{column, int, var, op, braces, inner, ident, for_, assign, break_, continue_, return_, throw_}
+use Rattle.rhai_machine_samples.specs.Trees.{shared}
 use Rattle.rhai_machine_samples.specs.Trees.{no_variable, result_of, switch_, try_}
 use Rattle.rhai_machine_samples.specs.Runs.{Table, Ends, EndsFromFrames, Fails, Returns, usual, usual_limits, limited, nothing_but, entry}
 use Rattle.rhai_machine_samples.specs.Runs.{integer, fixed, unit}
@@ -179,10 +180,12 @@ module _ {S H : Type 0} (table : Table S H) (host : H → List ℕ) where
     pub body_refused : Ends table (limited host 3) (a_and_s two_items unit) keeps_item (Err (ErrorTooManyOperations (column 18))) 3
         (a_and_s two_items unit)
     -- what the body shares stays shared, and the next turn writes through it
-    pub through_cells : Ends table (usual host) (nothing_but (entry (codes "a") (plain two_items) ∷ [])) (counting_for sharing_body) (Ok unit) 10
+    pub through_cells : Ends table (usual host) (nothing_but (entry (codes "a") (plain two_items) ∷ [])) (counting_for sharing_body)
+        (Ok unit) 10
         (two_shared (plain two_items) (integer 18) (integer 1))
     -- a held cell, of the counter or of the item, is a data race
-    pub counter_held : EndsTurn 1 (in_cells (Some unit) None two_handles) (ErrorDataRace (codes "i") (column 6)) 0 (in_cells (Some unit) None [])
+    pub counter_held : EndsTurn 1 (in_cells (Some unit) None two_handles) (ErrorDataRace (codes "i") (column 6)) 0
+        (in_cells (Some unit) None [])
     pub item_held : EndsTurn 1 (in_cells None (Some unit) two_handles) (ErrorDataRace (codes "x") (column 6)) 0
         (in_cells None (Some (integer 1)) [])
     -- an item keeps its mode

@@ -22,17 +22,17 @@ use Rattle.rhai_machine.specs.language.Methods.{unlinked_alone, unlinked_on, wor
 use Rattle.rhai_callees.specs.Pointers.{native_number_of}
 use Rattle.rhai_callees.proofs.Levels.{IsLevel, dispatch_level, either, number_level, on_level, there_level}
 use Rattle.rhai_methods.specs.Calls.{alone_by, on_by}
-use Rattle.rhai_methods.specs.Methods.{came_from}
+use Rattle.rhai_methods.specs.Methods.{came_from, MethodCall}
 use Rattle.rhai_methods.specs.Parts.{all_of, alone_as, alone_with, on_as, on_with}
-use Rattle.rhai_methods.specs.declared.calls.MethodCall.{MethodCall}
-use Rattle.rhai_methods.specs.declared.calls.MethodCall.TheVariants.{Ended, OnTarget, Alone}
+use Rattle.rhai_calls.specs.declared.dispatch.Called.TheVariants.{Ended, Enters}
+use Rattle.rhai_methods.specs.declared.calls.MethodEntry.TheVariants.{OnTarget, Alone}
 
 module _ {H : Type 0} (k : List (Frame H)) (l : Local H) where
   -- what came of a method's call
   pub came_level : (at : Position) (call : MethodCall H) → IsLevel k l (came_from at call k l)
   came_level at (Ended r) = record { stack = refl; local = refl }
-  came_level at (OnTarget f args) = record { stack = refl; local = refl }
-  came_level at (Alone f args) = record { stack = refl; local = refl }
+  came_level at (Enters (OnTarget f args)) = record { stack = refl; local = refl }
+  came_level at (Enters (Alone f args)) = record { stack = refl; local = refl }
 
   numbered_level : (number : ℕ) (operation : Operation) (args : List (Dynamic H)) (focus : Dynamic H) →
       IsLevel k l (numbered_on number operation args focus k l)

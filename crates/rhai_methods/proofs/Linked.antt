@@ -1,5 +1,5 @@
 -- A function that a pointer is linked to, by itself: what came of its call.
-use Rattle.std.proofs.Common.{◌≡◌, Bool, true, false, List, Err, refl, sym, ap, ◌∙◌}
+use Rattle.std.proofs.Common.{◌≡◌, Bool, true, false, List, Err, sym, ap, ◌∙◌}
 use Rattle.std.specs.Prelude.{ℕ}
 use Rattle.rhai_tree.specs.declared.position.Position.{Position}
 use Rattle.rhai_values.specs.declared.base.value.Dynamic.{Dynamic}
@@ -10,7 +10,8 @@ use Rattle.rhai_functions.specs.declared.function.Function.{Function}
 use Rattle.rhai_machine.specs.language.Values.{Cells}
 use Rattle.rhai_machine.specs.language.Calls.{races}
 use Rattle.rhai_methods.specs.Parts.{IsLinkedAlone}
-use Rattle.rhai_methods.specs.declared.calls.MethodCall.TheVariants.{Ended, Alone}
+use Rattle.rhai_calls.specs.declared.dispatch.Called.TheVariants.{Ended, Enters}
+use Rattle.rhai_methods.specs.declared.calls.MethodEntry.TheVariants.{Alone}
 
 module _ {H : Type 0} (cells : Cells H) (f : Function H) (got all : List (Dynamic H)) (is : got ≡ all) (at : Position) where
   -- memory ran out
@@ -24,6 +25,6 @@ module _ {H : Type 0} (cells : Cells H) (f : Function H) (got all : List (Dynami
       (ap (races cells) (sym is) ∙ sym found ∙ holds, told m ∙ ap (λ (text : List ℕ). error.ErrorDataRace text at) named)
 
   -- and none is
-  pub linked_enters : (held : Bool) → held ≡ races cells got → held ≡ false → IsLinkedAlone cells f all at (Alone f got)
+  pub linked_enters : (held : Bool) → held ≡ races cells got → held ≡ false → IsLinkedAlone cells f all at (Enters (Alone f got))
   linked_enters held found free =
-      (ap (races cells) (sym is) ∙ sym found ∙ free, ap (λ (xs : List (Dynamic H)). Alone f xs) is)
+      (ap (races cells) (sym is) ∙ sym found ∙ free, ap (λ (xs : List (Dynamic H)). Enters (Alone f xs)) is)

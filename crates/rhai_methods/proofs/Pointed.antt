@@ -11,12 +11,13 @@ use Rattle.rhai_machine.specs.language.Setting.{Rules}
 use Rattle.rhai_machine.specs.language.State.{State}
 use Rattle.rhai_machine.specs.language.Arguments.{linked_to}
 use Rattle.rhai_machine.specs.machine.Memory.{here}
+use Rattle.rhai_machine.specs.language.Runs.{Goes}
 use Rattle.rhai_callees.specs.Pointers.{native_number_of}
 use Rattle.rhai_methods.specs.Calls.{alone_by, on_by}
-use Rattle.rhai_methods.specs.Methods.{IsEntered, CallsFrom}
+use Rattle.rhai_methods.specs.Methods.{IsEntered, MethodCall, came_from}
 use Rattle.rhai_methods.specs.Parts.{all_of, alone_as, alone_with, name_called, on_as, on_with, IsLinkedAlone}
-use Rattle.rhai_methods.specs.declared.calls.MethodCall.{MethodCall}
-use Rattle.rhai_methods.specs.declared.calls.MethodCall.TheVariants.{OnTarget}
+use Rattle.rhai_calls.specs.declared.dispatch.Called.TheVariants.{Enters}
+use Rattle.rhai_methods.specs.declared.calls.MethodEntry.TheVariants.{OnTarget}
 use Rattle.rhai_methods.proofs.Going.{begins_alike, entered_from, linked_goes}
 
 -- the name that is given, or else the pointer's own
@@ -30,37 +31,39 @@ module _ {S H : Type 0} (rules : Rules S H) (p : FnPtr H) (at : Position) (args 
   module _ (number : Option NativeId) (name : List ℕ) (curried : List (Dynamic H)) (named : name ≡ (out-FnPtr H p).name)
       (has : curried ≡ (out-FnPtr H p).curry) (leads : number ≡ native_number_of (out-FnPtr H p).kind) where
     -- what is linked to no function
-    pub by_parts_alone : CallsFrom rules at (alone_by rules.setting number name at (curried ++ args)) old call new →
-        CallsFrom rules at (alone_as rules.setting None p at args) old call new
+    pub by_parts_alone : Goes rules (alone_by rules.setting number name at (curried ++ args)) old (came_from at call) new →
+        Goes rules (alone_as rules.setting None p at args) old (came_from at call) new
     by_parts_alone runs =
-        subst (λ (n : Option NativeId). CallsFrom rules at
-        (alone_by rules.setting n (out-FnPtr H p).name at ((out-FnPtr H p).curry ++ args)) old call new) leads
-        (subst (λ (vs : List (Dynamic H)). CallsFrom rules at
-        (alone_by rules.setting number (out-FnPtr H p).name at (vs ++ args)) old call new) has
-        (subst (λ (text : List ℕ). CallsFrom rules at (alone_by rules.setting number text at (curried ++ args)) old call new) named runs))
+        subst (λ (n : Option NativeId).
+        Goes rules (alone_by rules.setting n (out-FnPtr H p).name at ((out-FnPtr H p).curry ++ args)) old (came_from at call) new) leads
+        (subst (λ (vs : List (Dynamic H)).
+        Goes rules (alone_by rules.setting number (out-FnPtr H p).name at (vs ++ args)) old (came_from at call) new) has
+        (subst (λ (text : List ℕ). Goes rules (alone_by rules.setting number text at (curried ++ args)) old (came_from at call) new) named
+        runs))
 
     pub by_parts_on : (called : List ℕ) (focus : Dynamic H) →
-        CallsFrom rules at (on_by rules.setting number called name at (curried ++ args) focus) old call new →
-        CallsFrom rules at (on_as rules.setting None p called at args focus) old call new
+        Goes rules (on_by rules.setting number called name at (curried ++ args) focus) old (came_from at call) new →
+        Goes rules (on_as rules.setting None p called at args focus) old (came_from at call) new
     by_parts_on called focus runs =
-        subst (λ (n : Option NativeId). CallsFrom rules at
-        (on_by rules.setting n called (out-FnPtr H p).name at ((out-FnPtr H p).curry ++ args) focus) old call new) leads
-        (subst (λ (vs : List (Dynamic H)). CallsFrom rules at
-        (on_by rules.setting number called (out-FnPtr H p).name at (vs ++ args) focus) old call new) has
-        (subst (λ (text : List ℕ). CallsFrom rules at
-        (on_by rules.setting number called text at (curried ++ args) focus) old call new) named runs))
+        subst (λ (n : Option NativeId).
+        Goes rules (on_by rules.setting n called (out-FnPtr H p).name at ((out-FnPtr H p).curry ++ args) focus) old
+        (came_from at call) new) leads
+        (subst (λ (vs : List (Dynamic H)).
+        Goes rules (on_by rules.setting number called (out-FnPtr H p).name at (vs ++ args) focus) old (came_from at call) new) has
+        (subst (λ (text : List ℕ).
+        Goes rules (on_by rules.setting number called text at (curried ++ args) focus) old (came_from at call) new) named runs))
 
   -- ---- the function that a pointer is linked to
 
   module _ (found : Option (Function H)) (is : found ≡ linked_to p (length (all_of p args)) old.local.around.lib) where
-    pub alone_found : CallsFrom rules at (alone_as rules.setting found p at args) old call new →
-        CallsFrom rules at (alone_with rules.setting p at args) old call new
+    pub alone_found : Goes rules (alone_as rules.setting found p at args) old (came_from at call) new →
+        Goes rules (alone_with rules.setting p at args) old (came_from at call) new
     alone_found = begins_alike rules at (alone_as rules.setting found p at args) (alone_with rules.setting p at args) old new call
         (λ k. ap (λ (f : Option (Function H)). alone_as rules.setting f p at args k old.local) (sym is))
 
     pub on_found : (called : List ℕ) (focus : Dynamic H) →
-        CallsFrom rules at (on_as rules.setting found p called at args focus) old call new →
-        CallsFrom rules at (on_with rules.setting p called at args focus) old call new
+        Goes rules (on_as rules.setting found p called at args focus) old (came_from at call) new →
+        Goes rules (on_with rules.setting p called at args focus) old (came_from at call) new
     on_found called focus = begins_alike rules at (on_as rules.setting found p called at args focus)
         (on_with rules.setting p called at args focus) old new call
         (λ k. ap (λ (f : Option (Function H)). on_as rules.setting f p called at args focus k old.local) (sym is))
@@ -69,16 +72,16 @@ module _ {S H : Type 0} (rules : Rules S H) (p : FnPtr H) (at : Position) (args 
     (call : MethodCall H) (f : Function H) where
   -- it is entered by itself
   pub linked_alone_goes : IsLinkedAlone s.local.around.cells f (all_of p args) at call →
-      CallsFrom rules at (alone_as rules.setting (Some f) p at args) s call s
+      Goes rules (alone_as rules.setting (Some f) p at args) s (came_from at call) s
   linked_alone_goes is = linked_goes rules at f (all_of p args) s call is
 
   -- or on the focus
   enters_on : (called : List ℕ) (focus : Dynamic H) →
-      CallsFrom rules at (on_as rules.setting (Some f) p called at args focus) s (OnTarget f (all_of p args)) s
-  unfolding CallsFrom
+      Goes rules (on_as rules.setting (Some f) p called at args focus) s (came_from at (Enters (OnTarget f (all_of p args)))) s
+  unfolding Goes
   enters_on called focus k = here
 
   pub linked_on_goes : IsEntered call (OnTarget f (all_of p args)) → (called : List ℕ) (focus : Dynamic H) →
-      CallsFrom rules at (on_as rules.setting (Some f) p called at args focus) s call s
+      Goes rules (on_as rules.setting (Some f) p called at args focus) s (came_from at call) s
   linked_on_goes is called focus = entered_from rules at (on_as rules.setting (Some f) p called at args focus) s s
       (OnTarget f (all_of p args)) call is (enters_on called focus)

@@ -8,18 +8,19 @@ use Rattle.rhai_places.specs.declared.spot.Spot.{Spot}
 use Rattle.rhai_places.specs.declared.target.Part.TheVariants as part
 use Rattle.rhai_places.specs.PutBack.{put_back, IsNotPut}
 use Rattle.rhai_machine.specs.machine.Machine.{Go}
-use Rattle.rhai_machine.specs.machine.Memory.{here, out_before_step, ◌⨾◌}
-use Rattle.rhai_machine.specs.language.Setting.{Rules}
+use Rattle.rhai_machine.specs.machine.Memory.{here, out_before_step, ◌⨾◌, Leads}
+use Rattle.rhai_machine.specs.language.Setting.{Rules, cut}
 use Rattle.rhai_machine.specs.language.State.{State}
 use Rattle.rhai_machine.specs.language.Frames.{Frame, core, ended_or_changed, Back, Changed, Fail, PartMethod}
 use Rattle.rhai_machine.specs.language.Members.{focused_on}
-use Rattle.rhai_machine.specs.language.Methods.{Method}
+use Rattle.rhai_machine.specs.language.Methods.{Method, method_core}
 use Rattle.rhai_machine.specs.language.Runs.{at, Goes}
 use Rattle.rhai_machine.specs.language.Unwinding.{put_back_error, part_changed}
+use Rattle.rhai_machine.specs.language.Language.{machine}
 use Rattle.rhai_steps.proofs.Pieces.{step_by}
-use Rattle.rhai_methods.specs.Methods.{MethodRuns, CallsFrom}
+use Rattle.rhai_methods.specs.Methods.{came_from}
 use Rattle.rhai_methods.specs.Targets.{ComesBack, on_target}
-use Rattle.rhai_methods.specs.declared.calls.MethodCall.TheVariants.{Ended}
+use Rattle.rhai_calls.specs.declared.dispatch.Called.TheVariants.{Ended}
 
 module _ {S H : Type 0} (rules : Rules S H) where
   -- a state where this is worked on
@@ -33,38 +34,44 @@ module _ {S H : Type 0} (rules : Rules S H) where
 
     -- a part that may have changed goes back
     goes_back : (v left : Dynamic H) → put_back above spot x ≡ Some left →
-        Goes rules (at (Changed v) over (working x s)) (at (Changed v) k (working left s))
+        Leads (machine rules) (cut rules) (at (Changed v) over (working x s)) (at (Changed v) k (working left s))
     goes_back v left is = step_by rules _ _ (Go (core (Changed v) k (focused_on (Some left) s.local)))
         (ap (λ (whole : Option (Dynamic H)). Go (part_changed rules.setting whole above spot pos v k (working x s).local)) is) here
 
     -- an error comes down, and the place is as it was
-    comes_down : (e : EvalAltResult H) → Goes rules (at (Fail e) over (working x s)) (at (Fail e) k (working above s))
+    comes_down : (e : EvalAltResult H) →
+        Leads (machine rules) (cut rules) (at (Fail e) over (working x s)) (at (Fail e) k (working above s))
     comes_down e = step_by rules _ _ (Go (core (Fail e) k (focused_on (Some above) s.local))) refl here
 
     -- and so it is where a value comes up that tells of no change
-    comes_up : (v : Dynamic H) → Goes rules (at (Back v) over (working x s)) (at (Back v) k (working above s))
+    comes_up : (v : Dynamic H) → Leads (machine rules) (cut rules) (at (Back v) over (working x s)) (at (Back v) k (working above s))
     comes_up v = step_by rules _ _ (Go (core (Back v) k (focused_on (Some above) s.local))) refl here
 
     not_back : (v : Dynamic H) → put_back above spot x ≡ None →
-        Goes rules (at (Changed v) over (working x s)) (at (Fail (put_back_error rules.setting spot x pos)) k (working above s))
+        Leads (machine rules) (cut rules) (at (Changed v) over (working x s))
+        (at (Fail (put_back_error rules.setting spot x pos)) k (working above s))
     not_back v is = step_by rules _ _ (Go (core (Fail (put_back_error rules.setting spot x pos)) k (focused_on (Some above) s.local)))
         (ap (λ (whole : Option (Dynamic H)). Go (part_changed rules.setting whole above spot pos v k (working x s).local)) is) here
 
     -- and where a part is not taken back
     is_refused : (v : Dynamic H) (e : EvalAltResult H) → IsNotPut rules.setting.host_type above spot x pos e →
-        Goes rules (at (Changed v) over (working x s)) (at (Fail e) k (working above s))
+        Leads (machine rules) (cut rules) (at (Changed v) over (working x s)) (at (Fail e) k (working above s))
     is_refused v (error.ErrorOutOfMemory p) is = out_before_step {at = p} (comes_down (error.ErrorOutOfMemory p))
     is_refused v e is = rw (is refl).1 (not_back v (is refl).0)
 
     -- the answer of a method on a part, also of a function that it entered
     pub answer_comes : (answer result : Result (Dynamic H × Bool) (EvalAltResult H)) (left : Dynamic H) →
         ComesBack rules.setting.host_type (part.Of spot x) above pos answer result left →
-        Goes rules (at (ended_or_changed answer) over (working x s)) (at (ended_or_changed result) k (working left s))
+        Leads (machine rules) (cut rules) (at (ended_or_changed answer) over (working x s))
+        (at (ended_or_changed result) k (working left s))
     answer_comes (Ok (v, true)) (Ok w) left is =
-        subst (λ (y : Dynamic H × Bool). Goes rules (at (Changed v) over (working x s)) (at (ended_or_changed (Ok y)) k (working left s))) (sym is.0)
+        subst (λ (y : Dynamic H × Bool).
+        Leads (machine rules) (cut rules) (at (Changed v) over (working x s)) (at (ended_or_changed (Ok y)) k (working left s)))
+        (sym is.0)
         (goes_back v left is.1)
     answer_comes (Ok (v, true)) (Err e) left is =
-        subst (λ (y : Dynamic H). Goes rules (at (Changed v) over (working x s)) (at (Fail e) k (working y s))) (sym is.0)
+        subst (λ (y : Dynamic H). Leads (machine rules) (cut rules) (at (Changed v) over (working x s)) (at (Fail e) k (working y s)))
+        (sym is.0)
         (is_refused v e is.1)
     answer_comes (Ok (v, false)) result left is = rw (is.0, is.1) (comes_up v)
     answer_comes (Err e) result left is = rw (is.0, is.1) (comes_down e)
@@ -72,10 +79,10 @@ module _ {S H : Type 0} (rules : Rules S H) where
   -- a method on a part that has ended, with what comes of its answer
   pub part_goes : (method : Method) (args : List (Dynamic H)) (spot : Spot) (above x y left : Dynamic H) (old new : State S H)
       (answer result : Result (Dynamic H × Bool) (EvalAltResult H)) →
-      MethodRuns rules method args x (working x old) (Ended answer) (working y new) →
+      Goes rules (method_core rules.setting method args x) (working x old) (came_from method.at (Ended answer)) (working y new) →
       ComesBack rules.setting.host_type (part.Of spot y) above method.at answer result left →
-      CallsFrom rules method.at (on_target rules.setting method args (part.Of spot x) above) (working x old) (Ended result)
+      Goes rules (on_target rules.setting method args (part.Of spot x) above) (working x old) (came_from method.at (Ended result))
       (working left new)
-  unfolding CallsFrom
+  unfolding Goes
   part_goes method args spot above x y left old new answer result runs comes k =
       runs (PartMethod above spot method.at ∷ k) ⨾ answer_comes above y spot method.at k new answer result left comes

@@ -15,8 +15,9 @@ use Rattle.rhai_machine.specs.language.Calls.{races}
 use Rattle.rhai_machine.specs.language.Arguments.{linked_core, linked_to}
 use Rattle.rhai_callees.specs.Pointers.{native_number_of}
 use Rattle.rhai_methods.specs.Calls.{alone_by, on_by}
-use Rattle.rhai_methods.specs.declared.calls.MethodCall.{MethodCall}
-use Rattle.rhai_methods.specs.declared.calls.MethodCall.TheVariants.{Ended, Alone}
+use Rattle.rhai_calls.specs.declared.dispatch.Called.TheVariants.{Ended, Enters}
+use Rattle.rhai_methods.specs.Methods.{MethodCall}
+use Rattle.rhai_methods.specs.declared.calls.MethodEntry.TheVariants.{Alone}
 
 -- all that a pointer is called with
 abbrev pub all_of : {H : Type 0} → FnPtr H → (args : List (Dynamic H)) → List (Dynamic H)
@@ -56,4 +57,4 @@ name_called {H} pointer None = (out-FnPtr H pointer).name
 abbrev pub IsLinkedAlone : {H : Type 0} → Cells H → Function H → (all : List (Dynamic H)) → Position → MethodCall H → Type 0
 IsLinkedAlone cells function all at (Ended (Err e)) =
     is_out_of_memory e ≡ false → (races cells all ≡ true) × (e ≡ error.ErrorDataRace function.def.name at)
-IsLinkedAlone cells function all at call = (races cells all ≡ false) × (call ≡ Alone function all)
+IsLinkedAlone cells function all at call = (races cells all ≡ false) × (call ≡ Enters (Alone function all))

@@ -4,32 +4,33 @@ ghost use Rattle.std.specs.Prelude.{◌≡◌, ◌≤◌, length, None, Ok, IfOk
 ghost use Rattle.std.specs.Option.{option_copied};
 ghost use Rattle.rhai_values.specs.Cells.{cells_of};
 ghost use Rattle.rhai_machine.specs.language.Arguments.{linked_to};
-ghost use Rattle.rhai_machine.specs.language.Methods.{CallWord, call_argument, own_core, word_core};
-ghost use Rattle.rhai_machine.specs.language.Setting.{rules_of};
+ghost use Rattle.rhai_machine.specs.language.Methods.{CallWord, call_argument, own_core, word_core, method_core};
 ghost use Rattle.rhai_machine.specs.language.Values.{through};
+ghost use Rattle.rhai_machine.specs.language.Runs.{Goes};
 ghost use Rattle.rhai_steps.specs.Agreement.{KeepsSight};
+ghost use Rattle.rhai_steps.specs.Sessions.{under};
 ghost use Rattle.rhai_steps.specs.States.{state_of};
-ghost use Rattle.rhai_steps.specs.Offers.{Offers};
 ghost use Rattle.rhai_steps.specs.OnFocus.{lending};
-ghost use Rattle.rhai_methods.specs.Methods.{IsEntered, MethodRuns, CallsFrom};
+ghost use Rattle.rhai_methods.specs.Methods.{IsEntered, came_from};
 ghost use Rattle.rhai_methods.specs.Parts.{all_of, alone_as, alone_with, name_called, on_as, on_with};
 ghost use Rattle.rhai_methods.specs.Parts.{IsLinkedAlone};
-ghost use Rattle.rhai_methods.specs.declared.calls.MethodCall.TheVariants.{OnTarget};
+ghost use Rattle.rhai_methods.specs.declared.calls.MethodEntry.TheVariants.{OnTarget};
 
-use crate::calls::{MethodCall, call_alone, call_named_on, call_on, on_target};
+use crate::calls::{MethodEntry, call_alone, call_named_on, call_on, on_target};
 use crate::copies::{curried, no_pointer, own_pointer, pointer_copy, take_behind};
 use crate::words::{MethodWord, word_of};
 use rhai_call_forms::linked::function_linked;
 use rhai_call_forms::pointers::pointer_of;
 use rhai_callees::pointer::parts_of;
-use rhai_calls::dispatch::races;
+use rhai_calls::dispatch::{Called, races};
 use rhai_calls::native::tell_changed;
-use rhai_functions::function::{Function, Offered};
+use rhai_functions::function::Function;
 use rhai_state::error::EvalAltResult;
-use rhai_state::limits::Limits;
+use rhai_state::errors::data_race_by;
+use rhai_state::session::Session;
 use rhai_state::state::GlobalRuntimeState;
 use rhai_state::table::NativeTable;
-use rhai_steps::errors::data_race_by;
+use rhai_steps::operation::Operation;
 use rhai_steps::values::{bool_value, unit_value};
 use rhai_tree::Shared;
 use rhai_tree::position::Position;
@@ -59,7 +60,7 @@ fn enter_linked_alone<H: Host>(
     pointer: FnPtr<H>,
     args: &mut [Dynamic<H>],
     pos: Position,
-) -> MethodCall<H>
+) -> Called<(Dynamic<H>, bool), MethodEntry<H>, H>
     ensures { IsLinkedAlone (cells_of cells.now) function (all_of pointer args.old) pos result }
 {
     let (name, curried, _) = parts_of(pointer);
@@ -67,7 +68,7 @@ fn enter_linked_alone<H: Host>(
     match take_behind(alloc, curried, args, pos) {
         Err(error) => {
             drop(function);
-            MethodCall::Ended(Err(error))
+            Called::Ended(Err(error))
         }
         Ok(all) => {
             if races(cells, all.as_slice()) {
@@ -75,36 +76,43 @@ fn enter_linked_alone<H: Host>(
                 let error = data_race_by(alloc, called, pos);
                 drop(all);
                 drop(function);
-                return MethodCall::Ended(Err(error));
+                return Called::Ended(Err(error));
             }
-            MethodCall::Alone(function, all)
+            Called::Enters(MethodEntry::Alone(function, all))
         }
     }
 }
 
 /// Calls a pointer that is no function's by itself.
 fn unlinked_alone<H: Host, T: NativeTable<H>>(
-    limits: &Limits,
-    alloc: Global,
-    offered: &Offered<'_, H>,
+    session: &Session<'_, H>,
     global: &mut GlobalRuntimeState<H>,
     table: &mut T,
     pointer: FnPtr<H>,
     args: &mut [Dynamic<H>],
     pos: Position,
-) -> MethodCall<H>
+) -> Called<(Dynamic<H>, bool), MethodEntry<H>, H>
     ensures counts { global.old.num_operations ≤ global.new.num_operations }
     ensures sight { KeepsSight global.old global.new }
-    ensures runs { (offer : _) (scope : _) (held : _) → Offers offer offered.now →
-        let rules = rules_of limits.now H.name_of offer T.natives in
-        CallsFrom rules pos (alone_as rules.setting None pointer pos args.old)
-        (state_of (T.state table.old) global.old scope held)
-        result (state_of (T.state table.new) global.new scope held) }
+    ensures runs { (scope : _) (held : _) → let rules = under H.name_of session.now T.natives in
+        Goes rules (alone_as rules.setting None pointer pos args.old)
+        (state_of (T.state table.old) global.old scope held) (came_from pos result)
+        (state_of (T.state table.new) global.new scope held) }
 {
     let (name, curried, number) = parts_of(pointer);
     let text = name.get().as_str();
     let call = call_alone(
-        limits, alloc, offered, global, table, number, text, curried, args, pos,
+        session,
+        global,
+        table,
+        number,
+        &Operation {
+            name: text,
+            token: None,
+            at: pos,
+        },
+        curried,
+        args,
     );
     drop(name);
     call
@@ -112,36 +120,33 @@ fn unlinked_alone<H: Host, T: NativeTable<H>>(
 
 /// Calls the pointer that the focus is by itself, with all its arguments.
 fn call_pointer<H: Host, T: NativeTable<H>>(
-    limits: &Limits,
-    alloc: Global,
-    offered: &Offered<'_, H>,
+    session: &Session<'_, H>,
     global: &mut GlobalRuntimeState<H>,
     table: &mut T,
     pointer: FnPtr<H>,
     args: &mut [Dynamic<H>],
     pos: Position,
-) -> MethodCall<H>
+) -> Called<(Dynamic<H>, bool), MethodEntry<H>, H>
     ensures counts { global.old.num_operations ≤ global.new.num_operations }
     ensures sight { KeepsSight global.old global.new }
-    ensures runs { (offer : _) (scope : _) (held : _) → Offers offer offered.now →
-        let rules = rules_of limits.now H.name_of offer T.natives in
-        CallsFrom rules pos (alone_with rules.setting pointer pos args.old)
-        (state_of (T.state table.old) global.old scope held)
-        result (state_of (T.state table.new) global.new scope held) }
+    ensures runs { (scope : _) (held : _) → let rules = under H.name_of session.now T.natives in
+        Goes rules (alone_with rules.setting pointer pos args.old)
+        (state_of (T.state table.old) global.old scope held) (came_from pos result)
+        (state_of (T.state table.new) global.new scope held) }
 {
     match linked_with(&pointer, args, global.lib.as_slice()) {
         Ok(Some(function)) => enter_linked_alone(
-            alloc,
+            session.alloc,
             &global.cells,
             function,
             pointer,
             args,
             pos,
         ),
-        Ok(None) => unlinked_alone(limits, alloc, offered, global, table, pointer, args, pos),
+        Ok(None) => unlinked_alone(session, global, table, pointer, args, pos),
         Err(_) => {
             drop(pointer);
-            MethodCall::Ended(Err(EvalAltResult::ErrorOutOfMemory(pos)))
+            Called::Ended(Err(EvalAltResult::ErrorOutOfMemory(pos)))
         }
     }
 }
@@ -154,7 +159,7 @@ fn enter_linked_on<H: Host>(
     pointer: FnPtr<H>,
     args: &mut [Dynamic<H>],
     pos: Position,
-) -> MethodCall<H>
+) -> Called<(Dynamic<H>, bool), MethodEntry<H>, H>
     ensures { IsEntered result (OnTarget function (all_of pointer args.old)) }
 {
     let (name, curried, _) = parts_of(pointer);
@@ -165,9 +170,7 @@ fn enter_linked_on<H: Host>(
 /// Calls a pointer that is no function's on the focus. A native by its number is called under this name, or
 /// under the pointer's where there is none.
 fn unlinked_on<H: Host, T: NativeTable<H>>(
-    limits: &Limits,
-    alloc: Global,
-    offered: &Offered<'_, H>,
+    session: &Session<'_, H>,
     global: &mut GlobalRuntimeState<H>,
     table: &mut T,
     pointer: FnPtr<H>,
@@ -175,21 +178,32 @@ fn unlinked_on<H: Host, T: NativeTable<H>>(
     target: &mut Dynamic<H>,
     args: &mut [Dynamic<H>],
     pos: Position,
-) -> MethodCall<H>
+) -> Called<(Dynamic<H>, bool), MethodEntry<H>, H>
     ensures counts { global.old.num_operations ≤ global.new.num_operations }
     ensures sight { KeepsSight global.old global.new }
-    ensures runs { (offer : _) (scope : _) (held : _) → Offers offer offered.now →
-        let rules = rules_of limits.now H.name_of offer T.natives in
-        CallsFrom rules pos (on_as rules.setting None pointer
-        (name_called pointer (option_copied called.entry)) pos args.old target.old)
-        (state_of (T.state table.old) global.old scope (lending held target.old))
-        result (state_of (T.state table.new) global.new scope (lending held target.new)) }
+    ensures runs { (scope : _) (held : _) → let rules = under H.name_of session.now T.natives in
+        Goes rules
+        (on_as rules.setting None pointer (name_called pointer (option_copied called.entry)) pos args.old target.old)
+        (state_of (T.state table.old) global.old scope (lending held target.old)) (came_from pos result)
+        (state_of (T.state table.new) global.new scope (lending held target.new)) }
 {
     let (name, curried, number) = parts_of(pointer);
     let text = name.get().as_str();
     let called = called.unwrap_or(text);
     let call = call_on(
-        limits, alloc, offered, global, table, number, called, text, curried, target, args, pos,
+        session,
+        global,
+        table,
+        number,
+        called,
+        &Operation {
+            name: text,
+            token: None,
+            at: pos,
+        },
+        curried,
+        target,
+        args,
     );
     drop(name);
     call
@@ -197,9 +211,7 @@ fn unlinked_on<H: Host, T: NativeTable<H>>(
 
 /// Calls a pointer on the focus, with the values that it has already before the arguments.
 fn call_pointer_on<H: Host, T: NativeTable<H>>(
-    limits: &Limits,
-    alloc: Global,
-    offered: &Offered<'_, H>,
+    session: &Session<'_, H>,
     global: &mut GlobalRuntimeState<H>,
     table: &mut T,
     pointer: FnPtr<H>,
@@ -207,60 +219,53 @@ fn call_pointer_on<H: Host, T: NativeTable<H>>(
     target: &mut Dynamic<H>,
     args: &mut [Dynamic<H>],
     pos: Position,
-) -> MethodCall<H>
+) -> Called<(Dynamic<H>, bool), MethodEntry<H>, H>
     ensures counts { global.old.num_operations ≤ global.new.num_operations }
     ensures sight { KeepsSight global.old global.new }
-    ensures runs { (offer : _) (scope : _) (held : _) → Offers offer offered.now →
-        let rules = rules_of limits.now H.name_of offer T.natives in
-        CallsFrom rules pos (on_with rules.setting pointer
-        (name_called pointer (option_copied called.entry)) pos args.old target.old)
-        (state_of (T.state table.old) global.old scope (lending held target.old))
-        result (state_of (T.state table.new) global.new scope (lending held target.new)) }
+    ensures runs { (scope : _) (held : _) → let rules = under H.name_of session.now T.natives in
+        Goes rules
+        (on_with rules.setting pointer (name_called pointer (option_copied called.entry)) pos args.old target.old)
+        (state_of (T.state table.old) global.old scope (lending held target.old)) (came_from pos result)
+        (state_of (T.state table.new) global.new scope (lending held target.new)) }
 {
     match linked_with(&pointer, args, global.lib.as_slice()) {
-        Ok(Some(function)) => enter_linked_on(alloc, function, pointer, args, pos),
-        Ok(None) => unlinked_on(
-            limits, alloc, offered, global, table, pointer, called, target, args, pos,
-        ),
+        Ok(Some(function)) => enter_linked_on(session.alloc, function, pointer, args, pos),
+        Ok(None) => unlinked_on(session, global, table, pointer, called, target, args, pos),
         Err(_) => {
             drop(pointer);
-            MethodCall::Ended(Err(EvalAltResult::ErrorOutOfMemory(pos)))
+            Called::Ended(Err(EvalAltResult::ErrorOutOfMemory(pos)))
         }
     }
 }
 
 /// Evaluates `call` on what is no pointer: the first argument is one, which is called on the focus.
 fn call_argument<H: Host, T: NativeTable<H>>(
-    limits: &Limits,
-    alloc: Global,
-    offered: &Offered<'_, H>,
+    session: &Session<'_, H>,
     global: &mut GlobalRuntimeState<H>,
     table: &mut T,
     target: &mut Dynamic<H>,
     args: &mut [Dynamic<H>],
     first_arg_pos: Option<Position>,
     pos: Position,
-) -> MethodCall<H>
+) -> Called<(Dynamic<H>, bool), MethodEntry<H>, H>
     ensures counts { global.old.num_operations ≤ global.new.num_operations }
     ensures sight { KeepsSight global.old global.new }
-    ensures runs { (offer : _) (scope : _) (held : _) (name : _) (was_handle : _) (seen : _) →
-        Offers offer offered.now → through (cells_of global.old.cells) target.old pos ≡ Ok seen →
-        let rules = rules_of limits.now H.name_of offer T.natives in
-        CallsFrom rules pos (call_argument rules.setting
-        (record { name = name; at = pos; first_at = first_arg_pos; was_handle = was_handle }) args.old seen target.old)
-        (state_of (T.state table.old) global.old scope (lending held target.old))
-        result (state_of (T.state table.new) global.new scope (lending held target.new)) }
+    ensures runs { (scope : _) (held : _) (name : _) (was_handle : _) (seen : _) →
+        through (cells_of global.old.cells) target.old pos ≡ Ok seen →
+        let rules = under H.name_of session.now T.natives in
+        Goes rules
+        (call_argument rules.setting (record { name = name; at = pos; first_at = first_arg_pos; was_handle = was_handle }) args.old seen target.old)
+        (state_of (T.state table.old) global.old scope (lending held target.old)) (came_from pos result)
+        (state_of (T.state table.new) global.new scope (lending held target.new)) }
 {
     let [first, rest @ ..] = args else {
-        return MethodCall::Ended(Err(no_pointer(alloc, &global.cells, target, pos)));
+        return Called::Ended(Err(no_pointer(session.alloc, &global.cells, target, pos)));
     };
     let first = replace(first, unit_value());
     let first_pos = first_arg_pos.unwrap_or(pos);
-    match pointer_of(alloc, &global.cells, first, first_pos) {
+    match pointer_of(session.alloc, &global.cells, first, first_pos) {
         Ok(pointer) => call_pointer_on(
-            limits,
-            alloc,
-            offered,
+            session,
             global,
             table,
             pointer,
@@ -269,81 +274,74 @@ fn call_argument<H: Host, T: NativeTable<H>>(
             rest,
             pos,
         ),
-        Err(error) => MethodCall::Ended(Err(error)),
+        Err(error) => Called::Ended(Err(error)),
     }
 }
 
 /// Evaluates `call` on the focus: a pointer is called by itself, and on any other value the first argument
 /// is.
 fn call_word<H: Host, T: NativeTable<H>>(
-    limits: &Limits,
-    alloc: Global,
-    offered: &Offered<'_, H>,
+    session: &Session<'_, H>,
     global: &mut GlobalRuntimeState<H>,
     table: &mut T,
     target: &mut Dynamic<H>,
     args: &mut [Dynamic<H>],
     first_arg_pos: Option<Position>,
     pos: Position,
-) -> MethodCall<H>
+) -> Called<(Dynamic<H>, bool), MethodEntry<H>, H>
     ensures counts { global.old.num_operations ≤ global.new.num_operations }
     ensures sight { KeepsSight global.old global.new }
-    ensures runs { (offer : _) (scope : _) (held : _) (name : _) (was_handle : _) → Offers offer offered.now →
-        let rules = rules_of limits.now H.name_of offer T.natives in
-        CallsFrom rules pos (word_core rules.setting CallWord
-        (record { name = name; at = pos; first_at = first_arg_pos; was_handle = was_handle }) args.old target.old)
-        (state_of (T.state table.old) global.old scope (lending held target.old))
-        result (state_of (T.state table.new) global.new scope (lending held target.new)) }
+    ensures runs { (scope : _) (held : _) (name : _) (was_handle : _) → let rules = under H.name_of session.now T.natives in
+        Goes rules
+        (word_core rules.setting CallWord (record { name = name; at = pos; first_at = first_arg_pos; was_handle = was_handle }) args.old target.old)
+        (state_of (T.state table.old) global.old scope (lending held target.old)) (came_from pos result)
+        (state_of (T.state table.new) global.new scope (lending held target.new)) }
 {
-    match pointer_copy(alloc, &global.cells, target, pos) {
-        Ok(Some(pointer)) => {
-            call_pointer(limits, alloc, offered, global, table, pointer, args, pos)
-        }
-        Ok(None) => call_argument(
-            limits,
-            alloc,
-            offered,
-            global,
-            table,
-            target,
-            args,
-            first_arg_pos,
-            pos,
-        ),
-        Err(error) => MethodCall::Ended(Err(error)),
+    match pointer_copy(session.alloc, &global.cells, target, pos) {
+        Ok(Some(pointer)) => { call_pointer(session, global, table, pointer, args, pos) }
+        Ok(None) => call_argument(session, global, table, target, args, first_arg_pos, pos),
+        Err(error) => Called::Ended(Err(error)),
     }
 }
 
 /// Calls a method of any other name. A map's own pointer of the name is called on the map, and else the name
 /// is.
 fn call_plain<H: Host, T: NativeTable<H>>(
-    limits: &Limits,
-    alloc: Global,
-    offered: &Offered<'_, H>,
+    session: &Session<'_, H>,
     global: &mut GlobalRuntimeState<H>,
     table: &mut T,
     name: &str,
     target: &mut Dynamic<H>,
     args: &mut [Dynamic<H>],
     pos: Position,
-) -> MethodCall<H>
+) -> Called<(Dynamic<H>, bool), MethodEntry<H>, H>
     ensures counts { global.old.num_operations ≤ global.new.num_operations }
     ensures sight { KeepsSight global.old global.new }
-    ensures runs { (offer : _) (scope : _) (held : _) (first_at : _) (was_handle : _) →
-        Offers offer offered.now → let rules = rules_of limits.now H.name_of offer T.natives in
-        CallsFrom rules pos (own_core rules.setting
-        (record { name = name.now; at = pos; first_at = first_at; was_handle = was_handle }) args.old target.old)
-        (state_of (T.state table.old) global.old scope (lending held target.old))
-        result (state_of (T.state table.new) global.new scope (lending held target.new)) }
+    ensures runs { (scope : _) (held : _) (first_at : _) (was_handle : _) →
+        let rules = under H.name_of session.now T.natives in
+        Goes rules
+        (own_core rules.setting (record { name = name.now; at = pos; first_at = first_at; was_handle = was_handle }) args.old target.old)
+        (state_of (T.state table.old) global.old scope (lending held target.old)) (came_from pos result)
+        (state_of (T.state table.new) global.new scope (lending held target.new)) }
 {
-    match own_pointer(alloc, &global.cells, target, name, pos) {
+    match own_pointer(session.alloc, &global.cells, target, name, pos) {
         Ok(Some(pointer)) => call_pointer_on(
-            limits, alloc, offered, global, table, pointer, None, target, args, pos,
+            session, global, table, pointer, None, target, args, pos,
         ),
         Ok(None) => call_named_on(
-            limits, alloc, offered, global, table, false, name, target, args, pos,
+            session,
+            global,
+            table,
+            false,
+            &Operation {
+                name,
+                token: None,
+                at: pos,
+            },
+            target,
+            args,
         ),
-        Err(error) => MethodCall::Ended(Err(error)),
+        Err(error) => Called::Ended(Err(error)),
     }
 }
 
@@ -360,47 +358,48 @@ fn call_plain<H: Host, T: NativeTable<H>>(
 /// no pointer; both at the first argument, where that is to be called; and those of
 /// `rhai_calls::dispatch::pass_call` and `rhai_calls::native::call_number_on`.
 pub fn call_method<H: Host, T: NativeTable<H>>(
-    limits: &Limits,
-    alloc: Global,
-    offered: &Offered<'_, H>,
+    session: &Session<'_, H>,
     global: &mut GlobalRuntimeState<H>,
     table: &mut T,
-    name: &str,
+    operation: &Operation<'_>,
     target: &mut Dynamic<H>,
     args: &mut [Dynamic<H>],
     first_arg_pos: Option<Position>,
-    pos: Position,
     was_handle: bool,
-) -> MethodCall<H>
+) -> Called<(Dynamic<H>, bool), MethodEntry<H>, H>
     ensures counts { global.old.num_operations ≤ global.new.num_operations }
     ensures sight { KeepsSight global.old global.new }
-    ensures runs { (offer : _) (scope : _) (held : _) → Offers offer offered.now →
-        MethodRuns (rules_of limits.now H.name_of offer T.natives)
-        (record { name = name.now; at = pos; first_at = first_arg_pos; was_handle = was_handle })
-        args.old target.old
+    ensures runs { (scope : _) (held : _) → let rules = under H.name_of session.now T.natives in
+        Goes rules
+        (method_core rules.setting (record { name = operation.now.name.now; at = operation.now.at; first_at = first_arg_pos; was_handle = was_handle }) args.old target.old)
         (state_of (T.state table.old) global.old scope (lending held target.old))
-        result (state_of (T.state table.new) global.new scope (lending held target.new)) }
+        (came_from operation.now.at result)
+        (state_of (T.state table.new) global.new scope (lending held target.new)) }
 {
-    match word_of(name, args.len()) {
+    match word_of(operation.name, args.len()) {
         MethodWord::Call => call_word(
-            limits,
-            alloc,
-            offered,
+            session,
             global,
             table,
             target,
             args,
             first_arg_pos,
-            pos,
+            operation.at,
         ),
         MethodWord::Curry => {
-            let result = curried(alloc, &global.cells, target, args, pos);
-            MethodCall::Ended(tell_changed(result, false))
+            let result = curried(session.alloc, &global.cells, target, args, operation.at);
+            Called::Ended(tell_changed(result, false))
         }
-        MethodWord::Shared => MethodCall::Ended(Ok((bool_value(was_handle), false))),
+        MethodWord::Shared => Called::Ended(Ok((bool_value(was_handle), false))),
         MethodWord::Plain => {
             call_plain(
-                limits, alloc, offered, global, table, name, target, args, pos,
+                session,
+                global,
+                table,
+                operation.name,
+                target,
+                args,
+                operation.at,
             )
         }
     }

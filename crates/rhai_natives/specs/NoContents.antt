@@ -12,7 +12,8 @@ use Rattle.rhai_state.specs.declared.error.EvalAltResult.TheVariants.{outs-Error
 use Rattle.rhai_state.specs.declared.error.EvalAltResult.TheVariants.{outs-ErrorPropertyNotFound}
 use Rattle.rhai_state.specs.Native.{Request, IsReached, reply_contents}
 use Rattle.rhai_state.specs.ValueContents.{Reached, each, contents_of, first_contents, error_contents}
-use Rattle.rhai_state.proofs.ContentLemmas.{contents-mode, contents-unit, contents-bool, contents-int, contents-text, contents-host, contents-array, contents-runtime}
+use Rattle.rhai_state.proofs.ContentLemmas.{contents-mode, contents-unit, contents-bool, contents-int, contents-text, contents-host}
+use Rattle.rhai_state.proofs.ContentLemmas.{contents-array, contents-runtime}
 use Rattle.rhai_natives.specs.declared.response.Datum.{Datum}
 use Rattle.rhai_natives.specs.declared.response.Datum.TheVariants as datum
 use Rattle.rhai_natives.specs.declared.response.Fault.{Fault}

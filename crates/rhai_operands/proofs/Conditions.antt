@@ -15,15 +15,16 @@ use Rattle.rhai_state.specs.declared.error.EvalAltResult.TheVariants as error
 use Rattle.rhai_state.specs.Scope.{entries_of}
 use Rattle.rhai_operators.specs.Answers.{binary_of}
 use Rattle.rhai_machine.specs.machine.Machine.{Go}
-use Rattle.rhai_machine.specs.machine.Memory.{here, next, ◌⨾◌}
+use Rattle.rhai_machine.specs.machine.Memory.{here, next, ◌⨾◌, Leads}
 use Rattle.rhai_machine.specs.machine.Point.{after}
-use Rattle.rhai_machine.specs.language.Setting.{Rules, limit_under}
+use Rattle.rhai_machine.specs.language.Setting.{Rules, limit_under, cut}
 use Rattle.rhai_machine.specs.language.State.{Held, Local, State}
 use Rattle.rhai_machine.specs.language.Values.{bool_value}
 use Rattle.rhai_machine.specs.language.Unwinding.{down_core}
 use Rattle.rhai_machine.specs.language.Frames.{Frame, core, Eval, OpenExpr, Fail, IfCondition}
 use Rattle.rhai_machine.specs.language.Frames.{AndPart, OrPart, WhileCondition, DoCondition, SwitchCondition}
 use Rattle.rhai_machine.specs.language.Runs.{at, Goes}
+use Rattle.rhai_machine.specs.language.Language.{machine}
 use Rattle.rhai_steps.specs.States.{state_of}
 use Rattle.rhai_steps.proofs.Pieces.{charged, refused, step_by}
 use Rattle.rhai_operands.specs.Standing.{standing}
@@ -43,7 +44,7 @@ module _ {S H : Type 0} (rules : Rules S H) where
   truth_passes _ pos is x k l = cc
 
   pub passes_on : (f : Frame H) (pos : Position) → asks_truth f ≡ Some pos → (x : EvalAltResult H) (k : List (Frame H)) (l : State S H) →
-      Goes rules (at (Fail x) (f ∷ k) l) (at (Fail x) k l)
+      Leads (machine rules) (cut rules) (at (Fail x) (f ∷ k) l) (at (Fail x) k l)
   passes_on f pos is x k l = step_by rules _ _ (Go (core (Fail x) k l.local)) (ap Go (truth_passes f pos is x k l.local)) here
 
   module _ (t : S) (scope : Scope H) (held : Held H) (test : Expr) (call : FnCallExpr) (token : Token) (left right : Expr)
@@ -55,8 +56,8 @@ module _ {S H : Type 0} (rules : Rules S H) where
     pub test_refused : (old new : GlobalRuntimeState H) (e : EvalAltResult H) → limit_under rules ≤ old.num_operations →
         e ≡ error.ErrorTooManyOperations pos → new ≡ old →
         Tests rules test (state_of t old scope held) (Err e) (state_of t new scope held)
-    unfolding Tests
-    test_refused old new e full is same f k asks =
+    unfolding Tests Goes
+    test_refused old new e full is same f asks k =
         refused rules t old new scope held (Eval test) (OpenExpr (out-Expr test)) (position_of test) (λ k. refl) e full (rw form is) same
         (f ∷ k)
         ⨾ passes_on f (position_of test) asks e k (state_of t new scope held)
@@ -65,7 +66,8 @@ module _ {S H : Type 0} (rules : Rules S H) where
         (is : first ≡ record old { num_operations = old.num_operations + 1 }) where
       -- or begins
       test_begins : (k : List (Frame H)) →
-          Goes rules (at (Eval test) k (state_of t old scope held)) (at (OpenExpr (layer.Expr::FnCall call pos)) k (state_of t first
+          Leads (machine rules) (cut rules) (at (Eval test) k (state_of t old scope held))
+          (at (OpenExpr (layer.Expr::FnCall call pos)) k (state_of t first
           scope held))
       test_begins k = charged rules t old first scope held (Eval test) (OpenExpr (layer.Expr::FnCall call pos)) (position_of test)
           (λ k. rw form refl) room is k
@@ -74,8 +76,8 @@ module _ {S H : Type 0} (rules : Rules S H) where
       pub test_left_refused : (new : GlobalRuntimeState H) (e : EvalAltResult H) → limit_under rules ≤ first.num_operations →
           e ≡ error.ErrorTooManyOperations (position_of left) → new ≡ first →
           Tests rules test (state_of t old scope held) (Err e) (state_of t new scope held)
-      unfolding Tests
-      test_left_refused new e full refusal same f k asks =
+      unfolding Tests Goes
+      test_left_refused new e full refusal same f asks k =
           test_begins (f ∷ k)
           ⨾ left_refused rules t scope held call token left right pos x y (f ∷ k) fast is_token args
           left_stands
@@ -87,8 +89,8 @@ module _ {S H : Type 0} (rules : Rules S H) where
         pub test_right_refused : (new : GlobalRuntimeState H) (e : EvalAltResult H) → limit_under rules ≤ second.num_operations →
             e ≡ error.ErrorTooManyOperations (position_of right) → new ≡ second →
             Tests rules test (state_of t old scope held) (Err e) (state_of t new scope held)
-        unfolding Tests
-        test_right_refused new e full refusal same f k asks =
+        unfolding Tests Goes
+        test_right_refused new e full refusal same f asks k =
             test_begins (f ∷ k)
             ⨾ right_refused rules t scope held call token left right pos x y (f ∷ k) fast is_token args
             left_stands right_stands first second new more then e full refusal same
@@ -99,8 +101,8 @@ module _ {S H : Type 0} (rules : Rules S H) where
             new ≡ record second { num_operations = second.num_operations + 1 } →
             (holds : Bool) → binary_of token x y ≡ Some (Ok (bool_value holds)) →
             Tests rules test (state_of t old scope held) (Ok holds) (state_of t new scope held)
-        unfolding after Tests
-        test_holds new most last holds is f k asks =
+        unfolding after Tests Goes
+        test_holds new most last holds is f asks k =
             test_begins (f ∷ k)
             ⨾ compares rules t scope held call token left right pos x y (f ∷ k) fast is_token args
             left_stands right_stands first second new more then most last holds is

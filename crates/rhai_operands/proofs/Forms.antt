@@ -8,13 +8,13 @@ use Rattle.rhai_values.specs.declared.base.value.Dynamic.{Dynamic}
 use Rattle.rhai_state.specs.declared.error.EvalAltResult.{EvalAltResult}
 use Rattle.rhai_state.specs.declared.scope.Scope.{Scope}
 use Rattle.rhai_state.specs.declared.state.GlobalRuntimeState.{GlobalRuntimeState}
-use Rattle.rhai_functions.specs.declared.function.Offered.{Offered}
+use Rattle.rhai_state.specs.declared.session.Offered.{Offered}
 use Rattle.rhai_machine.specs.machine.Point.{after}
 use Rattle.rhai_machine.specs.machine.Memory.{next, out_before_step}
 use Rattle.rhai_machine.specs.language.Setting.{Globals, Rules, globals_of}
 use Rattle.rhai_machine.specs.language.State.{Answers, Held}
 use Rattle.rhai_machine.specs.language.Frames.{OpenExpr}
-use Rattle.rhai_machine.specs.language.Runs.{Runs, Steps}
+use Rattle.rhai_machine.specs.language.Runs.{Runs, Goes}
 use Rattle.rhai_steps.specs.Offers.{Offers, globals_in}
 use Rattle.rhai_steps.specs.States.{local_of, state_of}
 use Rattle.rhai_steps.proofs.Offering.{globals_same}
@@ -26,7 +26,7 @@ module _ {S H : Type 0} (rules : Rules S H) where
     where
       form_runs : (form : ExprLayer) → Answers r (read_as (globals_of rules.setting.offer) (local_of global scope held) form) →
           Runs rules (OpenExpr form) (state_of t global scope held) r (state_of t global scope held)
-      unfolding after Steps
+      unfolding after Goes
       form_runs (layer.DynamicConstant literal pos) answers k = next (told rules r _ answers k _)
       form_runs (layer.BoolConstant b pos) answers k = next (told rules r _ answers k _)
       form_runs (layer.IntegerConstant n pos) answers k = next (told rules r _ answers k _)

@@ -28,16 +28,17 @@ use Rattle.rhai_operators.specs.Operators.{Outcome, binary_at, of_integers, op_a
 use Rattle.rhai_operators.specs.Answers.{Answer, IsAnswer, answer, binary_of, op_assign_of}
 use Rattle.rhai_operators.specs.Answers as operators
 use Rattle.rhai_machine.specs.machine.Machine.{Go}
-use Rattle.rhai_machine.specs.machine.Memory.{here, next, ◌⨾◌}
+use Rattle.rhai_machine.specs.machine.Memory.{here, next, ◌⨾◌, Leads}
 use Rattle.rhai_machine.specs.machine.Point.{after}
-use Rattle.rhai_machine.specs.language.Setting.{Rules, limit_under}
+use Rattle.rhai_machine.specs.language.Setting.{Rules, limit_under, cut}
 use Rattle.rhai_machine.specs.language.State.{Held, State, Answers}
 use Rattle.rhai_machine.specs.language.Values.{Cells, bool_value, flat_union, is_handle}
 use Rattle.rhai_machine.specs.language.Calls.{applied, call_at, operation_at, operator_core, sized_by}
 use Rattle.rhai_machine.specs.language.Frames.{Operation, Call, Frame, core, on_value, ended}
 use Rattle.rhai_machine.specs.language.Frames.{Argument, OpenExpr, LeftOperand, RightOperand}
 use Rattle.rhai_machine.specs.language.Frames.{Back, Fail}
-use Rattle.rhai_machine.specs.language.Runs.{at, with_core, Goes}
+use Rattle.rhai_machine.specs.language.Runs.{at, with_core}
+use Rattle.rhai_machine.specs.language.Language.{machine}
 use Rattle.rhai_steps.specs.States.{state_of}
 use Rattle.rhai_steps.proofs.Pieces.{step_by}
 use Rattle.rhai_steps.proofs.Operating.{built}
@@ -49,7 +50,7 @@ module _ {S H : Type 0} (rules : Rules S H) where
   -- an operator call begins with its first operand
   pub opens_binary : (call : FnCallExpr) (token : Token) (left right : Expr) (pos : Position) (k : List (Frame H)) (l : State S H) →
       rules.setting.offer.fast_operators ≡ true → call.op_token ≡ Some token → call.args ≡ left ∷ right ∷ [] →
-      Goes rules (at (OpenExpr (layer.Expr::FnCall call pos)) k l)
+      Leads (machine rules) (cut rules) (at (OpenExpr (layer.Expr::FnCall call pos)) k l)
       (at (Argument left) (LeftOperand (operation_at call.name token pos) (position_of left) right ∷ k) l)
   unfolding after
   opens_binary call token left right pos k l fast is args =
@@ -239,7 +240,8 @@ module _ {S H : Type 0} (rules : Rules S H) (t : S) (scope : Scope H) (held : He
       -- the left operand is refused
       pub left_refused : (e : EvalAltResult H) → limit_under rules ≤ old.num_operations →
           e ≡ error.ErrorTooManyOperations (position_of left) → new ≡ old →
-          Goes rules (at (OpenExpr (layer.Expr::FnCall call pos)) k (state_of t old scope held)) (at (Fail e) k (state_of t new scope
+          Leads (machine rules) (cut rules) (at (OpenExpr (layer.Expr::FnCall call pos)) k (state_of t old scope held))
+          (at (Fail e) k (state_of t new scope
           held))
       unfolding after
       left_refused e full is same =
@@ -248,7 +250,7 @@ module _ {S H : Type 0} (rules : Rules S H) (t : S) (scope : Scope H) (held : He
 
       -- or there
       left_there : old.num_operations < limit_under rules → new ≡ record old { num_operations = old.num_operations + 1 } →
-          Goes rules (at (OpenExpr (layer.Expr::FnCall call pos)) k (state_of t old scope held))
+          Leads (machine rules) (cut rules) (at (OpenExpr (layer.Expr::FnCall call pos)) k (state_of t old scope held))
           (at (Argument right) on_right (state_of t new scope held))
       left_there room is =
           opens_binary rules call token left right pos k (state_of t old scope held) fast is_token args
@@ -265,7 +267,8 @@ module _ {S H : Type 0} (rules : Rules S H) (t : S) (scope : Scope H) (held : He
       -- the right operand is refused
       pub right_refused : (e : EvalAltResult H) → limit_under rules ≤ mid.num_operations →
           e ≡ error.ErrorTooManyOperations (position_of right) → new ≡ mid →
-          Goes rules (at (OpenExpr (layer.Expr::FnCall call pos)) k (state_of t old scope held)) (at (Fail e) k (state_of t new scope
+          Leads (machine rules) (cut rules) (at (OpenExpr (layer.Expr::FnCall call pos)) k (state_of t old scope held))
+          (at (Fail e) k (state_of t new scope
           held))
       unfolding after
       right_refused e full refusal same =
@@ -274,7 +277,7 @@ module _ {S H : Type 0} (rules : Rules S H) (t : S) (scope : Scope H) (held : He
 
       module _ (more : mid.num_operations < limit_under rules) (last : new ≡ record mid { num_operations = mid.num_operations + 1 }) where
         -- or there, and the operator comes
-        both_there : Goes rules (at (OpenExpr (layer.Expr::FnCall call pos)) k (state_of t old scope held))
+        both_there : Leads (machine rules) (cut rules) (at (OpenExpr (layer.Expr::FnCall call pos)) k (state_of t old scope held))
             (with_core (operator_core rules.setting (binary_of token (copy_of x) (copy_of y)) made k (state_of t new scope held).local)
             (state_of t new scope held))
         both_there =
@@ -292,7 +295,7 @@ module _ {S H : Type 0} (rules : Rules S H) (t : S) (scope : Scope H) (held : He
         pub operates : (answer : operators.Answer H) (outcome result : Result (Dynamic H) (EvalAltResult H)) →
             (operators.HasMemory answer → answer ≡ binary_of token x y) → answer ≡ Some outcome →
             Answers result (applied rules.setting.limits outcome pos) →
-            Goes rules (at (OpenExpr (layer.Expr::FnCall call pos)) k (state_of t old scope held))
+            Leads (machine rules) (cut rules) (at (OpenExpr (layer.Expr::FnCall call pos)) k (state_of t old scope held))
             (at (ended result) k (state_of t new scope held))
         operates answer outcome result value is answers = both_there
             ⨾ built rules made k (state_of t new scope held) answer (binary_of token (copy_of x) (copy_of y)) outcome result
@@ -300,6 +303,6 @@ module _ {S H : Type 0} (rules : Rules S H) (t : S) (scope : Scope H) (held : He
 
         -- a truth value
         pub compares : (holds : Bool) → binary_of token x y ≡ Some (Ok (bool_value holds)) →
-            Goes rules (at (OpenExpr (layer.Expr::FnCall call pos)) k (state_of t old scope held))
+            Leads (machine rules) (cut rules) (at (OpenExpr (layer.Expr::FnCall call pos)) k (state_of t old scope held))
             (at (Back (bool_value holds)) k (state_of t new scope held))
         compares holds is = both_there ⨾ rw (binary_copied token x y, is, truth_sized H rules.setting.limits holds pos) here

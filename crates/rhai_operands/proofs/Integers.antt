@@ -18,10 +18,12 @@ use Rattle.rhai_operators.specs.Answers.{answer, binary_of}
 use Rattle.rhai_operators.specs.Direct.{integer_given, integer_in}
 use Rattle.rhai_operators.specs.Operators.{Outcome, assigns_integers, binary_at, if_assigns, of_integers, op_assign_at}
 use Rattle.rhai_machine.specs.language.Calls.{applied}
-use Rattle.rhai_machine.specs.language.Setting.{Rules, limit_under}
+use Rattle.rhai_machine.specs.language.Setting.{Rules, limit_under, cut}
 use Rattle.rhai_machine.specs.language.State.{Held}
 use Rattle.rhai_machine.specs.language.Frames.{Back, Frame, OpenExpr}
-use Rattle.rhai_machine.specs.language.Runs.{at, Goes}
+use Rattle.rhai_machine.specs.language.Runs.{at}
+use Rattle.rhai_machine.specs.machine.Memory.{Leads}
+use Rattle.rhai_machine.specs.language.Language.{machine}
 use Rattle.rhai_steps.specs.States.{state_of}
 use Rattle.rhai_operands.specs.Standing.{assigned_known, integer_of, integer_valued, operated, standing}
 use Rattle.rhai_operands.proofs.InPlace.{integer_sized, operates}
@@ -104,7 +106,8 @@ module _ {S H : Type 0} (rules : Rules S H) (t : S) (scope : Scope H) (held : He
     pub operates_at_once : (old new : GlobalRuntimeState H) → old.num_operations + 2 ≤ limit_under rules →
         new ≡ record old { num_operations = old.num_operations + 2 } → (v : Dynamic H) (z : ℤ) → v ≡ plain (value.Int z) →
         binary_of token x y ≡ Some (Ok v) →
-        Goes rules (at (OpenExpr (layer.Expr::FnCall call pos)) k (state_of t old scope held)) (at (Back v) k (state_of t new scope held))
+        Leads (machine rules) (cut rules) (at (OpenExpr (layer.Expr::FnCall call pos)) k (state_of t old scope held))
+        (at (Back v) k (state_of t new scope held))
     operates_at_once old new room is v z number says =
         let mid = record old { num_operations = old.num_operations + 1 } in
         let sized : applied rules.setting.limits (Ok v) pos ≡ Ok v = rw number (integer_sized H rules.setting.limits z pos) in

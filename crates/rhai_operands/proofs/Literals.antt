@@ -12,7 +12,7 @@ use Rattle.rhai_machine.specs.language.Setting.{Rules, limit_under}
 use Rattle.rhai_machine.specs.language.State.{Held, Answers}
 use Rattle.rhai_machine.specs.language.Expressions.{literal_of}
 use Rattle.rhai_machine.specs.language.Frames.{Argument, Back}
-use Rattle.rhai_machine.specs.language.Runs.{Runs, Steps}
+use Rattle.rhai_machine.specs.language.Runs.{Runs, Goes}
 use Rattle.rhai_steps.specs.States.{state_of}
 use Rattle.rhai_steps.proofs.Pieces.{charged, refused, told}
 
@@ -21,7 +21,7 @@ module _ {S H : Type 0} (rules : Rules S H) (t : S) (old new : GlobalRuntimeStat
   literal_goes : (v : Dynamic H) → literal_of (out-Expr e) ≡ Some v → old.num_operations < limit_under rules →
       new ≡ record old { num_operations = old.num_operations + 1 } → (r : Result (Dynamic H) (EvalAltResult H)) → Answers r (Ok v) →
       Runs rules (Argument e) (state_of t old scope held) r (state_of t new scope held)
-  unfolding Steps
+  unfolding Goes
   literal_goes v literal room is r answers k =
       charged rules t old new scope held (Argument e) (Back v) (start_of e) (λ k. rw literal refl) room is k
       ⨾ told rules r (Ok v) answers k _
@@ -39,7 +39,7 @@ module _ {S H : Type 0} (rules : Rules S H) (t : S) (old new : GlobalRuntimeStat
   pub literal_refused : (o : Option (Dynamic H)) → literal_of (out-Expr e) ≡ o → is_some o ≡ true → (x : EvalAltResult H) →
       limit_under rules ≤ old.num_operations → x ≡ error.ErrorTooManyOperations (start_of e) → new ≡ old →
       Runs rules (Argument e) (state_of t old scope held) (Err x) (state_of t new scope held)
-  unfolding Steps
+  unfolding Goes
   literal_refused None is some x full refusal same k = cc
   literal_refused (Some v) is some x full refusal same k =
       refused rules t old new scope held (Argument e) (Back v) (start_of e) (λ k. rw is refl) x full refusal same k

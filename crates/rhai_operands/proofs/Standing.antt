@@ -19,16 +19,17 @@ use Rattle.rhai_state.specs.declared.error.EvalAltResult.TheVariants as error
 use Rattle.rhai_state.specs.Scope.{entries_of, value_in}
 use Rattle.rhai_machine.specs.language.State.{Held, Surroundings}
 use Rattle.rhai_machine.specs.machine.Machine.{Go}
-use Rattle.rhai_machine.specs.machine.Memory.{here, next, ◌⨾◌}
+use Rattle.rhai_machine.specs.machine.Memory.{here, next, ◌⨾◌, Leads}
 use Rattle.rhai_machine.specs.machine.Point.{after}
-use Rattle.rhai_machine.specs.language.Setting.{Globals, Rules, globals_of, limit_under}
+use Rattle.rhai_machine.specs.language.Setting.{Globals, Rules, globals_of, limit_under, cut}
 use Rattle.rhai_machine.specs.language.Values.{Cells, bool_value, is_handle, unit_value}
 use Rattle.rhai_machine.specs.language.Variables.{Variable, variable_named}
 use Rattle.rhai_machine.specs.language.Names.{entry_named, looked_up, of_entry, read, read_of}
 use Rattle.rhai_machine.specs.language.Expressions.{literal_of}
 use Rattle.rhai_machine.specs.language.Frames.{Frame, core, ended, Argument, Eval, OpenExpr, Back, Fail}
-use Rattle.rhai_machine.specs.language.Runs.{at, Goes}
+use Rattle.rhai_machine.specs.language.Runs.{at}
 use Rattle.rhai_machine.proofs.MeantLaws.{meant_at}
+use Rattle.rhai_machine.specs.language.Language.{machine}
 use Rattle.rhai_steps.specs.States.{state_of}
 use Rattle.rhai_steps.proofs.Pieces.{step_by, charged, refused}
 use Rattle.rhai_operands.specs.Standing.{standing, unless_handle}
@@ -92,7 +93,7 @@ module _ {S H : Type 0} (rules : Rules S H) where
   -- its form, once it is charged, gives its value
   opens_standing : (form : ExprLayer) (v : Dynamic H) (k : List (Frame H)) (t : S) (g : GlobalRuntimeState H) (scope : Scope H)
       (held : Held H) → standing form (entries_of scope) ≡ Some v →
-      Goes rules (at (OpenExpr form) k (state_of t g scope held)) (at (Back (copy_of v)) k (state_of t g scope held))
+      Leads (machine rules) (cut rules) (at (OpenExpr form) k (state_of t g scope held)) (at (Back (copy_of v)) k (state_of t g scope held))
   unfolding after
   opens_standing (layer.BoolConstant b pos) v k t g scope held stands = let same : bool_value b ≡ v = cc in rw (← same) (next here)
   opens_standing (layer.IntegerConstant n pos) v k t g scope held stands =
@@ -112,12 +113,14 @@ module _ {S H : Type 0} (rules : Rules S H) where
     module _ (room : old.num_operations < limit_under rules) (is : new ≡ record old { num_operations = old.num_operations + 1 }) where
       -- an expression that stands is charged, and there
       pub value_goes : (k : List (Frame H)) →
-          Goes rules (at (Eval e) k (state_of t old scope held)) (at (Back (copy_of v)) k (state_of t new scope held))
+          Leads (machine rules) (cut rules) (at (Eval e) k (state_of t old scope held))
+          (at (Back (copy_of v)) k (state_of t new scope held))
       value_goes k = charged rules t old new scope held (Eval e) (OpenExpr (out-Expr e)) (position_of e) (λ k. refl) room is k
           ⨾ opens_standing (out-Expr e) v k t new scope held stands
 
       argument_by : (form : ExprLayer) → out-Expr e ≡ form → standing form (entries_of scope) ≡ Some v → (k : List (Frame H)) →
-          Goes rules (at (Argument e) k (state_of t old scope held)) (at (Back (copy_of v)) k (state_of t new scope held))
+          Leads (machine rules) (cut rules) (at (Argument e) k (state_of t old scope held))
+          (at (Back (copy_of v)) k (state_of t new scope held))
       argument_by (layer.BoolConstant b pos) form stand k = let same : bool_value b ≡ v = cc in rw (← same)
           (charged rules t old new scope held (Argument e) (Back (bool_value b)) (start_of e) (λ k. rw form refl) room is k)
       argument_by (layer.IntegerConstant n pos) form stand k = let same : plain (value.Int n) ≡ v = cc in rw (← same)
@@ -132,18 +135,19 @@ module _ {S H : Type 0} (rules : Rules S H) where
 
       -- so is an argument
       pub argument_goes : (k : List (Frame H)) →
-          Goes rules (at (Argument e) k (state_of t old scope held)) (at (Back (copy_of v)) k (state_of t new scope held))
+          Leads (machine rules) (cut rules) (at (Argument e) k (state_of t old scope held))
+          (at (Back (copy_of v)) k (state_of t new scope held))
       argument_goes k = argument_by (out-Expr e) refl stands k
 
     module _ (x : EvalAltResult H) (full : limit_under rules ≤ old.num_operations) (is : x ≡ error.ErrorTooManyOperations (position_of e))
         (same : new ≡ old) where
       -- or its charge is refused
       pub value_refused : (k : List (Frame H)) →
-          Goes rules (at (Eval e) k (state_of t old scope held)) (at (Fail x) k (state_of t new scope held))
+          Leads (machine rules) (cut rules) (at (Eval e) k (state_of t old scope held)) (at (Fail x) k (state_of t new scope held))
       value_refused k = refused rules t old new scope held (Eval e) (OpenExpr (out-Expr e)) (position_of e) (λ k. refl) x full is same k
 
       refused_by : (form : ExprLayer) → out-Expr e ≡ form → standing form (entries_of scope) ≡ Some v → (k : List (Frame H)) →
-          Goes rules (at (Argument e) k (state_of t old scope held)) (at (Fail x) k (state_of t new scope held))
+          Leads (machine rules) (cut rules) (at (Argument e) k (state_of t old scope held)) (at (Fail x) k (state_of t new scope held))
       refused_by (layer.BoolConstant b pos) form stand k = refused rules t old new scope held (Argument e) (Back (bool_value b))
           (start_of e)
           (λ k. rw form refl) x full (rw (literal_starts {H = H} e (layer.BoolConstant b pos) (bool_value b) form refl) is) same k
@@ -161,5 +165,5 @@ module _ {S H : Type 0} (rules : Rules S H) where
       refused_by _ form stand k = cc
 
       pub argument_refused : (k : List (Frame H)) →
-          Goes rules (at (Argument e) k (state_of t old scope held)) (at (Fail x) k (state_of t new scope held))
+          Leads (machine rules) (cut rules) (at (Argument e) k (state_of t old scope held)) (at (Fail x) k (state_of t new scope held))
       argument_refused k = refused_by (out-Expr e) refl stands k

@@ -1,5 +1,5 @@
 -- How a condition is told: by the frame that asks for its truth value.
-use Rattle.std.specs.Prelude.{◌≡◌, Bool, List, ◌∷◌, Option, Some, None, Result, Ok, Err}
+use Rattle.std.specs.Prelude.{◌≡◌, Bool, List, Option, Some, None, Result, Ok, Err}
 use Rattle.rhai_tree.specs.declared.position.Position.{Position}
 use Rattle.rhai_tree.specs.declared.expr.Expr.{Expr}
 use Rattle.rhai_tree.specs.Positions.{position_of}
@@ -7,10 +7,11 @@ use Rattle.rhai_state.specs.declared.error.EvalAltResult.{EvalAltResult}
 use Rattle.rhai_machine.specs.language.Setting.{Setting, Rules}
 use Rattle.rhai_machine.specs.language.State.{Local, State}
 use Rattle.rhai_machine.specs.language.Values.{bool_value}
-use Rattle.rhai_machine.specs.language.Frames.{Frame, Core, core, Eval, Fail, IfCondition, AndPart, OrPart, WhileCondition, DoCondition}
+use Rattle.rhai_machine.specs.language.Frames.{Frame, Core, core, core_over, Eval, Fail, IfCondition, AndPart, OrPart, WhileCondition}
+use Rattle.rhai_machine.specs.language.Frames.{DoCondition}
 use Rattle.rhai_machine.specs.language.Frames.{SwitchCondition}
+use Rattle.rhai_machine.specs.language.Runs.{Goes}
 use Rattle.rhai_machine.specs.language.Unwinding.{up_core}
-use Rattle.rhai_machine.specs.language.Runs.{at, with_core, Goes}
 
 module _ {H : Type 0} where
   -- where a frame asks for a truth value
@@ -30,5 +31,5 @@ module _ {H : Type 0} where
 
 -- from a condition, over a frame that asks for its truth value, to what that frame does with it
 unfoldable pub Tests : {S H : Type 0} → Rules S H → Expr → State S H → Result Bool (EvalAltResult H) → State S H → Type 0
-Tests {S} {H} rules test old result new = (f : Frame H) (k : List (Frame H)) → asks_truth f ≡ Some (position_of test) →
-    Goes rules (at (Eval test) (f ∷ k) old) (with_core (told_truth rules.setting f result k new.local) new)
+Tests {S} {H} rules test old result new = (f : Frame H) → asks_truth f ≡ Some (position_of test) →
+    Goes rules (core_over (Eval test) f) old (told_truth rules.setting f result) new

@@ -5,15 +5,15 @@ ghost use Rattle.rhai_tree.specs.declared.expr.Expr.{out-Expr};
 ghost use Rattle.rhai_machine.specs.language.Expressions.{literal_of};
 ghost use Rattle.rhai_machine.specs.language.Frames.{Argument};
 ghost use Rattle.rhai_machine.specs.language.Runs.{Runs};
-ghost use Rattle.rhai_machine.specs.language.Setting.{rules_of};
 ghost use Rattle.rhai_machine.specs.language.State.{Answers};
 ghost use Rattle.rhai_steps.specs.Agreement.{KeepsSight};
+ghost use Rattle.rhai_steps.specs.Sessions.{under};
 ghost use Rattle.rhai_steps.specs.States.{state_of};
 ghost use Rattle.rhai_context.specs.Ends.{came};
 
 use rhai_context::ends::{settle, stop};
 use rhai_state::error::EvalAltResult;
-use rhai_state::limits::Limits;
+use rhai_state::session::Session;
 use rhai_state::state::GlobalRuntimeState;
 use rhai_state::table::NativeTable;
 use rhai_steps::charges::charge_one;
@@ -65,8 +65,7 @@ fn literal_value<H: Host>(
 /// `ErrorTooManyOperations` at the literal where the count has reached the limit.
 #[inline(never)]
 fn charge_literal<H: Host, T: NativeTable<H>>(
-    limits: &Limits,
-    alloc: Global,
+    session: &Session<'_, H>,
     global: &mut GlobalRuntimeState<H>,
     _table: &T,
     out: &mut Dynamic<H>,
@@ -78,19 +77,19 @@ fn charge_literal<H: Host, T: NativeTable<H>>(
     ensures charges { IfSome result (λ done. IsTrue done →
         global.old.num_operations < global.new.num_operations) }
     ensures sight { KeepsSight global.old global.new }
-    ensures runs { (offer : _) (scope : _) (held : _) →
-        IfSome result (λ done. Runs (rules_of limits.now H.name_of offer T.natives) (Argument arg.now)
+    ensures runs { (scope : _) (held : _) →
+        IfSome result (λ done. Runs (under H.name_of session.now T.natives) (Argument arg.now)
         (state_of (T.state _table.now) global.old scope held)
         (came done out.new place.new) (state_of (T.state _table.now) global.new scope held)) }
 {
     if !is_literal::<H>(arg) {
         return None;
     }
-    if !charge_one(limits, global) {
+    if !charge_one(&session.limits, global) {
         let error = EvalAltResult::ErrorTooManyOperations(arg.start_position());
         return Some(stop(place, error));
     }
-    match literal_value(alloc, arg) {
+    match literal_value(session.alloc, arg) {
         Some(answer) => Some(settle(place, out, answer)),
         None => None,
     }
@@ -103,8 +102,7 @@ fn charge_literal<H: Host, T: NativeTable<H>>(
 /// `ErrorTooManyOperations` at the literal where the count has reached the limit.
 #[inline(always)]
 pub fn read_literal<H: Host, T: NativeTable<H>>(
-    limits: &Limits,
-    alloc: Global,
+    session: &Session<'_, H>,
     global: &mut GlobalRuntimeState<H>,
     _table: &T,
     out: &mut Dynamic<H>,
@@ -116,13 +114,13 @@ pub fn read_literal<H: Host, T: NativeTable<H>>(
     ensures charges { IfSome result (λ done. IsTrue done →
         global.old.num_operations < global.new.num_operations) }
     ensures sight { KeepsSight global.old global.new }
-    ensures runs { (offer : _) (scope : _) (held : _) →
-        IfSome result (λ done. Runs (rules_of limits.now H.name_of offer T.natives) (Argument arg.now)
+    ensures runs { (scope : _) (held : _) →
+        IfSome result (λ done. Runs (under H.name_of session.now T.natives) (Argument arg.now)
         (state_of (T.state _table.now) global.old scope held)
         (came done out.new place.new) (state_of (T.state _table.now) global.new scope held)) }
 {
     if !is_literal::<H>(arg) {
         return None;
     }
-    charge_literal(limits, alloc, global, _table, out, place, arg)
+    charge_literal(session, global, _table, out, place, arg)
 }

@@ -1,7 +1,7 @@
 //! Binary operators on operands as they stand, and conditions that compare them. Ports the fast
 //! operators of upstream's `func/call.rs`.
 
-ghost use Rattle.std.specs.Prelude.{◌≡◌, ◌≤◌, ◌<◌, ◌+◌, ◌∷◌, [], IsTrue, IfSome, IfErr, OnOk};
+ghost use Rattle.std.specs.Prelude.{◌≡◌, ◌≤◌, ◌<◌, ◌+◌, ◌∷◌, [], IsTrue, IfSome};
 ghost use Rattle.std.specs.Prelude.{Some, None, is_some, true, false};
 ghost use Rattle.rhai_tree.specs.declared.expr.Expr.{out-Expr};
 ghost use Rattle.rhai_tree.specs.declared.expr.Expr.TheOpen as layer;
@@ -10,8 +10,8 @@ ghost use Rattle.rhai_state.specs.Errors.{is_out_of_memory};
 ghost use Rattle.rhai_state.specs.Scope.{entries_of};
 ghost use Rattle.rhai_machine.specs.language.Frames.{OpenExpr};
 ghost use Rattle.rhai_machine.specs.language.Runs.{Runs};
-ghost use Rattle.rhai_machine.specs.language.Setting.{rules_of};
 ghost use Rattle.rhai_steps.specs.Agreement.{AgreesAt, KeepsSight};
+ghost use Rattle.rhai_steps.specs.Sessions.{under};
 ghost use Rattle.rhai_steps.specs.States.{state_of};
 ghost use Rattle.rhai_operators.specs.Direct.{integer_in};
 ghost use Rattle.rhai_operands.specs.Standing.{assigned_known, compared, compared_known, integer_of};
@@ -27,6 +27,7 @@ use rhai_operators::direct::{assign_integers, compare_integers};
 use rhai_state::error::EvalAltResult;
 use rhai_state::limits::Limits;
 use rhai_state::scope::Scope;
+use rhai_state::session::Session;
 use rhai_state::state::GlobalRuntimeState;
 use rhai_state::table::NativeTable;
 use rhai_steps::charges::{charge_all, track_operation};
@@ -38,6 +39,16 @@ use rhai_tree::token::Token;
 use rhai_values::base::value::{Dynamic, Host, Union};
 use std::alloc::Global;
 
+/// A call that is written as a binary operator, taken apart.
+#[derive(Clone, Copy)]
+pub struct BinaryCall<'a> {
+    pub call: &'a FnCallExpr,
+    pub token: Token,
+    pub left: &'a Expr,
+    pub right: &'a Expr,
+    pub at: Position,
+}
+
 /// Computes the value that an operator gives for two integers. None where one of them is none, or the
 /// operator gives no integer, or may not stand before an `=`.
 #[inline(always)]
@@ -45,88 +56,76 @@ pub fn compute_known<H: Host>(token: Token, x: Option<i64>, y: Option<i64>) -> O
     ensures { result ≡ assigned_known token x y }
 {
     let number = assign_integers::<H>(token, x?, y?)?;
-    Some(int_value(&number))
+    Some(Dynamic::new(Union::Int(number)))
 }
 
 /// Applies an operator to two operands as they stand, of any type.
 #[inline(never)]
 fn operate_values<H: Host, T: NativeTable<H>>(
-    limits: &Limits,
-    alloc: Global,
+    session: &Session<'_, H>,
     global: &mut GlobalRuntimeState<H>,
     _table: &T,
     scope: &Scope<H>,
-    call: &FnCallExpr,
-    token: Token,
-    left: &Expr,
-    right: &Expr,
-    pos: Position,
+    binary: BinaryCall<'_>,
 ) -> Option<Result<Dynamic<H>, EvalAltResult<H>>>
-    requires token { call.now.op_token ≡ Some token }
-    requires args { call.now.args ≡ left.now ∷ right.now ∷ [] }
-    requires resolves_left { AgreesAt global.old scope.now (resolves_expr left.now) }
-    requires resolves_right { AgreesAt global.old scope.now (resolves_expr right.now) }
-    ensures found { is_some result ≡ is_some (operated token
-        (standing (out-Expr left.now) (entries_of scope.now))
-        (standing (out-Expr right.now) (entries_of scope.now))) }
+    requires token { binary.call.now.op_token ≡ Some binary.token }
+    requires args { binary.call.now.args ≡ binary.left.now ∷ binary.right.now ∷ [] }
+    requires resolves_left { AgreesAt global.old scope.now (resolves_expr binary.left.now) }
+    requires resolves_right { AgreesAt global.old scope.now (resolves_expr binary.right.now) }
+    ensures found { is_some result ≡ is_some (operated binary.entry.token
+        (standing (out-Expr binary.entry.left.now) (entries_of scope.now))
+        (standing (out-Expr binary.entry.right.now) (entries_of scope.now))) }
     ensures left_alone { result ≡ None → global.new ≡ global.old }
     ensures counts { global.old.num_operations ≤ global.new.num_operations }
     ensures sight { KeepsSight global.old global.new }
-    ensures runs { (offer : _) (held : _) → offer.fast_operators ≡ true →
-        IfSome result (λ result. Runs (rules_of limits.now H.name_of offer T.natives)
-        (OpenExpr (layer.Expr::FnCall call.now pos))
+    ensures runs { (held : _) → session.now.fast_operators ≡ true →
+        IfSome result (λ result. Runs (under H.name_of session.now T.natives)
+        (OpenExpr (layer.Expr::FnCall binary.entry.call.now binary.entry.at))
         (state_of (T.state _table.now) global.old scope.now held)
         result (state_of (T.state _table.now) global.new scope.now held)) }
 {
-    let first = operand_in_place(global, scope, left)?;
-    let second = operand_in_place(global, scope, right)?;
-    let outcome = builtin_binary(alloc, token, first.value(), second.value())?;
-    if let Err(error) = track_operation(limits, global, left.position()) {
+    let first = operand_in_place(global, scope, binary.left)?;
+    let second = operand_in_place(global, scope, binary.right)?;
+    let outcome = builtin_binary(session.alloc, binary.token, first.value(), second.value())?;
+    if let Err(error) = track_operation(&session.limits, global, binary.left.position()) {
         drop(outcome);
         return Some(Err(error));
     }
-    if let Err(error) = track_operation(limits, global, right.position()) {
+    if let Err(error) = track_operation(&session.limits, global, binary.right.position()) {
         drop(outcome);
         return Some(Err(error));
     }
-    Some(applied(alloc, limits, outcome, pos))
+    Some(applied(session, outcome, binary.at))
 }
 
 /// Applies an operator as `operate_values` does. How it ended goes into the run's places.
 #[inline(never)]
 fn operate_others<H: Host, T: NativeTable<H>>(
-    limits: &Limits,
-    alloc: Global,
+    session: &Session<'_, H>,
     global: &mut GlobalRuntimeState<H>,
     _table: &T,
     scope: &Scope<H>,
     out: &mut Dynamic<H>,
     place: &mut Option<EvalAltResult<H>>,
-    call: &FnCallExpr,
-    token: Token,
-    left: &Expr,
-    right: &Expr,
-    pos: Position,
+    binary: BinaryCall<'_>,
 ) -> Option<bool>
-    requires token { call.now.op_token ≡ Some token }
-    requires args { call.now.args ≡ left.now ∷ right.now ∷ [] }
-    requires resolves_left { AgreesAt global.old scope.now (resolves_expr left.now) }
-    requires resolves_right { AgreesAt global.old scope.now (resolves_expr right.now) }
-    ensures found { is_some result ≡ is_some (operated token
-        (standing (out-Expr left.now) (entries_of scope.now))
-        (standing (out-Expr right.now) (entries_of scope.now))) }
+    requires token { binary.call.now.op_token ≡ Some binary.token }
+    requires args { binary.call.now.args ≡ binary.left.now ∷ binary.right.now ∷ [] }
+    requires resolves_left { AgreesAt global.old scope.now (resolves_expr binary.left.now) }
+    requires resolves_right { AgreesAt global.old scope.now (resolves_expr binary.right.now) }
+    ensures found { is_some result ≡ is_some (operated binary.entry.token
+        (standing (out-Expr binary.entry.left.now) (entries_of scope.now))
+        (standing (out-Expr binary.entry.right.now) (entries_of scope.now))) }
     ensures left_alone { result ≡ None → global.new ≡ global.old }
     ensures counts { global.old.num_operations ≤ global.new.num_operations }
     ensures sight { KeepsSight global.old global.new }
-    ensures runs { (offer : _) (held : _) → offer.fast_operators ≡ true →
-        IfSome result (λ done. Runs (rules_of limits.now H.name_of offer T.natives)
-        (OpenExpr (layer.Expr::FnCall call.now pos))
+    ensures runs { (held : _) → session.now.fast_operators ≡ true →
+        IfSome result (λ done. Runs (under H.name_of session.now T.natives)
+        (OpenExpr (layer.Expr::FnCall binary.entry.call.now binary.entry.at))
         (state_of (T.state _table.now) global.old scope.now held)
         (came done out.new place.new) (state_of (T.state _table.now) global.new scope.now held)) }
 {
-    let answered = operate_values(
-        limits, alloc, global, _table, scope, call, token, left, right, pos,
-    );
+    let answered = operate_values(session, global, _table, scope, binary);
     match answered {
         Some(answer) => Some(settle(place, out, answer)),
         None => None,
@@ -199,45 +198,46 @@ fn operate_integers<H: Host>(
 /// what the operator answers, and `ErrorDataTooLarge` for a value above a limit.
 #[inline(always)]
 pub fn operate_in_place<H: Host, T: NativeTable<H>>(
-    limits: &Limits,
-    alloc: Global,
+    session: &Session<'_, H>,
     global: &mut GlobalRuntimeState<H>,
     _table: &T,
     scope: &Scope<H>,
     out: &mut Dynamic<H>,
     place: &mut Option<EvalAltResult<H>>,
-    call: &FnCallExpr,
-    token: Token,
-    left: &Expr,
-    right: &Expr,
-    pos: Position,
+    binary: BinaryCall<'_>,
 ) -> Option<bool>
-    requires token { call.now.op_token ≡ Some token }
-    requires args { call.now.args ≡ left.now ∷ right.now ∷ [] }
-    requires resolves_left { AgreesAt global.old scope.now (resolves_expr left.now) }
-    requires resolves_right { AgreesAt global.old scope.now (resolves_expr right.now) }
-    ensures found { is_some result ≡ is_some (operated token
-        (standing (out-Expr left.now) (entries_of scope.now))
-        (standing (out-Expr right.now) (entries_of scope.now))) }
+    requires token { binary.call.now.op_token ≡ Some binary.token }
+    requires args { binary.call.now.args ≡ binary.left.now ∷ binary.right.now ∷ [] }
+    requires resolves_left { AgreesAt global.old scope.now (resolves_expr binary.left.now) }
+    requires resolves_right { AgreesAt global.old scope.now (resolves_expr binary.right.now) }
+    ensures found { is_some result ≡ is_some (operated binary.entry.token
+        (standing (out-Expr binary.entry.left.now) (entries_of scope.now))
+        (standing (out-Expr binary.entry.right.now) (entries_of scope.now))) }
     ensures left_alone { result ≡ None → global.new ≡ global.old }
     ensures counts { global.old.num_operations ≤ global.new.num_operations }
     ensures sight { KeepsSight global.old global.new }
-    ensures runs { (offer : _) (held : _) → offer.fast_operators ≡ true →
-        IfSome result (λ done. Runs (rules_of limits.now H.name_of offer T.natives)
-        (OpenExpr (layer.Expr::FnCall call.now pos))
+    ensures runs { (held : _) → session.now.fast_operators ≡ true →
+        IfSome result (λ done. Runs (under H.name_of session.now T.natives)
+        (OpenExpr (layer.Expr::FnCall binary.entry.call.now binary.entry.at))
         (state_of (T.state _table.now) global.old scope.now held)
         (came done out.new place.new) (state_of (T.state _table.now) global.new scope.now held)) }
 {
-    if operate_integers(limits, global, scope, out, token, left, right) {
+    if operate_integers(
+        &session.limits,
+        global,
+        scope,
+        out,
+        binary.token,
+        binary.left,
+        binary.right,
+    ) {
         return Some(true);
     }
-    let may_stand = may_stand::<H>(left) && may_stand::<H>(right);
+    let may_stand = may_stand::<H>(binary.left) && may_stand::<H>(binary.right);
     if !may_stand {
         return None;
     }
-    operate_others(
-        limits, alloc, global, _table, scope, out, place, call, token, left, right, pos,
-    )
+    operate_others(session, global, _table, scope, out, place, binary)
 }
 
 /// Replaces the value of a run by what an operator gives for another value and that one. It tells whether it
@@ -348,8 +348,7 @@ fn compare_in_place<H: Host>(
 /// `ErrorTooManyOperations` at the operator or an operand where the count has reached the limit.
 #[inline(always)]
 pub fn truth_in_place<H: Host, T: NativeTable<H>>(
-    limits: &Limits,
-    alloc: Global,
+    session: &Session<'_, H>,
     global: &mut GlobalRuntimeState<H>,
     _table: &T,
     scope: &Scope<H>,
@@ -363,8 +362,8 @@ pub fn truth_in_place<H: Host, T: NativeTable<H>>(
         global.old.num_operations < global.new.num_operations)) }
     ensures sight { KeepsSight global.old global.new }
     ensures memory { IfSome result (λ told. told ≡ None → is_out_of_memory (error_in place.new) ≡ false) }
-    ensures runs { (offer : _) (held : _) → offer.fast_operators ≡ true →
-        IfSome result (λ told. Tests (rules_of limits.now H.name_of offer T.natives) test.now
+    ensures runs { (held : _) → session.now.fast_operators ≡ true →
+        IfSome result (λ told. Tests (under H.name_of session.now T.natives) test.now
         (state_of (T.state _table.now) global.old scope.now held)
         (came_test told place.new) (state_of (T.state _table.now) global.new scope.now held)) }
 {
@@ -373,17 +372,17 @@ pub fn truth_in_place<H: Host, T: NativeTable<H>>(
     };
     let token = call.op_token?;
     let (left, right) = two_operands(call)?;
-    let holds = compare_in_place(alloc, global, scope, token, left, right)?;
-    if charge_all(limits, global, 3) {
+    let holds = compare_in_place(session.alloc, global, scope, token, left, right)?;
+    if charge_all(&session.limits, global, 3) {
         return Some(Some(holds));
     }
-    if !charge(limits, global, place, *pos) {
+    if !charge(&session.limits, global, place, *pos) {
         return Some(None);
     }
-    if !charge(limits, global, place, left.position()) {
+    if !charge(&session.limits, global, place, left.position()) {
         return Some(None);
     }
-    if !charge(limits, global, place, right.position()) {
+    if !charge(&session.limits, global, place, right.position()) {
         return Some(None);
     }
     Some(Some(holds))

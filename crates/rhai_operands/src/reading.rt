@@ -15,15 +15,14 @@ ghost use Rattle.rhai_operands.specs.Reading.{asks_read, read_as};
 
 use crate::operands::integer_in_place;
 use rhai_context::ends::{put, put_number, put_truth, put_unit, settle, stop};
-use rhai_functions::function::Offered;
 use rhai_state::error::EvalAltResult;
 use rhai_state::scope::Scope;
+use rhai_state::session::Session;
 use rhai_state::state::GlobalRuntimeState;
 use rhai_steps::values::{char_value, constant_value, int_value, text_value};
-use rhai_steps::variables::{read_this, read_variable};
+use rhai_steps::variables::{Variable, read_this, read_variable};
 use rhai_tree::expr::Expr;
 use rhai_values::base::value::{Dynamic, Host};
-use std::alloc::Global;
 
 /// Reads a literal, a variable or `this`, as `read_expr` does.
 ///
@@ -31,9 +30,8 @@ use std::alloc::Global;
 /// Those of `read_expr`.
 #[inline(never)]
 fn read_any<H: Host>(
-    alloc: Global,
+    session: &Session<'_, H>,
     global: &GlobalRuntimeState<H>,
-    offered: &Offered<'_, H>,
     scope: &Scope<H>,
     this: &Option<Dynamic<H>>,
     out: &mut Dynamic<H>,
@@ -42,7 +40,7 @@ fn read_any<H: Host>(
 ) -> bool
     requires { AgreesAt global.now scope.now (resolves_expr expr.now) }
     ensures exact { (focus : _) → Answers (came result out.new place.new)
-        (read_as (globals_in offered.now) (local_of global.now scope.now (record { this = this.now; focus = focus }))
+        (read_as (globals_in session.now.offered) (local_of global.now scope.now (record { this = this.now; focus = focus }))
         (out-Expr expr.now)) }
     ensures memory { IfErr (came result out.new place.new) (λ error.
         is_out_of_memory error ≡ true → IsTrue (asks_read (out-Expr expr.now)).0) }
@@ -63,7 +61,15 @@ fn read_any<H: Host>(
             pos,
         } => {
             let answer = read_variable(
-                alloc, offered, global, scope, *offset, name, namespace, *pos,
+                session,
+                global,
+                scope,
+                &Variable {
+                    offset: *offset,
+                    name,
+                    namespace,
+                    at: *pos,
+                },
             );
             settle(place, out, answer)
         }
@@ -77,13 +83,13 @@ fn read_any<H: Host>(
         }
         Expr::StringConstant(text, pos) => settle(place, out, text_value(text, *pos)),
         Expr::DynamicConstant(literal, pos) => {
-            settle(place, out, constant_value(alloc, literal, *pos))
+            settle(place, out, constant_value(session.alloc, literal, *pos))
         }
         Expr::Unit(_) => {
             put_unit(out);
             true
         }
-        Expr::ThisPtr(pos) => settle(place, out, read_this(alloc, this, *pos)),
+        Expr::ThisPtr(pos) => settle(place, out, read_this(session.alloc, this, *pos)),
         _ => stop(place, EvalAltResult::ErrorOutOfMemory(expr.position())),
     }
 }
@@ -97,9 +103,8 @@ fn read_any<H: Host>(
 /// At the path of one: `ErrorModuleNotFound` and `ErrorVariableNotFound`. At `this`: `ErrorUnboundThis`.
 #[inline(never)]
 pub fn read_expr<H: Host>(
-    alloc: Global,
+    session: &Session<'_, H>,
     global: &GlobalRuntimeState<H>,
-    offered: &Offered<'_, H>,
     scope: &Scope<H>,
     this: &Option<Dynamic<H>>,
     out: &mut Dynamic<H>,
@@ -108,7 +113,7 @@ pub fn read_expr<H: Host>(
 ) -> bool
     requires { AgreesAt global.now scope.now (resolves_expr expr.now) }
     ensures exact { (focus : _) → Answers (came result out.new place.new)
-        (read_as (globals_in offered.now) (local_of global.now scope.now (record { this = this.now; focus = focus }))
+        (read_as (globals_in session.now.offered) (local_of global.now scope.now (record { this = this.now; focus = focus }))
         (out-Expr expr.now)) }
     ensures memory { IfErr (came result out.new place.new) (λ error.
         is_out_of_memory error ≡ true → IsTrue (asks_read (out-Expr expr.now)).0) }
@@ -127,12 +132,12 @@ pub fn read_expr<H: Host>(
                 put_number(out, int_value(&number));
                 true
             }
-            None => read_any(alloc, global, offered, scope, this, out, place, expr),
+            None => read_any(session, global, scope, this, out, place, expr),
         },
         Expr::BoolConstant(value, _) => {
             put_truth(out, *value);
             true
         }
-        _ => read_any(alloc, global, offered, scope, this, out, place, expr),
+        _ => read_any(session, global, scope, this, out, place, expr),
     }
 }

@@ -1,7 +1,7 @@
 //! What the built-in operators answer: read-write values, and errors without a position. The
 //! contracts cite specs/Answers.antt.
 
-ghost use Rattle.std.specs.Prelude.{◌≡◌, false, IfOk};
+ghost use Rattle.std.specs.Prelude.{◌≡◌, false};
 ghost use Rattle.rhai_tree.specs.Position.{none};
 ghost use Rattle.rhai_state.specs.Errors.{is_out_of_memory, position_of};
 ghost use Rattle.rhai_operators.specs.Answers as spec;
@@ -9,10 +9,10 @@ ghost use Rattle.rhai_operators.specs.Answers.{IsAnswer};
 
 use crate::integers::ArithmeticFault;
 use rhai_state::error::EvalAltResult;
+use rhai_state::errors::shared_text;
 use rhai_tree::position::Position;
-use rhai_tree::{Shared, Text};
 use rhai_values::base::value::{Dynamic, Host, Union};
-use std::alloc::{AllocError, Global};
+use std::alloc::Global;
 
 /// Returns the text of a fault's error.
 fn message<'a>(fault: ArithmeticFault) -> &'a str
@@ -24,14 +24,6 @@ fn message<'a>(fault: ArithmeticFault) -> &'a str
         ArithmeticFault::BadShift => "bad shift",
         ArithmeticFault::BadExponent => "bad exponent",
     }
-}
-
-/// Copies a text into a shared text of its own.
-fn shared_text(alloc: Global, text: &str) -> Result<Shared<Text>, AllocError>
-    ensures { IfOk result (λ shared. shared ≡ text.now) }
-{
-    let text = Text::from_str(alloc, text)?;
-    Shared::new(alloc, text)
 }
 
 /// Builds the error of a fault, `ErrorOutOfMemory` where there is no memory for its text.

@@ -34,9 +34,9 @@ pub fn assign_integers<H: Host>(op: Token, x: i64, y: i64) -> Option<i64>
     ensures { result ≡ integer_given {H = H} (spec.op_assign_at op (value.Int x) (value.Int y)) }
 {
     match op {
-        Token::Plus => checked_sum::<H>(x, y),
-        Token::Minus => checked_difference::<H>(x, y),
-        Token::Multiply => checked_product::<H>(x, y),
+        Token::Plus => x.checked_add(y),
+        Token::Minus => x.checked_sub(y),
+        Token::Multiply => x.checked_mul(y),
         Token::Divide => integer_or_none::<H>(quotient(x, y)),
         Token::Modulo => integer_or_none::<H>(remainder(x, y)),
         Token::PowerOf => integer_or_none::<H>(power(x, y)),
@@ -47,30 +47,6 @@ pub fn assign_integers<H: Host>(op: Token, x: i64, y: i64) -> Option<i64>
         Token::XOr => Some(x ^ y),
         _ => None,
     }
-}
-
-/// Adds two integers, None where the sum does not fit.
-#[inline(always)]
-fn checked_sum<H: Host>(x: i64, y: i64) -> Option<i64>
-    ensures { result ≡ integer_given {H = H} (spec.number (exact.sum x y)) }
-{
-    x.checked_add(y)
-}
-
-/// Subtracts the second integer from the first, None where the difference does not fit.
-#[inline(always)]
-fn checked_difference<H: Host>(x: i64, y: i64) -> Option<i64>
-    ensures { result ≡ integer_given {H = H} (spec.number (exact.difference x y)) }
-{
-    x.checked_sub(y)
-}
-
-/// Multiplies two integers, None where the product does not fit.
-#[inline(always)]
-fn checked_product<H: Host>(x: i64, y: i64) -> Option<i64>
-    ensures { result ≡ integer_given {H = H} (spec.number (exact.product x y)) }
-{
-    x.checked_mul(y)
 }
 
 /// Takes the integer of a result, None where there is none.

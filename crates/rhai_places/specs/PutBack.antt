@@ -2,7 +2,7 @@
 use Rattle.std.specs.Prelude.{◌≡◌, ℕ, ◌%◌, ℤ, Bool, true, false, if◌then◌else◌, List, slice_set, Option, Some, None, option_map, codes, []}
 use Rattle.std.specs.Int.{w64, cast_unsigned}
 use Rattle.rhai_places.specs.Types.{Dynamic, EvalAltResult, Position, Spot, Union}
-use Rattle.rhai_state.specs.Errors.{is_out_of_memory}
+use Rattle.rhai_state.specs.Errors.{is_out_of_memory, mismatch}
 use Rattle.rhai_values.specs.TypeNames.{own_type_name}
 use Rattle.rhai_values.specs.declared.base.value.Union.TheVariants as value
 use Rattle.rhai_values.specs.declared.base.value.FnPtrKind.TheOpen as layer
@@ -11,7 +11,6 @@ use Rattle.rhai_places.specs.declared.spot.Spot.TheVariants as spot
 use Rattle.rhai_places.specs.Parts.{is_part}
 use Rattle.rhai_places.specs.Bits.{with_bit, with_field}
 use Rattle.rhai_places.specs.Characters.{with_char, with_slice}
-use Rattle.rhai_places.specs.Refusals.{mismatch}
 
 -- the low eight bits of an integer
 abbrev pub low_byte : ℤ → ℕ

@@ -1,7 +1,7 @@
 -- The errors of what is refused, and what holds of an error where memory may have run out.
 use Rattle.std.specs.Prelude.{◌≡◌, ℕ, false, List, Option, codes}
-use Rattle.rhai_places.specs.Types.{Access, Dynamic, EvalAltResult, Position, Refusal}
-use Rattle.rhai_state.specs.Errors.{indexing_text, is_out_of_memory}
+use Rattle.rhai_places.specs.Types.{Access, Dynamic, EvalAltResult, Refusal}
+use Rattle.rhai_state.specs.Errors.{indexing_text, is_out_of_memory, mismatch}
 use Rattle.rhai_values.specs.TypeNames.{type_name_of}
 use Rattle.rhai_state.specs.declared.error.EvalAltResult.TheVariants as error
 use Rattle.rhai_places.specs.declared.spot.Refusal.TheVariants as refusal
@@ -10,10 +10,6 @@ module _ {H : Type 0} where
   -- an error is the one told, or memory ran out
   abbrev pub IsTold : (told e : EvalAltResult H) → Type 0
   IsTold told e = is_out_of_memory e ≡ false → e ≡ told
-
-  -- the error of a value of another type than the one that is wanted
-  abbrev pub mismatch : (wanted found : List ℕ) → Position → EvalAltResult H
-  mismatch wanted found position = error.ErrorMismatchDataType (record { wanted = wanted; found = found }) position
 
   -- the error of an index that is refused
   module _ (host_name : H → List ℕ) (cells : List (Option (Dynamic H))) (how : Access) (source index : Dynamic H) where

@@ -21,13 +21,14 @@ ghost use Rattle.rhai_places.specs.Parts.{IsThere, is_slice};
 ghost use Rattle.rhai_places.specs.Refusals.{IsTold};
 ghost use Rattle.rhai_places.specs.Targets.{place_at, part_at as part_of_spot, IsFit};
 
-use crate::errors::{data_race, indexing_error, property_not_found};
+use crate::errors::indexing_error;
 use crate::locate::locate;
 use crate::part::read_part;
 use crate::place::place_mut;
 use crate::spot::{Access, Spot};
 use crate::target::{Part, Target};
 use rhai_state::error::EvalAltResult;
+use rhai_state::errors::{data_race, property_not_found};
 use rhai_tree::{Shared, Table, Text};
 use rhai_values::base::value::{Dynamic, Host, Union};
 use rhai_values::cells::CellStore;

@@ -1,5 +1,6 @@
 //! Chains over arrays, integers, texts and maps.
 
+use crate::making::Making;
 use crate::parts::Part::{
     Array, Assign, AssignBy, Block, BlockValue, Character, Const, Dot, DotUnlessUnit, Index,
     IndexOn, Int, Let, Map, Method, Ones, Operator, Property, Text, Unit, Value, Variable, While,
@@ -278,6 +279,45 @@ pub const ITEM_OF_AN_ITEM_ASSIGNED: &[Part<'_>] = &[
     Variable("a", 1, 40),
     Value,
 ];
+
+/// Builds a loop that increases the first item of an array by a variable, once in a turn or twice.
+/// It is `let a = [1]; let v = 1; let n = 1000000; while n > 0 { a[0] += v; n -= 1; }`, with `turns` instead of the
+/// million.
+pub fn first_item_increased(
+    alloc: Global,
+    turns: i64,
+    is_twice: bool,
+) -> Result<Items<Stmt>, AllocError> {
+    let before = [
+        Ones(1, 10, 9),
+        Let("a", 5, 1),
+        Int(1, 22),
+        Let("v", 18, 14),
+        Int(turns, 33),
+        Let("n", 29, 25),
+        Variable("n", 1, 48),
+        Int(0, 52),
+        Operator(Token::GreaterThan, 50),
+    ];
+    let increase = [
+        Variable("a", 3, 56),
+        Int(0, 58),
+        Index(57),
+        Variable("v", 2, 64),
+        AssignBy(Token::Plus, 61),
+    ];
+    let decrease = [Variable("n", 1, 67), Int(1, 72), AssignBy(Token::Minus, 69)];
+    let mut making = Making::new(alloc);
+    making.add_all(&before)?;
+    making.add_all(&increase)?;
+    if is_twice {
+        making.add_all(&increase)?;
+    }
+    making.add_all(&decrease)?;
+    making.add(Block(if is_twice { 3 } else { 2 }, 54, 75))?;
+    making.add(While(42))?;
+    Ok(making.finish_statements())
+}
 
 /// Builds a loop that increases the last item of an array.
 /// It is `let a = [1]; let i = 0; let n = 1000000; while n > 0 { a[i] += 1; n -= 1; } a[i]`, with `length`

@@ -89,6 +89,24 @@ impl Making {
         }
     }
 
+    /// Hands over the statements alone.
+    pub(crate) fn finish_statements(self) -> Items<Stmt> {
+        let TreeParts {
+            statements,
+            functions,
+        } = self.finish();
+        drop(functions);
+        statements
+    }
+
+    /// Adds parts, one after another.
+    pub(crate) fn add_all(&mut self, parts: &[Part<'_>]) -> Result<(), AllocError> {
+        for part in parts {
+            self.add(*part)?;
+        }
+        Ok(())
+    }
+
     /// Adds a part.
     pub(crate) fn add(&mut self, part: Part<'_>) -> Result<(), AllocError> {
         let made = match part {

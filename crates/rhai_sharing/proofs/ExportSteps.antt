@@ -11,13 +11,14 @@ use Rattle.rhai_state.specs.declared.scope.ScopeEntry.{ScopeEntry}
 use Rattle.rhai_state.specs.Errors.{is_out_of_memory}
 use Rattle.rhai_state.specs.Scope.{aliased, index_of, name_of, with_alias}
 use Rattle.rhai_machine.specs.machine.Machine.{Go}
-use Rattle.rhai_machine.specs.machine.Memory.{here}
+use Rattle.rhai_machine.specs.machine.Memory.{here, Leads}
 use Rattle.rhai_machine.specs.language.Exports.{alias_or, exported}
 use Rattle.rhai_machine.specs.language.Frames.{Back, Fail, Frame, OpenStmt, core}
-use Rattle.rhai_machine.specs.language.Runs.{at, Goes}
-use Rattle.rhai_machine.specs.language.Setting.{Rules}
+use Rattle.rhai_machine.specs.language.Runs.{at}
+use Rattle.rhai_machine.specs.language.Setting.{Rules, cut}
 use Rattle.rhai_machine.specs.language.State.{State}
 use Rattle.rhai_machine.specs.language.Values.{unit_value}
+use Rattle.rhai_machine.specs.language.Language.{machine}
 use Rattle.rhai_steps.proofs.Pieces.{or_runs_out, step_by}
 
 -- an alias is no name
@@ -33,19 +34,21 @@ module _ {S H : Type 0} (rules : Rules S H) (ident : Ident) (alias : Option Iden
   -- no variable has the name
   pub not_found : (e : EvalAltResult H) → index_of ident.name l.local.scope ≡ None →
       (is_out_of_memory e ≡ false → e ≡ error.ErrorVariableNotFound ident.name ident.pos) →
-      Goes rules (at (OpenStmt (layer.Export ident alias pos) restoring) k l) (at (Fail e) k l)
+      Leads (machine rules) (cut rules) (at (OpenStmt (layer.Export ident alias pos) restoring) k l) (at (Fail e) k l)
   not_found e none told = or_runs_out rules (OpenStmt (layer.Export ident alias pos) restoring) k l e (λ memory.
       step_by rules _ _ (Go (core (Fail e) k l.local))
       (rw none (ap (λ (x : EvalAltResult H). Go (core (Fail x) k l.local)) (sym (told memory)))) here)
 
   -- there is no memory for the alias
   pub no_memory : (where_ : Position) →
-      Goes rules (at (OpenStmt (layer.Export ident alias pos) restoring) k l) (at (Fail (error.ErrorOutOfMemory where_)) k l)
-  no_memory where_ = or_runs_out rules (OpenStmt (layer.Export ident alias pos) restoring) k l (error.ErrorOutOfMemory where_) (λ memory. cc)
+      Leads (machine rules) (cut rules) (at (OpenStmt (layer.Export ident alias pos) restoring) k l)
+      (at (Fail (error.ErrorOutOfMemory where_)) k l)
+  no_memory where_ = or_runs_out rules (OpenStmt (layer.Export ident alias pos) restoring) k l (error.ErrorOutOfMemory where_)
+      (λ memory. cc)
 
   -- its newest variable has the alias
   pub exports : (i : ℕ) → index_of ident.name l.local.scope ≡ Some i →
-      Goes rules (at (OpenStmt (layer.Export ident alias pos) restoring) k l)
+      Leads (machine rules) (cut rules) (at (OpenStmt (layer.Export ident alias pos) restoring) k l)
       (at (Back unit_value) k (record l { local = exported i (alias_or ident.name alias) l.local }))
   exports i found =
       step_by rules _ _ (Go (core (Back unit_value) k (exported i (alias_or ident.name alias) l.local))) (rw found refl) here

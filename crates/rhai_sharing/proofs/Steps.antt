@@ -14,14 +14,15 @@ use Rattle.rhai_state.specs.Errors.{is_out_of_memory}
 use Rattle.rhai_state.specs.Scope.{index_of, value_in}
 use Rattle.rhai_machine.specs.machine.Machine.{Go}
 use Rattle.rhai_machine.specs.machine.Point.{after}
-use Rattle.rhai_machine.specs.machine.Memory.{here, next}
+use Rattle.rhai_machine.specs.machine.Memory.{here, next, Leads}
 use Rattle.rhai_machine.specs.language.Frames.{Back, Fail, Frame, core}
 use Rattle.rhai_machine.specs.language.Frames.{Share}
-use Rattle.rhai_machine.specs.language.Runs.{at, Goes}
-use Rattle.rhai_machine.specs.language.Setting.{Rules}
+use Rattle.rhai_machine.specs.language.Runs.{at}
+use Rattle.rhai_machine.specs.language.Setting.{Rules, cut}
 use Rattle.rhai_machine.specs.language.Sharing.{shared}
 use Rattle.rhai_machine.specs.language.State.{Held, Local, State}
 use Rattle.rhai_machine.specs.language.Values.{unit_value}
+use Rattle.rhai_machine.specs.language.Language.{machine}
 use Rattle.rhai_steps.specs.States.{local_of, state_of}
 use Rattle.rhai_steps.proofs.Pieces.{or_runs_out, step_by}
 
@@ -48,7 +49,7 @@ left_so {H = H} t old new before behind held m rest is =
     rw (is, ap (λ (global : GlobalRuntimeState H). global.num_operations) rest) refl
 
 module _ {S H : Type 0} (rules : Rules S H) (k : List (Frame H)) where
-  pub shares_none : (l : State S H) → Goes rules (at (Share []) k l) (at (Back unit_value) k l)
+  pub shares_none : (l : State S H) → Leads (machine rules) (cut rules) (at (Share []) k l) (at (Back unit_value) k l)
   unfolding after
   shares_none l = next here
 
@@ -56,18 +57,18 @@ module _ {S H : Type 0} (rules : Rules S H) (k : List (Frame H)) where
     -- a variable that is there
     pub shares_one : (index : ℕ) (v : Dynamic H) (new : State S H) → index_of variable.ident.name l.local.scope ≡ Some index →
         value_in l.local.scope (Some index) ≡ Some v → new ≡ record l { local = shared index v.value v l.local } →
-        Goes rules (at (Share (variable ∷ rest)) k l) (at (Share rest) k new)
+        Leads (machine rules) (cut rules) (at (Share (variable ∷ rest)) k l) (at (Share rest) k new)
     shares_one index v new is there same = step_by rules _ _ (Go (core (Share rest) k (shared index v.value v l.local)))
         (rw (is, there) refl) (rw same here)
 
     -- one that is not
     pub shares_not : (e : EvalAltResult H) → index_of variable.ident.name l.local.scope ≡ None →
         (is_out_of_memory e ≡ false → e ≡ error.ErrorVariableNotFound variable.ident.name variable.ident.pos) →
-        Goes rules (at (Share (variable ∷ rest)) k l) (at (Fail e) k l)
+        Leads (machine rules) (cut rules) (at (Share (variable ∷ rest)) k l) (at (Fail e) k l)
     shares_not e is told = or_runs_out rules (Share (variable ∷ rest)) k l e (λ m.
         step_by rules _ _ (Go (core (Fail e) k l.local)) (rw (is, told m) refl) here)
 
     -- no memory for its cell
     pub shares_without_memory : (e : EvalAltResult H) → is_out_of_memory e ≡ true →
-        Goes rules (at (Share (variable ∷ rest)) k l) (at (Fail e) k l)
+        Leads (machine rules) (cut rules) (at (Share (variable ∷ rest)) k l) (at (Fail e) k l)
     shares_without_memory e is_out = or_runs_out rules (Share (variable ∷ rest)) k l e (λ m. absurd (true≢false (sym is_out ∙ m)))

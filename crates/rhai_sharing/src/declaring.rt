@@ -34,6 +34,17 @@ use rhai_values::base::value::{Dynamic, Host};
 use std::alloc::Global;
 use std::num::NonZeroUsize;
 
+/// A declaration of a variable: its name, the entry that it overwrites, if it does, its flags, whether its block takes back
+/// what it adds, and where it stands.
+#[derive(Clone, Copy)]
+pub struct Declaration<'a> {
+    pub ident: &'a Ident,
+    pub index: Option<NonZeroUsize>,
+    pub options: ASTFlags,
+    pub restoring: bool,
+    pub at: Position,
+}
+
 /// Checks whether a variable may be declared; one that overwrites another needs no room. Where it may not,
 /// the run stops.
 ///
@@ -99,17 +110,14 @@ fn publish<H: Host>(
     global: &mut GlobalRuntimeState<H>,
     scope: &mut Scope<H>,
     at: usize,
-    name: &Shared<Text>,
-    options: ASTFlags,
-    restoring: bool,
-    pos: Position,
+    declaration: &Declaration<'_>,
 ) -> Result<(), EvalAltResult<H>>
     requires { at < length (entries_of scope.old) }
     ensures aliased { OnOk result (entries_of scope.new
-        ≡ own_alias (exported options) (entries_of scope.old) at name.now) }
+        ≡ own_alias (exported declaration.now.options) (entries_of scope.old) at declaration.now.ident.now.name) }
     ensures entered { (v : _) (s : _) (held : _) → OnOk result
         (option_map value_of (slice_get (entries_of scope.old) at) ≡ Some v → local_of global.new s held
-        ≡ constant_core (enters options restoring (local_of global.old s held)) name.now v
+        ≡ constant_core (enters declaration.now.options declaration.now.restoring (local_of global.old s held)) declaration.now.ident.now.name v
         (local_of global.old s held)) }
     ensures counts { global.new.num_operations ≡ global.old.num_operations }
     ensures sight { KeepsSight global.old global.new }
@@ -118,9 +126,23 @@ fn publish<H: Host>(
     ensures same_scope { OnErr result (entries_of scope.new ≡ entries_of scope.old) }
 {
     let count = scope.entries()[at].aliases.len();
-    add_own_alias(scope, at, name, options, pos)?;
+    add_own_alias(
+        scope,
+        at,
+        &declaration.ident.name,
+        declaration.options,
+        declaration.at,
+    )?;
     let value = scope.value_at(at);
-    let entered = enter_constant(alloc, global, name, value, options, restoring, pos);
+    let entered = enter_constant(
+        alloc,
+        global,
+        &declaration.ident.name,
+        value,
+        declaration.options,
+        declaration.restoring,
+        declaration.at,
+    );
     if let Err(error) = entered {
         scope.truncate_aliases(at, count);
         return Err(error);
@@ -137,14 +159,11 @@ fn add_variable<H: Host>(
     global: &mut GlobalRuntimeState<H>,
     scope: &mut Scope<H>,
     value: Dynamic<H>,
-    ident: &Ident,
-    options: ASTFlags,
-    restoring: bool,
-    pos: Position,
+    declaration: &Declaration<'_>,
 ) -> Result<(), EvalAltResult<H>>
-    ensures declares { (held : _) → OnOk result (Declares value ident.now None options restoring
+    ensures declares { (held : _) → OnOk result (Declares value declaration.now.ident.now None declaration.now.options declaration.now.restoring
         (local_of global.old scope.old held) (local_of global.new scope.new held)) }
-    ensures names { OnOk result (names_in scope.new ≡ var_names None ident.now.name (names_in scope.old)) }
+    ensures names { OnOk result (names_in scope.new ≡ var_names None declaration.now.ident.now.name (names_in scope.old)) }
     ensures counts { global.new.num_operations ≡ global.old.num_operations }
     ensures sight { KeepsSight global.old global.new }
     ensures refused { IfErr result (λ e. is_out_of_memory e ≡ true) }
@@ -152,17 +171,14 @@ fn add_variable<H: Host>(
     ensures same_scope { OnErr result (entries_of scope.new ≡ entries_of scope.old) }
 {
     let at = scope.len();
-    define_variable(scope, ident, mode_of(options), value, pos)?;
-    let published = publish(
-        alloc,
-        global,
+    define_variable(
         scope,
-        at,
-        &ident.name,
-        options,
-        restoring,
-        pos,
-    );
+        declaration.ident,
+        mode_of(declaration.options),
+        value,
+        declaration.at,
+    )?;
+    let published = publish(alloc, global, scope, at, declaration);
     if let Err(error) = published {
         scope.rewind(at);
         return Err(error);
@@ -182,29 +198,42 @@ fn overwrite_none<H: Host>(
     alloc: Global,
     global: &mut GlobalRuntimeState<H>,
     value: &Dynamic<H>,
-    ident: &Ident,
-    options: ASTFlags,
-    restoring: bool,
-    pos: Position,
+    declaration: &Declaration<'_>,
 ) -> Result<(), EvalAltResult<H>>
-    ensures declares { (offset : _) (scope : _) (held : _) → index_of ident.now.name (entries_of scope) ≡ None →
-        OnOk result (Declares value.now ident.now (Some offset) options restoring
+    ensures declares { (offset : _) (scope : _) (held : _) → index_of declaration.now.ident.now.name (entries_of scope) ≡ None →
+        OnOk result (Declares value.now declaration.now.ident.now (Some offset) declaration.now.options declaration.now.restoring
         (local_of global.old scope held) (local_of global.new scope held)) }
-    ensures misses { (offset : _) (scope : _) (held : _) → index_of ident.now.name (entries_of scope) ≡ None →
-        IfErr result (λ e. is_out_of_memory e ≡ false → Misses value.now ident.now (Some offset) options
-        restoring e (local_of global.old scope held) (local_of global.new scope held)) }
+    ensures misses { (offset : _) (scope : _) (held : _) → index_of declaration.now.ident.now.name (entries_of scope) ≡ None →
+        IfErr result (λ e. is_out_of_memory e ≡ false → Misses value.now declaration.now.ident.now (Some offset) declaration.now.options
+        declaration.now.restoring e (local_of global.old scope held) (local_of global.new scope held)) }
     ensures counts { global.new.num_operations ≡ global.old.num_operations }
     ensures sight { KeepsSight global.old global.new }
     ensures same { IfErr result (λ e. is_out_of_memory e ≡ true → global.new ≡ global.old) }
 {
-    if !is_exported(options) {
-        return enter_constant(alloc, global, &ident.name, value, options, restoring, pos);
+    if !is_exported(declaration.options) {
+        return enter_constant(
+            alloc,
+            global,
+            &declaration.ident.name,
+            value,
+            declaration.options,
+            declaration.restoring,
+            declaration.at,
+        );
     }
-    let Ok(name) = ident.name.share() else {
-        return Err(EvalAltResult::ErrorOutOfMemory(pos));
+    let Ok(name) = declaration.ident.name.share() else {
+        return Err(EvalAltResult::ErrorOutOfMemory(declaration.at));
     };
-    match enter_constant(alloc, global, &ident.name, value, options, restoring, pos) {
-        Ok(()) => Err(EvalAltResult::ErrorVariableNotFound(name, ident.pos)),
+    match enter_constant(
+        alloc,
+        global,
+        &declaration.ident.name,
+        value,
+        declaration.options,
+        declaration.restoring,
+        declaration.at,
+    ) {
+        Ok(()) => Err(EvalAltResult::ErrorVariableNotFound(name, declaration.ident.pos)),
         Err(error) => Err(error),
     }
 }
@@ -221,40 +250,28 @@ fn overwrite_variable<H: Host>(
     global: &mut GlobalRuntimeState<H>,
     scope: &mut Scope<H>,
     mut value: Dynamic<H>,
-    ident: &Ident,
+    declaration: &Declaration<'_>,
     offset: NonZeroUsize,
-    options: ASTFlags,
-    restoring: bool,
-    pos: Position,
 ) -> Result<(), EvalAltResult<H>>
-    requires { AgreesAt global.old scope.old (variable_is_good (Some offset) ident.now.name []) }
-    ensures declares { (held : _) → OnOk result (Declares value ident.now (Some offset) options restoring
+    requires { AgreesAt global.old scope.old (variable_is_good (Some offset) declaration.now.ident.now.name []) }
+    ensures declares { (held : _) → OnOk result (Declares value declaration.now.ident.now (Some offset) declaration.now.options declaration.now.restoring
         (local_of global.old scope.old held) (local_of global.new scope.new held)) }
     ensures names { OnOk result (names_in scope.new
-        ≡ var_names (Some offset) ident.now.name (names_in scope.old)) }
+        ≡ var_names (Some offset) declaration.now.ident.now.name (names_in scope.old)) }
     ensures counts { global.new.num_operations ≡ global.old.num_operations }
     ensures sight { KeepsSight global.old global.new }
-    ensures misses { (held : _) → IfErr result (λ e. is_out_of_memory e ≡ false → Misses value ident.now
-        (Some offset) options restoring e (local_of global.old scope.old held)
+    ensures misses { (held : _) → IfErr result (λ e. is_out_of_memory e ≡ false → Misses value declaration.now.ident.now
+        (Some offset) declaration.now.options declaration.now.restoring e (local_of global.old scope.old held)
         (local_of global.new scope.new held)) }
     ensures same { IfErr result (λ e. is_out_of_memory e ≡ true → global.new ≡ global.old) }
     ensures same_scope { OnErr result (entries_of scope.new ≡ entries_of scope.old) }
 {
-    let Some(at) = index_of_variable(global, scope, Some(offset), &ident.name) else {
-        return overwrite_none(alloc, global, &value, ident, options, restoring, pos);
+    let Some(at) = index_of_variable(global, scope, Some(offset), &declaration.ident.name) else {
+        return overwrite_none(alloc, global, &value, declaration);
     };
-    value.set_access_mode(mode_of(options));
+    value.set_access_mode(mode_of(declaration.options));
     let before = scope.replace_value(at, value);
-    let published = publish(
-        alloc,
-        global,
-        scope,
-        at,
-        &ident.name,
-        options,
-        restoring,
-        pos,
-    );
+    let published = publish(alloc, global, scope, at, declaration);
     if let Err(error) = published {
         scope.replace_value(at, before);
         return Err(error);
@@ -277,31 +294,25 @@ pub fn declare<H: Host>(
     scope: &mut Scope<H>,
     out: &mut Dynamic<H>,
     place: &mut Option<EvalAltResult<H>>,
-    ident: &Ident,
-    index: Option<NonZeroUsize>,
-    options: ASTFlags,
-    restoring: bool,
-    pos: Position,
+    declaration: &Declaration<'_>,
 ) -> bool
-    requires { AgreesAt global.old scope.old (variable_is_good index ident.now.name []) }
+    requires { AgreesAt global.old scope.old (variable_is_good declaration.now.index declaration.now.ident.now.name []) }
     ensures value { IsTrue result → out.new ≡ unit }
-    ensures declares { (held : _) → IsTrue result → Declares out.old ident.now index options restoring
+    ensures declares { (held : _) → IsTrue result → Declares out.old declaration.now.ident.now declaration.now.index declaration.now.options declaration.now.restoring
         (local_of global.old scope.old held) (local_of global.new scope.new held) }
-    ensures names { IsTrue result → names_in scope.new ≡ var_names index ident.now.name (names_in scope.old) }
+    ensures names { IsTrue result → names_in scope.new ≡ var_names declaration.now.index declaration.now.ident.now.name (names_in scope.old) }
     ensures counts { global.new.num_operations ≡ global.old.num_operations }
     ensures sight { KeepsSight global.old global.new }
     ensures misses { (held : _) → result ≡ false → is_out_of_memory (error_in place.new) ≡ false →
-        Misses out.old ident.now index options restoring (error_in place.new)
+        Misses out.old declaration.now.ident.now declaration.now.index declaration.now.options declaration.now.restoring (error_in place.new)
         (local_of global.old scope.old held) (local_of global.new scope.new held) }
     ensures same { result ≡ false → is_out_of_memory (error_in place.new) ≡ true → global.new ≡ global.old }
     ensures same_scope { result ≡ false → entries_of scope.new ≡ entries_of scope.old }
 {
     let value = take_value(out);
-    let declared = match index {
-        None => add_variable(alloc, global, scope, value, ident, options, restoring, pos),
-        Some(offset) => overwrite_variable(
-            alloc, global, scope, value, ident, offset, options, restoring, pos,
-        ),
+    let declared = match declaration.index {
+        None => add_variable(alloc, global, scope, value, declaration),
+        Some(offset) => overwrite_variable(alloc, global, scope, value, declaration, offset),
     };
     match declared {
         Ok(()) => true,

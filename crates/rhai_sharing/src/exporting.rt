@@ -7,17 +7,16 @@ ghost use Rattle.rhai_state.specs.Scope.{names_in};
 ghost use Rattle.rhai_machine.specs.language.Exports.{alias_or as alias_of};
 ghost use Rattle.rhai_machine.specs.language.Frames.{OpenStmt};
 ghost use Rattle.rhai_machine.specs.language.Runs.{Runs};
-ghost use Rattle.rhai_machine.specs.language.Setting.{rules_of};
+ghost use Rattle.rhai_steps.specs.Sessions.{under};
 ghost use Rattle.rhai_steps.specs.States.{state_of};
 ghost use Rattle.rhai_context.specs.Ends.{came};
 
 use rhai_context::ends::{put_unit, stop};
 use rhai_state::error::EvalAltResult;
-use rhai_state::limits::Limits;
+use rhai_state::errors::variable_not_found;
 use rhai_state::scope::Scope;
-use rhai_state::state::GlobalRuntimeState;
+use rhai_state::session::Session;
 use rhai_state::table::NativeTable;
-use rhai_steps::errors::variable_not_found;
 use rhai_tree::expr::Ident;
 use rhai_tree::{Shared, Text};
 use rhai_values::base::value::{Dynamic, Host};
@@ -45,8 +44,7 @@ fn alias_or<'a>(own: &'a Shared<Text>, alias: &'a Option<Ident>) -> &'a Shared<T
 /// At the name: `ErrorVariableNotFound` where no variable has it, and `ErrorOutOfMemory`; then nothing is
 /// changed.
 pub fn export_variable<H: Host, T: NativeTable<H>>(
-    _limits: &Limits,
-    _global: &GlobalRuntimeState<H>,
+    session: &Session<'_, H>,
     _table: &T,
     scope: &mut Scope<H>,
     out: &mut Dynamic<H>,
@@ -55,11 +53,11 @@ pub fn export_variable<H: Host, T: NativeTable<H>>(
     alias: &Option<Ident>,
 ) -> bool
     ensures names { names_in scope.new ≡ names_in scope.old }
-    ensures runs { (offer : _) (held : _) (pos : _) (restoring : _) →
-        Runs (rules_of _limits.now H.name_of offer T.natives)
+    ensures runs { (global : _) (held : _) (pos : _) (restoring : _) →
+        Runs (under H.name_of session.now T.natives)
         (OpenStmt (layer.Export ident.now alias.now pos) restoring)
-        (state_of (T.state _table.now) _global.now scope.old held)
-        (came result out.new place.new) (state_of (T.state _table.now) _global.now scope.new held) }
+        (state_of (T.state _table.now) global scope.old held)
+        (came result out.new place.new) (state_of (T.state _table.now) global scope.new held) }
 {
     let Some(index) = scope.place_of(None, ident.name.get().as_str()) else {
         return stop(place, variable_not_found(&ident.name, ident.pos));

@@ -2,17 +2,17 @@
 //! of upstream's `eval/stmt.rs`; the contracts speak of the machine's runs.
 #![tactic(auto)]
 
-ghost use Rattle.std.specs.Prelude.{◌≡◌, ◌<◌, IfErr, IfSome, IsTrue, OnErr, OnOk, Some, length, true};
+ghost use Rattle.std.specs.Prelude.{◌≡◌, ◌<◌, IfErr, IfSome, OnErr, OnOk, Some, length, true};
 ghost use Rattle.rhai_tree.specs.Frame.{shared_resolve};
 ghost use Rattle.rhai_values.specs.Cells.{cells_of};
 ghost use Rattle.rhai_state.specs.Errors.{is_out_of_memory};
 ghost use Rattle.rhai_state.specs.Scope.{entries_of, names_in, value_in};
 ghost use Rattle.rhai_machine.specs.language.Frames.{Share};
 ghost use Rattle.rhai_machine.specs.language.Runs.{Runs};
-ghost use Rattle.rhai_machine.specs.language.Setting.{rules_of};
 ghost use Rattle.rhai_machine.specs.language.Sharing.{handle_of as handle_to, shared};
 ghost use Rattle.rhai_machine.specs.language.Values.{is_handle as leads_to_cell};
 ghost use Rattle.rhai_steps.specs.Agreement.{AgreesAt, KeepsSight};
+ghost use Rattle.rhai_steps.specs.Sessions.{under};
 ghost use Rattle.rhai_steps.specs.States.{local_of, state_of};
 ghost use Rattle.rhai_context.specs.Ends.{came};
 
@@ -21,11 +21,11 @@ pub mod exporting;
 
 use rhai_context::ends::settle;
 use rhai_state::error::EvalAltResult;
-use rhai_state::limits::Limits;
+use rhai_state::errors::variable_not_found;
 use rhai_state::scope::Scope;
+use rhai_state::session::Session;
 use rhai_state::state::GlobalRuntimeState;
 use rhai_state::table::NativeTable;
-use rhai_steps::errors::variable_not_found;
 use rhai_steps::values::unit_value;
 use rhai_steps::variables::index_of_variable;
 use rhai_tree::expr::SharedVariable;
@@ -86,7 +86,7 @@ fn share_value<H: Host>(
 
 /// Shares variables, one after the other, each the newest of its name. The table is not called.
 fn share_each<H: Host, T: NativeTable<H>>(
-    limits: &Limits,
+    session: &Session<'_, H>,
     global: &mut GlobalRuntimeState<H>,
     table: &T,
     scope: &mut Scope<H>,
@@ -96,7 +96,7 @@ fn share_each<H: Host, T: NativeTable<H>>(
     ensures rest { global.new ≡ record global.old { cells = global.new.cells } }
     ensures sight { KeepsSight global.old global.new }
     ensures names { names_in scope.new ≡ names_in scope.old }
-    ensures runs { (offer : _) (held : _) → Runs (rules_of limits.now H.name_of offer T.natives)
+    ensures runs { (held : _) → Runs (under H.name_of session.now T.natives)
         (Share variables.now) (state_of (T.state table.now) global.old scope.old held) result
         (state_of (T.state table.now) global.new scope.new held) }
 {
@@ -118,7 +118,7 @@ fn share_each<H: Host, T: NativeTable<H>>(
 /// shared.
 #[inline(never)]
 pub fn share_variables<H: Host, T: NativeTable<H>>(
-    limits: &Limits,
+    session: &Session<'_, H>,
     global: &mut GlobalRuntimeState<H>,
     table: &T,
     scope: &mut Scope<H>,
@@ -130,10 +130,10 @@ pub fn share_variables<H: Host, T: NativeTable<H>>(
     ensures rest { global.new ≡ record global.old { cells = global.new.cells } }
     ensures sight { KeepsSight global.old global.new }
     ensures names { names_in scope.new ≡ names_in scope.old }
-    ensures runs { (offer : _) (held : _) → Runs (rules_of limits.now H.name_of offer T.natives)
+    ensures runs { (held : _) → Runs (under H.name_of session.now T.natives)
         (Share variables.now) (state_of (T.state table.now) global.old scope.old held)
         (came result out.new place.new) (state_of (T.state table.now) global.new scope.new held) }
 {
-    let answer = share_each(limits, global, table, scope, variables);
+    let answer = share_each(session, global, table, scope, variables);
     settle(place, out, answer)
 }

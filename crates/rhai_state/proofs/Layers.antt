@@ -22,7 +22,8 @@ each-map f xs = flat_map-map (λ h. h) f xs
 
 module _ {H : Type 0} where
   abbrev union_holds : Union H → ReachedList
-  union_holds = fold-Union H ReachedList ReachedList ReachedList ReachedList ReachedList ReachedList ReachedList ReachedList (in_kind nothing) (in_union nothing) in_value in_environ in_pointer
+  union_holds = fold-Union H ReachedList ReachedList ReachedList ReachedList ReachedList ReachedList ReachedList ReachedList
+      (in_kind nothing) (in_union nothing) in_value in_environ in_pointer
       in_import in_module in_function
 
   value-union : (d : Dynamic H) → value_holds d ≡ union_holds d.value

@@ -1,6 +1,8 @@
 -- What an error says of itself: its name, its position, and whether a script may catch it.
-use Rattle.std.specs.Prelude.{ℕ, Bool, true, false, not, ◌||◌, List, ◌++◌, codes}
+use Rattle.std.specs.Prelude.{ℕ, Bool, true, false, not, ◌||◌, List, ◌++◌, [], codes}
+use Rattle.rhai_tree.specs.declared.expr.Expr.TheOpen as layer
 use Rattle.rhai_tree.specs.declared.position.Position.{Position}
+use Rattle.rhai_tree.specs.Layers.{ExprLayer}
 use Rattle.rhai_state.specs.declared.error.EvalAltResult.{EvalAltResult, ErrorInFunctionCall'}
 use Rattle.rhai_state.specs.declared.error.EvalAltResult.TheVariants as error
 use Rattle.rhai_state.specs.declared.error.WayOut.{WayOut}
@@ -10,7 +12,16 @@ use Rattle.rhai_state.specs.declared.error.WayOut.TheVariants as way
 abbrev pub indexing_text : (object index : List ℕ) → List ℕ
 indexing_text object index = object ++ codes " [" ++ index ++ codes "]"
 
+-- the name of a variable, the empty text of anything else
+abbrev pub root_name : ExprLayer → List ℕ
+root_name (layer.Variable offset name namespace pos) = name
+root_name _ = []
+
 module _ {H : Type 0} where
+  -- the error of a value of another type than the one that is wanted
+  abbrev pub mismatch : (wanted found : List ℕ) → Position → EvalAltResult H
+  mismatch wanted found at = error.ErrorMismatchDataType (record { wanted = wanted; found = found }) at
+
   -- the position of an error
   abbrev pub position_of : EvalAltResult H → Position
   position_of (error.ErrorVariableExists text at) = at

@@ -30,27 +30,33 @@ module _ {H : Type 0} where
   -- ---- what stands in each of them, from what stands in its parts
 
   -- in a value stands what stands in its content, whatever its mode
-  abbrev pub in_value : layer.Dynamic-F H ReachedList ReachedList ReachedList ReachedList ReachedList ReachedList ReachedList ReachedList → ReachedList
+  abbrev pub in_value : layer.Dynamic-F H ReachedList ReachedList ReachedList ReachedList ReachedList ReachedList ReachedList ReachedList →
+      ReachedList
   in_value d = d.value
 
   -- an environment has a table of constants, libraries and imports
-  abbrev pub in_environ : layer.EncapsulatedEnviron-F H ReachedList ReachedList ReachedList ReachedList ReachedList ReachedList ReachedList ReachedList → ReachedList
+  abbrev pub in_environ : layer.EncapsulatedEnviron-F H ReachedList ReachedList ReachedList ReachedList ReachedList ReachedList ReachedList
+      ReachedList → ReachedList
   in_environ e = Constants e.constants ∷ (each e.lib ++ each e.imports)
 
   -- a pointer has arguments, and what it leads to
-  abbrev pub in_pointer : layer.FnPtr-F H ReachedList ReachedList ReachedList ReachedList ReachedList ReachedList ReachedList ReachedList → ReachedList
+  abbrev pub in_pointer : layer.FnPtr-F H ReachedList ReachedList ReachedList ReachedList ReachedList ReachedList ReachedList ReachedList →
+      ReachedList
   in_pointer p = each p.curry ++ p.kind
 
   -- an import has a module
-  abbrev pub in_import : layer.Import-F H ReachedList ReachedList ReachedList ReachedList ReachedList ReachedList ReachedList ReachedList → ReachedList
+  abbrev pub in_import : layer.Import-F H ReachedList ReachedList ReachedList ReachedList ReachedList ReachedList ReachedList ReachedList →
+      ReachedList
   in_import i = i.module
 
   -- a module has constants, functions and modules
-  abbrev pub in_module : layer.Module-F H ReachedList ReachedList ReachedList ReachedList ReachedList ReachedList ReachedList ReachedList → ReachedList
+  abbrev pub in_module : layer.Module-F H ReachedList ReachedList ReachedList ReachedList ReachedList ReachedList ReachedList ReachedList →
+      ReachedList
   in_module m = each m.constants.1 ++ (each m.functions ++ each m.sub_modules.1)
 
   -- a function of a module has its script function, and an environment, if there is one
-  abbrev pub in_function : layer.ModuleFn-F H ReachedList ReachedList ReachedList ReachedList ReachedList ReachedList ReachedList ReachedList → ReachedList
+  abbrev pub in_function : layer.ModuleFn-F H ReachedList ReachedList ReachedList ReachedList ReachedList ReachedList ReachedList
+      ReachedList → ReachedList
   in_function f = Function f.def ∷ maybe f.environ
 
   -- ---- what stands in each of them
@@ -61,32 +67,38 @@ module _ {H : Type 0} where
 
   -- all that stands in a pointer
   abbrev pub pointer_holds : FnPtr H → ReachedList
-  pointer_holds = fold-FnPtr H ReachedList ReachedList ReachedList ReachedList ReachedList ReachedList ReachedList ReachedList (in_kind nothing) (in_union nothing) in_value in_environ in_pointer
+  pointer_holds = fold-FnPtr H ReachedList ReachedList ReachedList ReachedList ReachedList ReachedList ReachedList ReachedList
+      (in_kind nothing) (in_union nothing) in_value in_environ in_pointer
       in_import in_module in_function
 
   -- all that stands in what a pointer leads to
   abbrev pub kind_holds : FnPtrKind H → ReachedList
-  kind_holds = fold-FnPtrKind H ReachedList ReachedList ReachedList ReachedList ReachedList ReachedList ReachedList ReachedList (in_kind nothing) (in_union nothing) in_value in_environ
+  kind_holds = fold-FnPtrKind H ReachedList ReachedList ReachedList ReachedList ReachedList ReachedList ReachedList ReachedList
+      (in_kind nothing) (in_union nothing) in_value in_environ
       in_pointer in_import in_module in_function
 
   -- all that stands in an environment
   abbrev pub environ_holds : EncapsulatedEnviron H → ReachedList
-  environ_holds = fold-EncapsulatedEnviron H ReachedList ReachedList ReachedList ReachedList ReachedList ReachedList ReachedList ReachedList (in_kind nothing) (in_union nothing) in_value
+  environ_holds = fold-EncapsulatedEnviron H ReachedList ReachedList ReachedList ReachedList ReachedList ReachedList ReachedList ReachedList
+      (in_kind nothing) (in_union nothing) in_value
       in_environ in_pointer in_import in_module in_function
 
   -- all that stands in an import
   abbrev pub import_holds : Import H → ReachedList
-  import_holds = fold-Import H ReachedList ReachedList ReachedList ReachedList ReachedList ReachedList ReachedList ReachedList (in_kind nothing) (in_union nothing) in_value in_environ in_pointer
+  import_holds = fold-Import H ReachedList ReachedList ReachedList ReachedList ReachedList ReachedList ReachedList ReachedList
+      (in_kind nothing) (in_union nothing) in_value in_environ in_pointer
       in_import in_module in_function
 
   -- all that stands in a module
   abbrev pub module_holds : Module H → ReachedList
-  module_holds = fold-Module H ReachedList ReachedList ReachedList ReachedList ReachedList ReachedList ReachedList ReachedList (in_kind nothing) (in_union nothing) in_value in_environ in_pointer
+  module_holds = fold-Module H ReachedList ReachedList ReachedList ReachedList ReachedList ReachedList ReachedList ReachedList
+      (in_kind nothing) (in_union nothing) in_value in_environ in_pointer
       in_import in_module in_function
 
   -- all that stands in a function of a module
   abbrev pub function_holds : ModuleFn H → ReachedList
-  function_holds = fold-ModuleFn H ReachedList ReachedList ReachedList ReachedList ReachedList ReachedList ReachedList ReachedList (in_kind nothing) (in_union nothing) in_value in_environ
+  function_holds = fold-ModuleFn H ReachedList ReachedList ReachedList ReachedList ReachedList ReachedList ReachedList ReachedList
+      (in_kind nothing) (in_union nothing) in_value in_environ
       in_pointer in_import in_module in_function
 
   -- all that stands in a variable: in its value

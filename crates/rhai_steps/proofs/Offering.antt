@@ -1,6 +1,6 @@
 -- What the rules read of an engine's modules is what the code has of them.
 use Rattle.std.proofs.Common.{◌≡◌, refl}
-use Rattle.rhai_functions.specs.declared.function.Offered.{Offered}
+use Rattle.rhai_state.specs.declared.session.Offered.{Offered}
 use Rattle.rhai_machine.specs.language.Setting.{Offer, globals_of}
 use Rattle.rhai_steps.specs.Offers.{Offers, globals_in}
 

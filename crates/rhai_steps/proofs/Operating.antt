@@ -14,8 +14,8 @@ use Rattle.rhai_state.specs.declared.limits.Limits.{Limits}
 use Rattle.rhai_state.specs.Errors.{is_out_of_memory, at_position}
 use Rattle.rhai_functions.specs.declared.function.Function.{Function}
 use Rattle.rhai_operators.specs.Answers as operators
-use Rattle.rhai_machine.specs.machine.Memory.{here, out_before_step}
-use Rattle.rhai_machine.specs.language.Setting.{Setting, Rules}
+use Rattle.rhai_machine.specs.machine.Memory.{here, out_before_step, Leads}
+use Rattle.rhai_machine.specs.language.Setting.{Setting, Rules, cut}
 use Rattle.rhai_machine.specs.language.State.{State, Local, HasMemory, Answers}
 use Rattle.rhai_machine.specs.language.Frames.{Back, Call, Control, Core, Dispatch, Fail, Frame, core, ended, on_value}
 use Rattle.rhai_machine.specs.language.Calls.{applied, called_core, called_function, dispatch_core, enter_core, found_core}
@@ -23,15 +23,16 @@ use Rattle.rhai_machine.specs.language.Calls.{asks_function, call_races, dispatc
 use Rattle.rhai_machine.specs.language.Calls.{operator_core, plainly}
 use Rattle.rhai_machine.specs.language.Calls.{signature, types_of}
 use Rattle.rhai_machine.specs.language.Values.{bool_value, through}
-use Rattle.rhai_machine.specs.language.Language.{without_memory}
-use Rattle.rhai_machine.specs.language.Runs.{at, with_core, Goes}
+use Rattle.rhai_machine.specs.language.Language.{without_memory, machine}
+use Rattle.rhai_machine.specs.language.Runs.{at, with_core}
 
 module _ {H : Type 0} (s : Setting H) (how : Dispatch) (call : Call H) (k : List (Frame H)) (l : Local H) where
   -- memory that runs out fails above the frames that stand there
   abbrev fails_at : Position → Core H
   fails_at pos = core (Fail (error.ErrorOutOfMemory pos)) k l
 
-  wants_entered : (of_method : Bool) (f : Function H) (pos : Position) → without_memory pos (enter_core of_method f how call k l) ≡ fails_at pos
+  wants_entered : (of_method : Bool) (f : Function H) (pos : Position) →
+      without_memory pos (enter_core of_method f how call k l) ≡ fails_at pos
   wants_entered true f pos = refl
   wants_entered false f pos = refl
 
@@ -92,7 +93,8 @@ module _ {S H : Type 0} (rules : Rules S H) where
   -- memory runs out before an operator is done
   starts_running_out : (wanted : Option (Result (Dynamic H) (EvalAltResult H))) (call : Call H) (k : List (Frame H)) (s : State S H)
       (pos : Position) →
-      Goes rules (with_core (operator_core rules.setting wanted call k s.local) s) (at (Fail (error.ErrorOutOfMemory pos)) k s)
+      Leads (machine rules) (cut rules) (with_core (operator_core rules.setting wanted call k s.local) s)
+      (at (Fail (error.ErrorOutOfMemory pos)) k s)
   starts_running_out (Some r) call k s pos = out_before_step {at = pos} here
   starts_running_out None call k s pos =
       out_before_step {at = pos} (rw (dispatch_runs_out rules.setting (plainly false false) call k s.local pos) here)
@@ -118,7 +120,7 @@ module _ {S H : Type 0} (rules : Rules S H) (call : Call H) (k : List (Frame H))
   built_now : (answer wanted : Option (Result (Dynamic H) (EvalAltResult H))) (outcome result : Result (Dynamic H) (EvalAltResult H)) →
       (operators.HasMemory answer → answer ≡ wanted) → answer ≡ Some outcome →
       Answers result (applied rules.setting.limits outcome call.operation.at) → HasMemory result →
-      Goes rules (with_core (operator_core rules.setting wanted call k s.local) s) (at (ended result) k s)
+      Leads (machine rules) (cut rules) (with_core (operator_core rules.setting wanted call k s.local) s) (at (ended result) k s)
   built_now answer wanted outcome result value is answers m =
       let answered = answers m in
       let same : wanted ≡ Some outcome = sym (value (rw is (outcome_memory rules.setting.limits outcome result call.operation.at m
@@ -129,7 +131,7 @@ module _ {S H : Type 0} (rules : Rules S H) (call : Call H) (k : List (Frame H))
   pub built : (answer wanted : Option (Result (Dynamic H) (EvalAltResult H))) (outcome result : Result (Dynamic H) (EvalAltResult H)) →
       (operators.HasMemory answer → answer ≡ wanted) → answer ≡ Some outcome →
       Answers result (applied rules.setting.limits outcome call.operation.at) →
-      Goes rules (with_core (operator_core rules.setting wanted call k s.local) s) (at (ended result) k s)
+      Leads (machine rules) (cut rules) (with_core (operator_core rules.setting wanted call k s.local) s) (at (ended result) k s)
   built answer wanted outcome (Ok v) value is answers = built_now answer wanted outcome (Ok v) value is answers tt
   built answer wanted outcome (Err (error.ErrorOutOfMemory pos)) value is answers = starts_running_out rules wanted call k s pos
   built answer wanted outcome (Err e) value is answers = built_now answer wanted outcome (Err e) value is answers refl

@@ -1,5 +1,6 @@
 pub mod Agreement
 pub mod Declaring
+pub mod Follows
 pub mod Lends
 pub mod Loops
 pub mod OnFocus
@@ -8,3 +9,6 @@ pub mod Offsets
 pub mod Saves
 pub mod States
 pub mod Values
+pub mod Sessions
+pub mod Operations
+pub mod Variables

@@ -1,6 +1,6 @@
 -- The modules of an engine in code as the rules have them.
 use Rattle.std.specs.Prelude.{◌≡◌}
-use Rattle.rhai_functions.specs.declared.function.Offered.{Offered}
+use Rattle.rhai_state.specs.declared.session.Offered.{Offered}
 use Rattle.rhai_machine.specs.language.Setting.{Globals, Offer}
 
 module _ {H : Type 0} where

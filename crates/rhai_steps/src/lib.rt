@@ -5,8 +5,8 @@
 
 pub mod charges;
 pub mod constants;
-pub mod errors;
 pub mod loops;
+pub mod operation;
 pub mod outcome;
 pub mod qualified;
 pub mod replies;

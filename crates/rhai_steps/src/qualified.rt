@@ -12,9 +12,9 @@ ghost use Rattle.rhai_functions.specs.Qualified.{text_behind, found_or_missing, 
 ghost use Rattle.std.specs.Option.{option_copied};
 
 use crate::values::copy;
-use rhai_functions::function::Offered;
 use rhai_functions::paths::{find_constant, find_down, find_root};
 use rhai_state::error::EvalAltResult;
+use rhai_state::session::Session;
 use rhai_state::state::GlobalRuntimeState;
 use rhai_tree::position::Position;
 use rhai_tree::{Shared, Text};
@@ -152,33 +152,42 @@ fn find_own_constant<'g, H>(global: &'g GlobalRuntimeState<H>, name: &str) -> Op
 /// Both at the position: `ErrorModuleNotFound` with the path where nothing has its first name, and
 /// `ErrorVariableNotFound` with the path and the name.
 pub fn search_path<H: Host>(
-    alloc: Global,
-    offered: &Offered<'_, H>,
+    session: &Session<'_, H>,
     global: &GlobalRuntimeState<H>,
     path: &[Shared<Text>],
     name: &str,
     pos: Position,
 ) -> Result<Dynamic<H>, EvalAltResult<H>>
-    ensures { Answers result (qualified global.now.imports offered.now.global_sub_modules.now
+    ensures { Answers result (qualified global.now.imports session.now.offered.global_sub_modules.now
         (own_constants (surroundings_of global.now)) path.now name.now pos) }
 {
     let [root, rest @ ..] = path else {
-        return Err(no_module(alloc, path, pos));
+        return Err(no_module(session.alloc, path, pos));
     };
     let imports = global.imports.as_slice();
-    match find_root(imports, offered.global_sub_modules, root.get().as_str()) {
+    match find_root(
+        imports,
+        session.offered.global_sub_modules,
+        root.get().as_str(),
+    ) {
         Some(root) => {
             let found = match find_down(root, rest) {
                 Some(within) => find_constant(within, name),
                 None => None,
             };
-            answer(alloc, found, path, name, pos)
+            answer(session.alloc, found, path, name, pos)
         }
         None => {
             if is_global(path) {
-                return answer(alloc, find_own_constant(global, name), path, name, pos);
+                return answer(
+                    session.alloc,
+                    find_own_constant(global, name),
+                    path,
+                    name,
+                    pos,
+                );
             }
-            Err(no_module(alloc, path, pos))
+            Err(no_module(session.alloc, path, pos))
         }
     }
 }

@@ -1,6 +1,6 @@
 //! Built-in operators and natives: what a call does without going down the tree.
 
-ghost use Rattle.std.specs.Prelude.{◌≡◌, ◌<◌, ◌≤◌, ◌+◌, ◌∷◌, ◌++◌, [], Some, IfOk, IfErr, IfSome, OnOk};
+ghost use Rattle.std.specs.Prelude.{◌≡◌, ◌<◌, ◌≤◌, ◌+◌, ◌∷◌, ◌++◌, [], Some, IfOk, IfSome, OnOk};
 ghost use Rattle.std.specs.Prelude.{is_some, None, true, false, codes};
 ghost use Rattle.std.specs.String.{string_bytes};
 ghost use Rattle.rhai_state.specs.Errors.{indexing_text as indexing_text_of, is_out_of_memory};
@@ -9,20 +9,21 @@ ghost use Rattle.rhai_state.specs.declared.error.EvalAltResult.TheVariants as er
 ghost use Rattle.rhai_state.specs.Native.{Missing, reply_of};
 ghost use Rattle.rhai_operators.specs.Answers.{HasMemory};
 ghost use Rattle.rhai_machine.specs.language.State.{Answers, HasMemory as WithMemory};
-ghost use Rattle.rhai_machine.specs.language.Values.{is_handle as handle_at};
 ghost use Rattle.rhai_machine.specs.language.Calls.{applied as applied_at, builtin_of as builtin_for};
 ghost use Rattle.rhai_machine.specs.language.Calls.{not_found as not_found_at};
 ghost use Rattle.rhai_machine.specs.language.Calls.{with_position, replied as replied_at};
 ghost use Rattle.rhai_machine.specs.language.Calls.{signature as signature_of, sized as sized_at, types_of};
 ghost use Rattle.rhai_machine.specs.language.Calls.{names_indexer, property_named, second};
+ghost use Rattle.rhai_steps.specs.Operations.{operation_of};
 ghost use Rattle.rhai_values.specs.TypeNames.{type_name_of};
 ghost use Rattle.std.specs.Option.{option_copied};
 
-use crate::errors::{data_too_large, shared_text};
+use crate::operation::Operation;
 use rhai_operators::{builtin_binary, builtin_unary};
 use rhai_places::errors::indexing_text;
 use rhai_state::error::EvalAltResult;
-use rhai_state::limits::Limits;
+use rhai_state::errors::{data_too_large, shared_text};
+use rhai_state::session::Session;
 use rhai_state::table::Answer;
 use rhai_tree::position::Position;
 use rhai_tree::token::Token;
@@ -252,34 +253,32 @@ fn builtin<H: Host>(
 
 /// Refuses a value whose data is too large. Ports upstream's `check_data_size`.
 pub fn sized<H: Host>(
-    alloc: Global,
-    limits: &Limits,
+    session: &Session<'_, H>,
     value: Dynamic<H>,
     pos: Position,
 ) -> Result<Dynamic<H>, EvalAltResult<H>>
-    ensures { Answers result (sized_at limits.now value pos) }
+    ensures { Answers result (sized_at session.now.limits value pos) }
 {
     match value.exceeds(
-        limits.max_string_size,
-        limits.max_array_size,
-        limits.max_map_size,
+        session.limits.max_string_size,
+        session.limits.max_array_size,
+        session.limits.max_map_size,
     ) {
         None => Ok(value),
-        Some(fault) => Err(data_too_large(alloc, fault, pos)),
+        Some(fault) => Err(data_too_large(session.alloc, fault, pos)),
     }
 }
 
 /// Turns what a built-in operator gave into the answer at the operator.
 pub fn applied<H: Host>(
-    alloc: Global,
-    limits: &Limits,
+    session: &Session<'_, H>,
     outcome: Result<Dynamic<H>, EvalAltResult<H>>,
     pos: Position,
 ) -> Result<Dynamic<H>, EvalAltResult<H>>
-    ensures { Answers result (applied_at limits.now outcome pos) }
+    ensures { Answers result (applied_at session.now.limits outcome pos) }
 {
     match outcome {
-        Ok(value) => sized(alloc, limits, value, pos),
+        Ok(value) => sized(session, value, pos),
         Err(error) => {
             let mut error = error;
             error.set_position(pos);
@@ -290,75 +289,75 @@ pub fn applied<H: Host>(
 
 /// Answers a call whose native is missing: by the built-in, or that there is no such function.
 fn answer_missing<H: Host>(
-    alloc: Global,
-    limits: &Limits,
+    session: &Session<'_, H>,
     cells: &CellStore<H>,
-    name: &str,
+    operation: &Operation<'_>,
     by_number: bool,
-    token: Option<Token>,
     first: &Dynamic<H>,
     rest: &[Dynamic<H>],
-    pos: Position,
 ) -> Result<Dynamic<H>, EvalAltResult<H>>
-    ensures { Answers result (replied_at limits.now H.name_of Missing (Some first.now) rest.now
-        (record { name = name.now; token = token; at = pos }) by_number (cells_of cells.now)) }
+    ensures { Answers result (replied_at session.now.limits H.name_of Missing (Some first.now) rest.now
+        (operation_of operation.now) by_number (cells_of cells.now)) }
 {
-    match builtin(alloc, token, first, rest) {
-        Some(outcome) => applied(alloc, limits, outcome, pos),
-        None => Err(not_found(alloc, cells, name, by_number, first, rest, pos)),
+    match builtin(session.alloc, operation.token, first, rest) {
+        Some(outcome) => applied(session, outcome, operation.at),
+        None => Err(not_found(
+            session.alloc,
+            cells,
+            operation.name,
+            by_number,
+            first,
+            rest,
+            operation.at,
+        )),
     }
 }
 
 /// Turns a native's answer into what the call comes to. The cells are those of the moment when it is told;
 /// the first argument is what the native left of it.
 pub fn replied<H: Host>(
-    alloc: Global,
-    limits: &Limits,
+    session: &Session<'_, H>,
     cells: &CellStore<H>,
     answer: Answer<H>,
-    name: &str,
+    operation: &Operation<'_>,
     by_number: bool,
-    token: Option<Token>,
     first: &Dynamic<H>,
     rest: &[Dynamic<H>],
-    pos: Position,
 ) -> Result<Dynamic<H>, EvalAltResult<H>>
     ensures told { IfSome (reply_of answer) (λ reply. Answers result
-        (replied_at limits.now H.name_of reply (Some first.now) rest.now
-        (record { name = name.now; token = token; at = pos }) by_number (cells_of cells.now))) }
+        (replied_at session.now.limits H.name_of reply (Some first.now) rest.now
+        (operation_of operation.now) by_number (cells_of cells.now))) }
     ensures memory { WithMemory result → is_some (reply_of answer) ≡ true }
 {
     match answer {
-        Answer::Missing => {
-            answer_missing(
-                alloc, limits, cells, name, by_number, token, first, rest, pos,
-            )
-        }
-        Answer::Value(value) => sized(alloc, limits, value, pos),
-        Answer::Fault(error) => Err(position_if_none(error, pos)),
-        Answer::NoMemory => Err(EvalAltResult::ErrorOutOfMemory(pos)),
+        Answer::Missing => { answer_missing(session, cells, operation, by_number, first, rest) }
+        Answer::Value(value) => sized(session, value, operation.at),
+        Answer::Fault(error) => Err(position_if_none(error, operation.at)),
+        Answer::NoMemory => Err(EvalAltResult::ErrorOutOfMemory(operation.at)),
     }
 }
 
 /// Turns the answer of a native that was called without arguments into what the call comes to.
 pub fn settle_lone_reply<H: Host>(
-    alloc: Global,
-    limits: &Limits,
+    session: &Session<'_, H>,
     answer: Answer<H>,
-    name: &str,
+    operation: &Operation<'_>,
     by_number: bool,
-    token: Option<Token>,
-    pos: Position,
 ) -> Result<Dynamic<H>, EvalAltResult<H>>
     ensures told { (cells : _) → IfSome (reply_of answer) (λ reply. Answers result
-        (replied_at limits.now H.name_of reply None [] (record { name = name.now; token = token; at = pos })
+        (replied_at session.now.limits H.name_of reply None [] (operation_of operation.now)
         by_number cells)) }
     ensures memory { WithMemory result → is_some (reply_of answer) ≡ true }
 {
     match answer {
-        Answer::Missing => Err(nullary_native_not_found(alloc, name, by_number, pos)),
-        Answer::Value(value) => sized(alloc, limits, value, pos),
-        Answer::Fault(error) => Err(position_if_none(error, pos)),
-        Answer::NoMemory => Err(EvalAltResult::ErrorOutOfMemory(pos)),
+        Answer::Missing => Err(nullary_native_not_found(
+            session.alloc,
+            operation.name,
+            by_number,
+            operation.at,
+        )),
+        Answer::Value(value) => sized(session, value, operation.at),
+        Answer::Fault(error) => Err(position_if_none(error, operation.at)),
+        Answer::NoMemory => Err(EvalAltResult::ErrorOutOfMemory(operation.at)),
     }
 }

@@ -23,17 +23,18 @@ ghost use Rattle.rhai_steps.specs.Offers.{globals_in};
 ghost use Rattle.rhai_steps.specs.Offsets.{offset_in, index_at_offset};
 ghost use Rattle.rhai_steps.specs.States.{surroundings_of};
 ghost use Rattle.rhai_steps.specs.Saves.{saved_in, saved_now, left_global};
+ghost use Rattle.rhai_steps.specs.Variables.{offset_is_good, variable_told};
 
-use crate::errors::{data_race_of, variable_exists, variable_not_found};
 use crate::qualified::search_path;
 use crate::values::{copy, unit_value};
 use bitflags::Flags;
-use rhai_functions::function::Offered;
 use rhai_functions::named::arity_named;
 use rhai_functions::paths::find_global_constant;
 use rhai_state::error::EvalAltResult;
+use rhai_state::errors::{data_race_of, variable_exists, variable_not_found};
 use rhai_state::limits::Limits;
 use rhai_state::scope::Scope;
+use rhai_state::session::Session;
 use rhai_state::state::GlobalRuntimeState;
 use rhai_tree::expr::{Expr, Ident, Namespace};
 use rhai_tree::flags::ASTFlags;
@@ -43,6 +44,16 @@ use rhai_values::base::value::{AccessMode, Dynamic, FnPtr, FnPtrKind, Host, Modu
 use rhai_values::cells::CellStore;
 use std::alloc::Global;
 use std::num::NonZeroUsize;
+
+/// A variable as an expression tells of it: its name behind a path, where it stands, and how far back its entry is, where
+/// that is known. Stands for the machine's record of that name.
+#[derive(Clone, Copy)]
+pub struct Variable<'a> {
+    pub offset: Option<NonZeroUsize>,
+    pub name: &'a Shared<Text>,
+    pub namespace: &'a Namespace,
+    pub at: Position,
+}
 
 /// Finds the index of the newest variable of a name. It goes by the offset where that is given and variables
 /// are not searched for, and else by search. Asked: the offset leads to the newest variable of the name.
@@ -159,20 +170,22 @@ fn function_pointer<H: Host>(
 /// # Errors
 /// `ErrorVariableNotFound` at the position, where there is neither.
 fn read_global<H: Host>(
-    alloc: Global,
-    offered: &Offered<'_, H>,
+    session: &Session<'_, H>,
     lib: &[Shared<Module<H>>],
     name: &Shared<Text>,
     pos: Position,
 ) -> Result<Dynamic<H>, EvalAltResult<H>>
-    ensures { Answers result (there_or_unknown (without_entry (globals_in offered.now) lib.now name.now)
+    ensures { Answers result (there_or_unknown (without_entry (globals_in session.now.offered) lib.now name.now)
         name.now pos) }
 {
-    if let Some(constant) = find_global_constant(offered.global_modules, name.get().as_str()) {
-        return copy(alloc, constant, pos);
+    if let Some(constant) = find_global_constant(
+        session.offered.global_modules,
+        name.get().as_str(),
+    ) {
+        return copy(session.alloc, constant, pos);
     }
     match arity_named(lib, name.get().as_str()) {
-        Some(arity) => function_pointer(alloc, name, arity, pos),
+        Some(arity) => function_pointer(session.alloc, name, arity, pos),
         None => Err(variable_not_found(name, pos)),
     }
 }
@@ -184,23 +197,21 @@ fn read_global<H: Host>(
 /// # Errors
 /// `ErrorVariableNotFound` at the name where it stands by itself, and those of `search_path` at the path.
 pub fn read_beside<H: Host>(
-    alloc: Global,
-    offered: &Offered<'_, H>,
+    session: &Session<'_, H>,
     global: &GlobalRuntimeState<H>,
     name: &Shared<Text>,
     namespace: &Namespace,
     pos: Position,
 ) -> Result<Dynamic<H>, EvalAltResult<H>>
-    ensures { Answers result (value_beside (globals_in offered.now) (surroundings_of global.now)
+    ensures { Answers result (value_beside (globals_in session.now.offered) (surroundings_of global.now)
         (variable_named name.now namespace.now pos)) }
 {
     if is_plain(namespace) {
-        return read_global(alloc, offered, global.lib.as_slice(), name, pos);
+        return read_global(session, global.lib.as_slice(), name, pos);
     }
     let path = namespace.path.as_slice();
     search_path(
-        alloc,
-        offered,
+        session,
         global,
         path,
         name.get().as_str(),
@@ -211,22 +222,36 @@ pub fn read_beside<H: Host>(
 /// Reads a variable: a copy, unless there is none or its cell is held. It is found as `entry_of_variable`
 /// says, which asks the same of its offset. What is no entry of the scope is read by `read_beside`.
 pub fn read_variable<H: Host>(
-    alloc: Global,
-    offered: &Offered<'_, H>,
+    session: &Session<'_, H>,
     global: &GlobalRuntimeState<H>,
     scope: &Scope<H>,
-    offset: Option<NonZeroUsize>,
-    name: &Shared<Text>,
-    namespace: &Namespace,
-    pos: Position,
+    variable: &Variable<'_>,
 ) -> Result<Dynamic<H>, EvalAltResult<H>>
-    requires { AgreesAt global.now scope.now (variable_is_good offset name.now namespace.now.path) }
-    ensures { Answers result (read (globals_in offered.now) (surroundings_of global.now)
-        (entries_of scope.now) (variable_named name.now namespace.now pos)) }
+    requires { AgreesAt global.now scope.now (offset_is_good variable.now) }
+    ensures { Answers result (read (globals_in session.now.offered) (surroundings_of global.now)
+        (entries_of scope.now) (variable_told variable.now)) }
 {
-    match entry_of_variable(global, scope, offset, name, namespace) {
-        Some(index) => copy_variable(alloc, &global.cells, scope.value_at(index), name, pos),
-        None => read_beside(alloc, offered, global, name, namespace, pos),
+    match entry_of_variable(
+        global,
+        scope,
+        variable.offset,
+        variable.name,
+        variable.namespace,
+    ) {
+        Some(index) => copy_variable(
+            session.alloc,
+            &global.cells,
+            scope.value_at(index),
+            variable.name,
+            variable.at,
+        ),
+        None => read_beside(
+            session,
+            global,
+            variable.name,
+            variable.namespace,
+            variable.at,
+        ),
     }
 }
 

@@ -84,7 +84,8 @@ module _ {S H : Type 0} (rules : Rules S H) where
   value_alone (Err e) = Err e
 
   -- over the empty stack such a value leads to the value alone
-  to_value : {p : Point S (Core H)} (r : Result (Dynamic H × Bool) (EvalAltResult H)) (s : State S H) → Leads p (at (ended_or_changed r) [] s) →
+  to_value : {p : Point S (Core H)} (r : Result (Dynamic H × Bool) (EvalAltResult H)) (s : State S H) →
+      Leads p (at (ended_or_changed r) [] s) →
       Leads p (at (ended (value_alone r)) [] s)
   unfolding after value_alone
   to_value (Ok (v, true)) s run = run ⨾ next here
@@ -129,7 +130,8 @@ module _ {S H : Type 0} (rules : Rules S H) where
 
   -- two such results from one start are one where their values or errors are
   same_changed : (r s : Result (Dynamic H × Bool) (EvalAltResult H)) {p : Point S (Core H)} (one other : State S H) →
-      Leads p (at (ended_or_changed r) handing_on one) → Leads p (at (ended_or_changed s) handing_on other) → value_alone r ≡ value_alone s → r ≡ s
+      Leads p (at (ended_or_changed r) handing_on one) → Leads p (at (ended_or_changed s) handing_on other) →
+      value_alone r ≡ value_alone s → r ≡ s
   unfolding value_alone value_of error_of
   same_changed (Ok (v, true)) (Ok (w, true)) one other a b e = ap (λ x. Ok (x, true)) (ap (λ r. value_of r v) e)
   same_changed (Ok (v, false)) (Ok (w, false)) one other a b e = ap (λ x. Ok (x, false)) (ap (λ r. value_of r v) e)
@@ -141,7 +143,8 @@ module _ {S H : Type 0} (rules : Rules S H) where
 
   module _ (begins also_begins : List (Frame H) → Local H → Core H) (old also one other : State S H) where
     changes_once : (r s : Result (Dynamic H × Bool) (EvalAltResult H)) → begins ≡ also_begins → old ≡ also →
-        Run begins old (HasMemory r) (ended_or_changed r) one → Run also_begins also (HasMemory s) (ended_or_changed s) other → Same r s one other
+        Run begins old (HasMemory r) (ended_or_changed r) one → Run also_begins also (HasMemory s) (ended_or_changed s) other →
+        Same r s one other
     changes_once r s same start a b r_has s_has =
         let c = moved_run begins also_begins old also one other (HasMemory s) (ended_or_changed s) same start b in
         let ends = both_halt (value_alone r) (value_alone s) one other (to_value r one (a r_has [])) (to_value s other (c s_has [])) in
@@ -149,7 +152,8 @@ module _ {S H : Type 0} (rules : Rules S H) where
 
     -- two calls that say whether they changed their first argument
     pub changed_once : (r s : Result (Dynamic H × Bool) (EvalAltResult H)) → begins ≡ also_begins → old ≡ also →
-        Ends rules begins old (HasMemory r) (ended_or_changed r) one → Ends rules also_begins also (HasMemory s) (ended_or_changed s) other →
+        Ends rules begins old (HasMemory r) (ended_or_changed r) one →
+        Ends rules also_begins also (HasMemory s) (ended_or_changed s) other →
         Same r s one other
     changed_once r s same start a b = changes_once r s same start a.runs b.runs
 

@@ -19,8 +19,8 @@ use rhai_places::spot::Access;
 use rhai_places::target::Target;
 use rhai_state::caches::Caches;
 use rhai_state::error::EvalAltResult;
-use rhai_state::limits::Limits;
 use rhai_state::scope::Scope;
+use rhai_state::session::Session;
 use rhai_state::state::GlobalRuntimeState;
 use rhai_state::table::NativeTable;
 use rhai_tree::expr::{Expr, Namespace};
@@ -275,8 +275,7 @@ pub fn get_indexed_mut<'t, H: Host, T: NativeTable<H>>(
 /// told of the function of `rhai_index` that `Engine::get_indexed_mut` calls: it leaves the value as it was,
 /// or as the indexer left it.
 pub fn refused_index<H: Host, T: NativeTable<H>>(
-    alloc: Global,
-    limits: &Limits,
+    session: &Session<'_, H>,
     global: &mut GlobalRuntimeState<H>,
     also_global: &mut GlobalRuntimeState<H>,
     table: &mut T,
@@ -296,12 +295,11 @@ pub fn refused_index<H: Host, T: NativeTable<H>>(
     ensures { IfSome result (λ errors. is_out_of_memory errors.0 ≡ false → is_out_of_memory errors.1 ≡ false →
         object.new ≡ also_object.new) }
 {
-    match indexing::get_indexed_mut(object, alloc, limits, global, table, idx, how, use_indexers) {
+    match indexing::get_indexed_mut(object, session, global, table, idx, how, use_indexers) {
         Ok(_target) => None,
         Err(error) => match indexing::get_indexed_mut(
             also_object,
-            alloc,
-            limits,
+            session,
             also_global,
             also_table,
             also_idx,

@@ -8,7 +8,7 @@ ghost use Rattle.rhai_places.specs.Found.{IsKeyless, IsText};
 ghost use Rattle.rhai_places.specs.Parts.{IsPart, IsPlace};
 ghost use Rattle.rhai_twins_places.specs.Ends.{SameError, SameAnswer, SameTarget, EndsOnce};
 
-use rhai_places::errors::{data_race, indexing_error, indexing_text, mismatch, property_not_found};
+use rhai_places::errors::{indexing_error, indexing_text};
 use rhai_places::indexing::{add_key, get_indexed_mut, missing_key, value_of_index};
 use rhai_places::locate::locate;
 use rhai_places::part::{is_part, read_part};
@@ -17,6 +17,7 @@ use rhai_places::put::put_part;
 use rhai_places::spot::{Access, Refusal, Spot};
 use rhai_places::target::Target;
 use rhai_state::error::EvalAltResult;
+use rhai_state::errors::{data_race, mismatch, property_not_found};
 use rhai_tree::position::Position;
 use rhai_tree::{Shared, Text};
 use rhai_values::base::value::{Dynamic, Host, Union};

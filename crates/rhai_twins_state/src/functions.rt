@@ -7,12 +7,13 @@ ghost use Rattle.rhai_state.specs.Scope.{entries_of};
 
 use rhai_functions::entering::push_parameters;
 use rhai_functions::environ::environ_of;
-use rhai_functions::function::{Function, Offered, called_function, share_function};
+use rhai_functions::function::{Function, called_function, share_function};
 use rhai_functions::key::{FnKey, has_key};
 use rhai_functions::lookup::{find_function, find_in_module, find_in_modules};
 use rhai_functions::metadata::{ScriptFnMetadata, metadata_of};
 use rhai_functions::named::arity_named;
 use rhai_state::scope::Scope;
+use rhai_state::session::Offered;
 use rhai_state::state::GlobalRuntimeState;
 use rhai_tree::function::ScriptFuncDef;
 use rhai_tree::{Shared, Text};

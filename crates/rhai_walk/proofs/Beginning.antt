@@ -1,15 +1,14 @@
 -- How the walk of a chain begins at a link: the focus is looked at, and the form of the link says where the walk goes.
-use Rattle.std.proofs.Common.{◌≡◌, ◌≤◌, ◌<◌, ◌+◌, ℕ, Bool, true, false, ◌&&◌, ◌||◌, List, [], Option, Some, None, Result, Ok, Err, refl}
-use Rattle.std.proofs.Common.{sym, ap, ◌∙◌, subst}
+use Rattle.std.proofs.Common.{◌≡◌, ◌≤◌, ◌<◌, ◌+◌, Bool, true, false, ◌||◌, List, [], Option, Some, None, Result, Ok, Err, refl}
+use Rattle.std.proofs.Common.{sym, ap, ◌∙◌}
 use Rattle.std.specs.Prelude.{is_some, is_none}
 use Rattle.rhai_tree.specs.declared.position.Position.{Position}
-use Rattle.rhai_tree.specs.declared.expr.Expr.{Expr}
 use Rattle.rhai_tree.specs.Position.{none}
 use Rattle.rhai_values.specs.declared.base.value.Dynamic.{Dynamic}
 use Rattle.rhai_values.specs.declared.base.value.Union.{Union}
 use Rattle.rhai_values.specs.declared.base.value.Union.TheVariants as value
 use Rattle.rhai_values.specs.Cells.{value_of_cell, cells_of}
-use Rattle.rhai_values.specs.Layers.{UnionLayer, layer_of}
+use Rattle.rhai_values.specs.Layers.{layer_of}
 use Rattle.rhai_state.specs.declared.scope.Scope.{Scope}
 use Rattle.rhai_state.specs.declared.state.GlobalRuntimeState.{GlobalRuntimeState}
 use Rattle.rhai_state.specs.declared.error.EvalAltResult.{EvalAltResult}
@@ -17,22 +16,22 @@ use Rattle.rhai_state.specs.declared.error.EvalAltResult.TheVariants as error
 use Rattle.rhai_state.specs.Errors.{is_out_of_memory}
 use Rattle.rhai_machine.specs.machine.Machine.{Move, Go, Charge}
 use Rattle.rhai_machine.specs.machine.Point.{Point, moved, after}
-use Rattle.rhai_machine.specs.machine.Memory.{here, next, out_before_step, ◌⨾◌}
+use Rattle.rhai_machine.specs.machine.Memory.{here, out_before_step, ◌⨾◌, Leads}
 use Rattle.rhai_machine.specs.language.Setting.{Setting, Rules, cut, limit_under}
 use Rattle.rhai_machine.specs.language.State.{Held, Local, State}
 use Rattle.rhai_machine.specs.language.Values.{is_handle, through, unit_value, used}
 use Rattle.rhai_machine.specs.language.Links.{Link, LinkForm, AtIndex, AtProperty, AtMethod, link_of}
 use Rattle.rhai_machine.specs.language.Frames.{Chain, Frame, Core, core, ended_or_changed, on_value, where_there, Walk, Locate, Back, Fail}
-use Rattle.rhai_machine.specs.language.Located.{index_by, is_indexed, is_map, is_unit}
+use Rattle.rhai_machine.specs.language.Located.{index_by, is_indexed, is_map}
 use Rattle.rhai_machine.specs.language.Members.{focus_of}
 use Rattle.rhai_machine.specs.language.Chains.{entered, form_move, indexed_core, locate_core, method_entered, property_move}
 use Rattle.rhai_machine.specs.language.Chains.{seen_move, stop_move, walk_move}
 use Rattle.rhai_machine.specs.language.Language.{machine, move}
-use Rattle.rhai_machine.specs.language.Runs.{at, with_core, Goes}
+use Rattle.rhai_machine.specs.language.Runs.{at, Goes, Steps}
 use Rattle.rhai_steps.specs.States.{state_of}
 use Rattle.rhai_steps.proofs.Pieces.{charged, faulted, refused, step_by}
-use Rattle.rhai_steps.specs.OnFocus.{lending, RunsFrom}
-use Rattle.rhai_chains.specs.Chains.{FollowsFrom, Does, FindsNoMemory, WalkRuns}
+use Rattle.rhai_steps.specs.OnFocus.{lending}
+use Rattle.rhai_steps.specs.Follows.{Follows, Does, FindsNoMemory}
 use Rattle.rhai_walk.specs.Walking.{entered_core, inside_by, inside_core, Comes, GoesOn, IsCharged, IsFree, IsUncharged, IsWay}
 use Rattle.rhai_walk.specs.Walking.{MayEndAt, StopsThere, WayBy}
 use Rattle.rhai_walk.specs.declared.ways.Way.{Way}
@@ -116,22 +115,23 @@ module _ {S H : Type 0} (rules : Rules S H) (link : Link) (chain : Chain H) (is 
 
   walks : (k : List (Frame H)) (s : State S H) (q : Point S (Core H)) (m : Move H (Core H)) →
       seen_move rules.setting link (through s.local.around.cells (focus_of s.local) link.at) chain k s.local ≡ m →
-      Goes rules (moved (machine rules) (cut rules) m (at (Walk chain) k s)) q → Goes rules (at (Walk chain) k s) q
+      Leads (machine rules) (cut rules) (moved (machine rules) (cut rules) m (at (Walk chain) k s)) q →
+      Leads (machine rules) (cut rules) (at (Walk chain) k s) q
   walks k s q m seen goes = step_by rules (at (Walk chain) k s) q m (walked k s.local m seen) goes
 
   -- the focus is the handle of a cell that is held
   pub races_there : (s : State S H) (e : EvalAltResult H) →
       through s.local.around.cells (focus_of s.local) link.at ≡ Err (error.ErrorDataRace [] link.at) →
-      (is_out_of_memory e ≡ false → e ≡ error.ErrorDataRace [] link.at) → WalkRuns rules chain s (Err e) s
-  unfolding RunsFrom
+      (is_out_of_memory e ≡ false → e ≡ error.ErrorDataRace [] link.at) → Steps rules (Walk chain) s (ended_or_changed (Err e)) s
+  unfolding Goes
   races_there s e seen told k = walks k s _ (Go (core (Fail (error.ErrorDataRace [] link.at)) k s.local))
       (ap (λ (r : Result (Dynamic H) (EvalAltResult H)). seen_move rules.setting link r chain k s.local) seen)
       (faulted rules e (error.ErrorDataRace [] link.at) told k s)
 
   -- the chain stops at `()`
   pub stops_there : (s : State S H) (v : Dynamic H) → StopsThere link s.local.around.cells (focus_of s.local) → v ≡ unit_value →
-      WalkRuns rules chain s (Ok (v, false)) s
-  unfolding RunsFrom
+      Steps rules (Walk chain) s (ended_or_changed (Ok (v, false))) s
+  unfolding Goes
   stops_there s v stops unit k = walks k s _ (Go (core (Back unit_value) k s.local))
       (ap (λ (r : Result (Dynamic H) (EvalAltResult H)). seen_move rules.setting link r chain k s.local) stops.seen
       ∙ ap (λ (b : Bool). stop_move rules.setting b link stops.inner chain k s.local) stops.stops)
@@ -177,8 +177,8 @@ module _ {S H : Type 0} (rules : Rules S H) (link : Link) (chain : Chain H) (is 
 
     -- or it is refused
     pub charge_refused : (e : EvalAltResult H) → limit_under rules ≤ old.num_operations → e ≡ error.ErrorTooManyOperations none →
-        new ≡ old → WalkRuns rules chain (state_in old) (Err e) (state_in new)
-    unfolding RunsFrom
+        new ≡ old → Steps rules (Walk chain) (state_in old) (ended_or_changed (Err e)) (state_in new)
+    unfolding Goes
     charge_refused e full told same k =
         refused rules t old new scope (lending held focus) (Walk chain) (Locate link chain) none moves e full told same k
 
@@ -186,7 +186,8 @@ module _ {S H : Type 0} (rules : Rules S H) (link : Link) (chain : Chain H) (old
     (r : Result (Dynamic H × Bool) (EvalAltResult H)) where
   -- the walk goes on where the focus is entered
   pub comes_on : Comes rules link chain old mid → MayEndAt link.form (is_some link.behind || is_none chain.new) →
-      FollowsFrom rules (entered_core rules.setting link chain) mid r new → WalkRuns rules chain old r new
-  unfolding RunsFrom
+      Follows rules ended_or_changed (entered_core rules.setting link chain) mid r new →
+      Steps rules (Walk chain) old (ended_or_changed r) new
+  unfolding Goes
   comes_on comes may (Does runs) k = comes.comes may k ⨾ runs k
   comes_on comes may (FindsNoMemory pos is stays) k = rw (is, stays) (comes.may_run_out pos k)

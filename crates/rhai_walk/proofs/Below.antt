@@ -1,5 +1,5 @@
 -- What the leaves of a walk answer: where it goes on below a value, what is taken there, and how a temporary goes back.
-use Rattle.std.proofs.Common.{◌≡◌, ◌≤◌, ℕ, zero, suc, Bool, true, false, List, [], ◌∷◌, Option, Some, None, Result, Ok, Err, refl, sym, ap}
+use Rattle.std.proofs.Common.{◌≡◌, ◌≤◌, ℕ, zero, suc, Bool, true, false, List, [], ◌∷◌, Option, Some, Result, Ok, Err, refl, sym, ap}
 use Rattle.std.proofs.Common.{arith, length}
 use Rattle.std.specs.Prelude.{is_some, slice_set}
 use Rattle.rhai_tree.specs.declared.expr.Expr.{Expr}
@@ -9,7 +9,7 @@ use Rattle.rhai_values.specs.declared.base.value.Union.{Union}
 use Rattle.rhai_values.specs.declared.base.value.Union.TheVariants as value
 use Rattle.rhai_values.specs.Cells.{value_of_cell}
 use Rattle.rhai_values.specs.Copy.{copy_of}
-use Rattle.rhai_values.specs.Layers.{UnionLayer, layer_of}
+use Rattle.rhai_values.specs.Layers.{UnionLayer}
 use Rattle.rhai_state.specs.declared.error.EvalAltResult.{EvalAltResult}
 use Rattle.rhai_state.specs.declared.error.EvalAltResult.TheVariants as error
 use Rattle.rhai_state.specs.Errors.{is_out_of_memory}

@@ -1,5 +1,5 @@
 -- The walk of a chain at what an index or a key leads to.
-use Rattle.std.proofs.Common.{◌≡◌, ℕ, Bool, true, false, List, [], ◌∷◌, Option, Some, None, Result, Ok, Err, refl, sym, ap, ◌∙◌, subst}
+use Rattle.std.proofs.Common.{◌≡◌, ℕ, Bool, true, false, List, ◌∷◌, Option, Some, None, Result, Ok, Err, refl, sym, ap, ◌∙◌, subst}
 use Rattle.std.specs.Prelude.{if◌then◌else◌, IfOk}
 use Rattle.rhai_tree.specs.declared.position.Position.{Position}
 use Rattle.rhai_tree.specs.declared.expr.Expr.{Expr}
@@ -19,20 +19,21 @@ use Rattle.rhai_places.specs.Indexing.{located}
 use Rattle.rhai_places.specs.Parts.{IsPart, IsPlace, IsThere, part_of, value_at, with_value}
 use Rattle.rhai_places.specs.Paths.{ToPlace}
 use Rattle.rhai_machine.specs.machine.Point.{after}
-use Rattle.rhai_machine.specs.machine.Memory.{here, next, out_before_step, ◌⨾◌}
-use Rattle.rhai_machine.specs.language.Setting.{Setting, Rules}
+use Rattle.rhai_machine.specs.machine.Memory.{here, next, ◌⨾◌, Leads}
+use Rattle.rhai_machine.specs.language.Setting.{Setting, Rules, cut}
 use Rattle.rhai_machine.specs.language.State.{Local, State}
 use Rattle.rhai_machine.specs.language.Values.{unit_value}
 use Rattle.rhai_machine.specs.language.Links.{Link, LinkForm, AtIndex, AtProperty, AtMethod, link_of}
-use Rattle.rhai_machine.specs.language.Frames.{Chain, NewValue, Frame, Core, core, ended_or_changed, on_value, Walk, Back, Fail, StepDown, Temporary}
+use Rattle.rhai_machine.specs.language.Frames.{Chain, NewValue, Frame, Core, core, ended_or_changed, on_value, Walk, StepDown}
+use Rattle.rhai_machine.specs.language.Frames.{Temporary}
 use Rattle.rhai_machine.specs.language.Frames.{PartMethod}
 use Rattle.rhai_machine.specs.language.Located.{args_behind, is_indexed, is_map, is_place_spot, spot_of, taken_at}
 use Rattle.rhai_machine.specs.language.Members.{focused_on}
-use Rattle.rhai_machine.specs.language.Chains.{after_method, behind_link, descend, indexed_core, method_of, part_core, part_form, spot_core}
+use Rattle.rhai_machine.specs.language.Chains.{after_method, behind_link, descend, method_of, part_core, part_form, spot_core}
 use Rattle.rhai_machine.specs.language.Chains.{way_back}
-use Rattle.rhai_machine.specs.language.Runs.{at, with_core, Goes}
-use Rattle.rhai_steps.specs.OnFocus.{RunsFrom}
-use Rattle.rhai_chains.specs.Chains.{FollowsFrom, Does, FindsNoMemory, WalkRuns}
+use Rattle.rhai_machine.specs.language.Runs.{at, Goes, Steps}
+use Rattle.rhai_machine.specs.language.Language.{machine}
+use Rattle.rhai_steps.specs.Follows.{Follows, Does, FindsNoMemory}
 use Rattle.rhai_walk.specs.Walking.{IsLocated, IsNoMethod, IsSpotBelow}
 use Rattle.rhai_chains.specs.Spots.{FindsSpot}
 use Rattle.rhai_chains.proofs.Alike.{begins_alike, follows_alike}
@@ -55,7 +56,8 @@ module _ {H : Type 0} where
       let both : ◌≡◌ {A = Dynamic H × Spot} (source, spot.Missing) (after, there) = cc in sym (ap (λ (p : Dynamic H × Spot). p.0) both)
 
   settled_same : (how : Access) (name : H → List ℕ) (cells : List (Option (Dynamic H))) (source index after : Dynamic H)
-      (r : Result Spot Refusal) (there : Spot) → how.add_if_not_found ≡ false → spot_or_error how name cells source index r ≡ Ok (after, there) →
+      (r : Result Spot Refusal) (there : Spot) → how.add_if_not_found ≡ false →
+      spot_or_error how name cells source index r ≡ Ok (after, there) →
       after ≡ source
   settled_same how name cells source index after (Ok spot.Missing) there never is =
       without_same _ how.add_if_not_found how.fail_on_invalid_map_property _ source after there never is
@@ -165,7 +167,7 @@ module _ {S H : Type 0} (rules : Rules S H) where
   -- a result comes up from a place, and what has become of it goes back
   up_from_place : (r : Result (Dynamic H × Bool) (EvalAltResult H)) (source w : Dynamic H) (there : Spot) (k : List (Frame H))
       (s : State S H) →
-      Goes rules (at (ended_or_changed r) (StepDown source (ToPlace there) ∷ k) (working (Some w) s))
+      Leads (machine rules) (cut rules) (at (ended_or_changed r) (StepDown source (ToPlace there) ∷ k) (working (Some w) s))
       (at (ended_or_changed r) k (working (Some (with_value source there w)) s))
   unfolding after
   up_from_place (Ok (v, true)) source w there k s = next here
@@ -175,10 +177,10 @@ module _ {S H : Type 0} (rules : Rules S H) where
   -- the walk goes on on a place
   pub goes_down : (chain : Chain H) (source v w : Dynamic H) (there : Spot) (old new : State S H)
       (r : Result (Dynamic H × Bool) (EvalAltResult H)) → value_at source there ≡ Some v →
-      WalkRuns rules chain (working (Some v) old) r (working (Some w) new) →
-      RunsFrom rules (λ k l. core (Walk chain) (StepDown source (ToPlace there) ∷ k) (focused_on (value_at source there) l)) old r
-      (working (Some (with_value source there w)) new)
-  unfolding RunsFrom
+      Steps rules (Walk chain) (working (Some v) old) (ended_or_changed r) (working (Some w) new) →
+      Goes rules (λ k l. core (Walk chain) (StepDown source (ToPlace there) ∷ k) (focused_on (value_at source there) l)) old
+      (core (ended_or_changed r)) (working (Some (with_value source there w)) new)
+  unfolding Goes
   goes_down chain source v w there old new r is runs k = rw is
       (runs (StepDown source (ToPlace there) ∷ k) ⨾ up_from_place r source w there k new)
 
@@ -195,7 +197,7 @@ module _ {S H : Type 0} (rules : Rules S H) where
     -- it is there, and leads on
     found_goes : (there : Spot) (start : List (Frame H) → Local H → Core H) → wanted ≡ Ok (source, there) →
         ((k : List (Frame H)) → descend rules.setting (is_place_spot there) there link rest index chain source k old.local
-        ≡ start k old.local) → FollowsFrom rules start old r new → FollowsFrom rules going_on old r new
+        ≡ start k old.local) → Follows rules ended_or_changed start old r new → Follows rules ended_or_changed going_on old r new
     found_goes there start is same follows = follows_alike rules start going_on old new r
         (λ k. ap (λ (o : Result (Dynamic H × Spot) (EvalAltResult H)). on_value o
         (λ spot. descend rules.setting (is_place_spot spot.1) spot.1 link rest index chain spot.0 k old.local) k old.local) is ∙ same k)
@@ -204,30 +206,30 @@ module _ {S H : Type 0} (rules : Rules S H) where
     module _ (args : List (Dynamic H)) (left : args_behind link.form chain.args ≡ args) (there : Spot) (is : wanted ≡ Ok
         (source, there)) where
       pub found_place : IsPlace (layer_of source) there →
-          RunsFrom rules (λ k l. core (Walk (record chain { rest = rest; args = args; in_place = true }))
-          (StepDown source (ToPlace there) ∷ k) (focused_on (value_at source there) l)) old r new →
-          FollowsFrom rules going_on old r new
+          Goes rules (λ k l. core (Walk (record chain { rest = rest; args = args; in_place = true }))
+          (StepDown source (ToPlace there) ∷ k) (focused_on (value_at source there) l)) old (core (ended_or_changed r)) new →
+          Follows rules ended_or_changed going_on old r new
       found_place place runs = found_goes there _ is
           (λ k. down_is rules.setting link chain args left there rest index source k old.local place) (Does runs)
 
       pub found_missing : there ≡ spot.Missing →
-          RunsFrom rules (λ k l. core (Walk (record chain { rest = rest; args = args; in_place = false }))
-          (Temporary (Some source) (way_back link.form link index chain) ∷ k) (focused_on (Some unit_value) l)) old r new →
-          FollowsFrom rules going_on old r new
+          Goes rules (λ k l. core (Walk (record chain { rest = rest; args = args; in_place = false }))
+          (Temporary (Some source) (way_back link.form link index chain) ∷ k) (focused_on (Some unit_value) l)) old
+          (core (ended_or_changed r)) new →
+          Follows rules ended_or_changed going_on old r new
       found_missing missing runs = found_goes spot.Missing _ (rw missing at is)
           (λ k. missing_is rules.setting link chain args left rest index source k old.local) (Does runs)
 
       pub found_part : IsPart (layer_of source) there →
-          FollowsFrom rules (part_core rules.setting (link_of rest) there (record chain
-          { rest = rest; args = args; in_place = false }) source)
-          old r new → FollowsFrom rules going_on old r new
+          Follows rules ended_or_changed (part_core rules.setting (link_of rest) there (record chain
+          { rest = rest; args = args; in_place = false }) source) old r new → Follows rules ended_or_changed going_on old r new
       found_part part follows = found_goes there _ is
           (λ k. part_is rules.setting link chain args left there rest index source k old.local part) follows
 
     -- nothing is found
     pub found_none : (e : EvalAltResult H) → (is_out_of_memory e ≡ false → wanted ≡ Err e) →
-        FollowsFrom rules going_on old (Err e) old
-    unfolding RunsFrom
+        Follows rules ended_or_changed going_on old (Err e) old
+    unfolding Goes
     found_none (error.ErrorOutOfMemory pos) is = FindsNoMemory pos refl refl
     found_none e is = Does (λ k. rw (is refl) here)
 
@@ -240,14 +242,14 @@ module _ {S H : Type 0} (rules : Rules S H) where
     -- and what is there is taken
     pub taken_there : (there : Spot) (v : Dynamic H) → spot_of rules.setting false link old.local.around.cells source index ≡ Ok
         (source, there) →
-        v ≡ taken_at source there → FollowsFrom rules taking old (Ok (v, false)) old
-    unfolding RunsFrom
+        v ≡ taken_at source there → Follows rules ended_or_changed taking old (Ok (v, false)) old
+    unfolding Goes
     taken_there there v is taken = Does (λ k. rw (is, taken) here)
 
     pub taken_none : (e : EvalAltResult H) →
         (is_out_of_memory e ≡ false → spot_of rules.setting false link old.local.around.cells source index ≡ Err e) →
-        FollowsFrom rules taking old (Err e) old
-    unfolding RunsFrom
+        Follows rules ended_or_changed taking old (Err e) old
+    unfolding Goes
     taken_none (error.ErrorOutOfMemory pos) is = FindsNoMemory pos refl refl
     taken_none e is = Does (λ k. rw (is refl) here)
 
@@ -258,17 +260,19 @@ module _ {S H : Type 0} (rules : Rules S H) where
     -- a method works on it
     pub part_method : (first : Link) (name : List ℕ) (args : List Expr) (pos : Position) → link ≡ Some first →
         first.form ≡ AtMethod name args pos →
-        RunsFrom rules (λ k l. method_of rules.setting name args pos false chain
-        (PartMethod source there pos ∷ after_method first.behind first chain k) (focused_on (Some (part_of source there)) l)) old r new →
-        FollowsFrom rules (part_core rules.setting link there chain source) old r new
+        Goes rules (λ k l. method_of rules.setting name args pos false chain
+        (PartMethod source there pos ∷ after_method first.behind first chain k) (focused_on (Some (part_of source there)) l)) old
+        (core (ended_or_changed r)) new →
+        Follows rules ended_or_changed (part_core rules.setting link there chain source) old r new
     part_method first name args pos is of runs = Does (begins_alike rules _ (part_core rules.setting link there chain source) old new r
         (λ k. ap (λ (o : Option Link). part_core rules.setting o there chain source k old.local) is
         ∙ ap (λ (form : LinkForm). part_form rules.setting form first there chain source k old.local) of) runs)
 
     -- and any other link on a temporary
     pub part_goes : IsNoMethod link → old.local.focus ≡ Some source →
-        RunsFrom rules (λ k l. core (Walk chain) (Temporary l.focus None ∷ k) (focused_on (Some (part_of source there)) l)) old r new →
-        FollowsFrom rules (part_core rules.setting link there chain source) old r new
+        Goes rules (λ k l. core (Walk chain) (Temporary l.focus None ∷ k) (focused_on (Some (part_of source there)) l)) old
+        (core (ended_or_changed r)) new →
+        Follows rules ended_or_changed (part_core rules.setting link there chain source) old r new
     part_goes none stands runs = Does (begins_alike rules _ (part_core rules.setting link there chain source) old new r
         (λ k. part_temporary rules.setting link there chain source k old.local none
         ∙ ap (λ (o : Option (Dynamic H)). core (Walk chain) (Temporary o None ∷ k) (focused_on (Some (part_of source there)) old.local))

@@ -1,6 +1,6 @@
 -- The focus behind a handle: its cell is held meanwhile, and gets what has become of its value.
 use Rattle.std.proofs.Common.{◌≡◌, ℕ, zero, suc, Bool, true, false, List, [], ◌∷◌, Option, Some, None, Result, Ok, Err, refl, sym, ap, ◌∙◌}
-use Rattle.std.specs.Prelude.{⊤, is_some, slice_set, length}
+use Rattle.std.specs.Prelude.{is_some}
 use Rattle.std.specs.Option.{unwrap_or}
 use Rattle.rhai_tree.specs.declared.position.Position.{Position}
 use Rattle.rhai_values.specs.declared.base.value.CellId.{CellId}
@@ -11,16 +11,16 @@ use Rattle.rhai_values.specs.Cells.{value_of_cell, with_held, with_value}
 use Rattle.rhai_state.specs.declared.error.EvalAltResult.{EvalAltResult}
 use Rattle.rhai_places.specs.Paths.{ToCell}
 use Rattle.rhai_machine.specs.machine.Point.{after}
-use Rattle.rhai_machine.specs.machine.Memory.{here, next, ◌⨾◌}
-use Rattle.rhai_machine.specs.language.Setting.{Rules}
+use Rattle.rhai_machine.specs.machine.Memory.{here, next, ◌⨾◌, Leads}
+use Rattle.rhai_machine.specs.language.Setting.{Rules, cut}
 use Rattle.rhai_machine.specs.language.State.{Local, State}
-use Rattle.rhai_machine.specs.language.Values.{Cells, is_handle, through, through_union, used}
+use Rattle.rhai_machine.specs.language.Values.{Cells, is_handle, through_union, used}
 use Rattle.rhai_machine.specs.language.Links.{Link}
-use Rattle.rhai_machine.specs.language.Frames.{Chain, Frame, Core, core, ended_or_changed, on_value, StepDown}
+use Rattle.rhai_machine.specs.language.Frames.{Chain, Frame, Core, ended_or_changed, on_value, StepDown}
 use Rattle.rhai_machine.specs.language.Handles.{entered, entered_by}
-use Rattle.rhai_machine.specs.language.Runs.{at, with_core, Goes}
-use Rattle.rhai_steps.specs.OnFocus.{RunsFrom}
-use Rattle.rhai_chains.specs.Chains.{FollowsFrom, Does, FindsNoMemory}
+use Rattle.rhai_machine.specs.language.Runs.{at, Goes}
+use Rattle.rhai_machine.specs.language.Language.{machine}
+use Rattle.rhai_steps.specs.Follows.{Follows, Does, FindsNoMemory}
 use Rattle.rhai_walk.specs.Walking.{entered_core, Enters, inside_core, Leaves}
 use Rattle.rhai_chains.proofs.Alike.{follows_alike}
 
@@ -60,7 +60,7 @@ module _ {S H : Type 0} (rules : Rules S H) where
   -- a result comes up out of a cell, whose value goes back
   up_from_cell : (r : Result (Dynamic H × Bool) (EvalAltResult H)) (focus worked : Dynamic H) (n : ℕ) (left : Cells H) (new : State S H)
       (k : List (Frame H)) →
-      Goes rules (at (ended_or_changed r) (StepDown focus (ToCell n) ∷ k) (standing worked left new))
+      Leads (machine rules) (cut rules) (at (ended_or_changed r) (StepDown focus (ToCell n) ∷ k) (standing worked left new))
       (at (ended_or_changed r) k (standing focus (with_value left n worked) new))
   unfolding after
   up_from_cell (Ok (v, true)) focus worked n left new k = next here
@@ -92,10 +92,10 @@ module _ {S H : Type 0} (rules : Rules S H) where
 
     runs_inside : (focus inner worked : Dynamic H) (id : CellId) (cells left : Cells H) → focus.value ≡ value.Cell id →
         value_of_cell cells id.number ≡ Some inner →
-        FollowsFrom rules (inside focus inner) (standing inner (with_held cells id.number) old) r (standing worked left new) →
-        FollowsFrom rules (entered_core rules.setting link chain) (standing focus cells old) r
+        Follows rules ended_or_changed (inside focus inner) (standing inner (with_held cells id.number) old) r (standing worked left new) →
+        Follows rules ended_or_changed (entered_core rules.setting link chain) (standing focus cells old) r
         (standing focus (with_value left id.number worked) new)
-    unfolding RunsFrom
+    unfolding Goes
     runs_inside focus inner worked id cells left handle there (Does runs) = Does (λ k.
         rw (starts_inside focus inner id cells k handle there)
         (runs (StepDown focus (ToCell id.number) ∷ k) ⨾ up_from_cell r focus worked id.number left new k))
@@ -106,8 +106,9 @@ module _ {S H : Type 0} (rules : Rules S H) where
     -- the focus is entered and left
     pub enters : (above : Option (CellId × Dynamic H)) (focus inner worked end : Dynamic H) (cells taken left put : Cells H) →
         Enters above focus inner cells taken →
-        FollowsFrom rules (inside focus inner) (standing inner taken old) r (standing worked left new) → Leaves above worked end left put →
-        FollowsFrom rules (entered_core rules.setting link chain) (standing focus cells old) r (standing end put new)
+        Follows rules ended_or_changed (inside focus inner) (standing inner taken old) r (standing worked left new) →
+        Leaves above worked end left put →
+        Follows rules ended_or_changed (entered_core rules.setting link chain) (standing focus cells old) r (standing end put new)
     enters None focus inner worked end cells taken left put e follows l = rw (l.0, l.1)
         (follows_alike rules (inside focus focus) (entered_core rules.setting link chain) (standing focus cells old) (standing
         worked left new) r

@@ -1,5 +1,5 @@
 -- Whether the focus may be entered.
-use Rattle.std.proofs.Common.{◌≡◌, Bool, true, false, not, Option, Some, None, is_some, refl}
+use Rattle.std.proofs.Common.{◌≡◌, true, false, not, Option, Some, None, is_some, refl}
 use Rattle.rhai_values.specs.declared.base.value.Dynamic.{Dynamic}
 use Rattle.rhai_values.specs.declared.base.value.Union.{Union}
 use Rattle.rhai_values.specs.declared.base.value.Union.TheVariants as value

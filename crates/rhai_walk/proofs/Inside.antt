@@ -14,11 +14,13 @@ use Rattle.rhai_machine.specs.language.Setting.{Rules}
 use Rattle.rhai_machine.specs.language.State.{Answers, Local, State}
 use Rattle.rhai_machine.specs.language.Links.{Link, LinkForm, AtIndex, AtProperty, AtMethod}
 use Rattle.rhai_machine.specs.language.Frames.{Chain, NewValue, Property, Item, MemberAccess, MemberLink, Frame, Core}
+use Rattle.rhai_machine.specs.language.Frames.{ended_or_changed}
+use Rattle.rhai_machine.specs.language.Frames.{core}
 use Rattle.rhai_machine.specs.language.Located.{args_behind, is_indexed, is_map}
 use Rattle.rhai_machine.specs.language.Members.{get_core}
 use Rattle.rhai_machine.specs.language.Chains.{after_method, indexed_core, method_of, is_property, kept_access, member_core, spot_core}
-use Rattle.rhai_steps.specs.OnFocus.{RunsFrom}
-use Rattle.rhai_chains.specs.Chains.{FollowsFrom, Does, FindsNoMemory}
+use Rattle.rhai_machine.specs.language.Runs.{Goes}
+use Rattle.rhai_steps.specs.Follows.{Follows, Does, FindsNoMemory}
 use Rattle.rhai_walk.specs.Walking.{inside_by, inside_core}
 use Rattle.rhai_chains.proofs.Alike.{begins_alike, follows_alike}
 use Rattle.rhai_walk.proofs.Descending.{map_indexed}
@@ -32,23 +34,25 @@ given_is {H = H} v wanted answers =
 module _ {S H : Type 0} (rules : Rules S H) where
   -- memory runs out for what is given without fail
   pub first_runs_out : (start : List (Frame H) → Local H → Core H) (s : State S H) (e : EvalAltResult H) (v : Dynamic H) →
-      Answers (Err e) (Ok v) → FollowsFrom rules start s (Err e) s
+      Answers (Err e) (Ok v) → Follows rules ended_or_changed start s (Err e) s
   first_runs_out start s (error.ErrorOutOfMemory pos) v answers = FindsNoMemory pos refl refl
   first_runs_out start s e v answers = let never : ◌≡◌ {A = Result (Dynamic H) (EvalAltResult H)} (Err e) (Ok v) = answers refl in cc
 
   -- or for what fails only where memory runs out
-  pub fails_for_memory_alone : (start : List (Frame H) → Local H → Core H) (s : State S H) (e : EvalAltResult H) → is_out_of_memory e ≡ true →
-      FollowsFrom rules start s (Err e) s
+  pub fails_for_memory_alone : (start : List (Frame H) → Local H → Core H) (s : State S H) (e : EvalAltResult H) →
+      is_out_of_memory e ≡ true →
+      Follows rules ended_or_changed start s (Err e) s
   fails_for_memory_alone start s (error.ErrorOutOfMemory pos) is = FindsNoMemory pos refl refl
   fails_for_memory_alone start s e is = cc
 
   -- what a link does with a spot, by what stands behind the link
   pub spot_by : (behind rest : Option ExprLayer) (assigned : Option (NewValue H)) (link : Link) (index source : Dynamic H) (chain : Chain H)
       (old new : State S H) (r : Result (Dynamic H × Bool) (EvalAltResult H)) → behind ≡ rest →
-      FollowsFrom rules (spot_core rules.setting rest assigned link index chain source) old r new →
-      FollowsFrom rules (spot_core rules.setting behind assigned link index chain source) old r new
+      Follows rules ended_or_changed (spot_core rules.setting rest assigned link index chain source) old r new →
+      Follows rules ended_or_changed (spot_core rules.setting behind assigned link index chain source) old r new
   spot_by behind rest assigned link index source chain old new r is follows =
-      subst (λ (o : Option ExprLayer). FollowsFrom rules (spot_core rules.setting o assigned link index chain source) old r new) (sym is)
+      subst (λ (o : Option ExprLayer).
+      Follows rules ended_or_changed (spot_core rules.setting o assigned link index chain source) old r new) (sym is)
       follows
 
   module _ (link : Link) (chain : Chain H) (source : Dynamic H) (old new : State S H) (r : Result (Dynamic H × Bool)
@@ -56,19 +60,19 @@ module _ {S H : Type 0} (rules : Rules S H) where
     -- an item, or an entry, that stands in the value
     abbrev spot_follows : (index : Dynamic H) → Type 0
     spot_follows index =
-        FollowsFrom rules (spot_core rules.setting link.behind chain.new link index chain source) old r new
+        Follows rules ended_or_changed (spot_core rules.setting link.behind chain.new link index chain source) old r new
 
     -- a member that natives get and set
     abbrev member_follows : MemberAccess H → Type 0
-    member_follows access = FollowsFrom rules (member_core rules.setting link.behind chain.new link access chain) old r new
+    member_follows access = Follows rules ended_or_changed (member_core rules.setting link.behind chain.new link access chain) old r new
 
     abbrev indexed_follows : (index : Dynamic H) → (indexed : Bool) → Type 0
-    indexed_follows index indexed = FollowsFrom rules (indexed_core rules.setting indexed link index chain source) old r new
+    indexed_follows index indexed = Follows rules ended_or_changed (indexed_core rules.setting indexed link index chain source) old r new
 
     -- an index works on the first of the arguments
     pub item_inside : (was_handle : Bool) (expr : Expr) (index : Dynamic H) (rest : List (Dynamic H)) → link.form ≡ AtIndex expr →
         chain.args ≡ index ∷ rest → indexed_follows index (is_indexed (layer_of source)) →
-        FollowsFrom rules (inside_core rules.setting link was_handle source chain) old r new
+        Follows rules ended_or_changed (inside_core rules.setting link was_handle source chain) old r new
     item_inside was_handle expr index rest of args follows =
         follows_alike rules (indexed_core rules.setting (is_indexed (layer_of source)) link index chain source)
         (inside_core rules.setting link was_handle source chain) old new r
@@ -88,8 +92,9 @@ module _ {S H : Type 0} (rules : Rules S H) where
 
     -- a method is called on what stands there
     pub method_inside : (was_handle : Bool) (name : List ℕ) (args : List Expr) (pos : Position) → link.form ≡ AtMethod name args pos →
-        RunsFrom rules (λ k. method_of rules.setting name args pos was_handle chain (after_method link.behind link chain k)) old r new →
-        FollowsFrom rules (inside_core rules.setting link was_handle source chain) old r new
+        Goes rules (λ k. method_of rules.setting name args pos was_handle chain (after_method link.behind link chain k)) old
+        (core (ended_or_changed r)) new →
+        Follows rules ended_or_changed (inside_core rules.setting link was_handle source chain) old r new
     method_inside was_handle name args pos of runs = Does (begins_alike rules
         (λ k. method_of rules.setting name args pos was_handle chain (after_method link.behind link chain k))
         (inside_core rules.setting link was_handle source chain) old new r
@@ -99,11 +104,11 @@ module _ {S H : Type 0} (rules : Rules S H) where
     module _ (was_handle : Bool) (name : List ℕ) (pos : Position) where
       abbrev property_follows : (of_map : Bool) → Type 0
       property_follows of_map =
-          FollowsFrom rules (inside_by rules.setting (AtProperty name pos) of_map was_handle link source chain) old r new
+          Follows rules ended_or_changed (inside_by rules.setting (AtProperty name pos) of_map was_handle link source chain) old r new
 
       -- a property
       pub named_inside : link.form ≡ AtProperty name pos → property_follows (is_map (layer_of source)) →
-          FollowsFrom rules (inside_core rules.setting link was_handle source chain) old r new
+          Follows rules ended_or_changed (inside_core rules.setting link was_handle source chain) old r new
       named_inside of follows = follows_alike rules
           (inside_by rules.setting (AtProperty name pos) (is_map (layer_of source)) was_handle link source chain)
           (inside_core rules.setting link was_handle source chain) old new r
@@ -136,11 +141,13 @@ module _ {S H : Type 0} (rules : Rules S H) where
         (record chain { rest = rest; args = args; in_place = is_property access.member }) ∷ k)
 
     pub member_goes : (rest : ExprLayer) (args : List (Dynamic H)) → behind ≡ Some rest → args_behind link.form chain.args ≡ args →
-        FollowsFrom rules (from_value rest args) old r new → FollowsFrom rules (by_natives behind) old r new
+        Follows rules ended_or_changed (from_value rest args) old r new → Follows rules ended_or_changed (by_natives behind) old r new
     member_goes rest args is left follows = follows_alike rules (from_value rest args) (by_natives behind) old new r
         (λ k. ap (λ (o : Option ExprLayer). by_natives o k old.local) is
         ∙ ap (λ (xs : List (Dynamic H)). from_value rest xs k old.local) left) follows
 
     -- or ends in it
-    pub member_ends : behind ≡ None → RunsFrom rules (by_natives None) old r new → FollowsFrom rules (by_natives behind) old r new
-    member_ends is runs = Does (subst (λ (o : Option ExprLayer). RunsFrom rules (by_natives o) old r new) (sym is) runs)
+    pub member_ends : behind ≡ None → Goes rules (by_natives None) old (core (ended_or_changed r)) new →
+        Follows rules ended_or_changed (by_natives behind) old r new
+    member_ends is runs =
+        Does (subst (λ (o : Option ExprLayer). Goes rules (by_natives o) old (core (ended_or_changed r)) new) (sym is) runs)

@@ -6,11 +6,10 @@ use Rattle.rhai_places.specs.declared.spot.Spot.{Spot}
 use Rattle.rhai_places.specs.declared.target.Part.TheVariants as part
 use Rattle.rhai_machine.specs.language.Setting.{Rules}
 use Rattle.rhai_machine.specs.language.State.{State}
-use Rattle.rhai_machine.specs.language.Frames.{PartMethod}
+use Rattle.rhai_machine.specs.language.Frames.{PartMethod, core, ended_or_changed}
 use Rattle.rhai_machine.specs.language.Members.{focused_on}
 use Rattle.rhai_machine.specs.language.Methods.{Method, method_core}
-use Rattle.rhai_steps.specs.OnFocus.{RunsFrom}
-use Rattle.rhai_methods.specs.Methods.{CallsFrom}
+use Rattle.rhai_machine.specs.language.Runs.{Goes}
 use Rattle.rhai_methods.specs.Targets.{ComesBack}
 use Rattle.rhai_methods.proofs.TargetLemmas.{part_goes}
 use Rattle.rhai_walk.proofs.OnTemporaries.{working}
@@ -19,11 +18,10 @@ module _ {S H : Type 0} (rules : Rules S H) where
   -- a method on a part, over what takes the part back
   pub part_called : (method : Method) (args : List (Dynamic H)) (there : Spot) (source v w left : Dynamic H) (old new : State S H)
       (answer r : Result (Dynamic H × Bool) (EvalAltResult H)) →
-      RunsFrom rules (method_core rules.setting method args v) (working (Some v) old) answer (working (Some w) new) →
+      Goes rules (method_core rules.setting method args v) (working (Some v) old) (core (ended_or_changed answer)) (working (Some w) new) →
       ComesBack rules.setting.host_type (part.Of there w) source method.at answer r left →
-      RunsFrom rules
-      (λ k l. method_core rules.setting method args v (PartMethod source there method.at ∷ k) (focused_on (Some v) l)) old r
-      (working (Some left) new)
-  unfolding CallsFrom RunsFrom
+      Goes rules (λ k l. method_core rules.setting method args v (PartMethod source there method.at ∷ k) (focused_on (Some v) l)) old
+      (core (ended_or_changed r)) (working (Some left) new)
+  unfolding Goes
   part_called method args there source v w left old new answer r runs comes =
       part_goes rules method args there source v w left old new answer r runs comes

@@ -2,7 +2,6 @@
 use Rattle.std.specs.Prelude.{◌≡◌, ⊤, ℕ, ◌+◌, Bool, true, false, ◌&&◌, ◌||◌, List, [], ◌∷◌, length, Option, Some, None, is_some, is_none}
 use Rattle.std.specs.Prelude.{Result, Ok, Err}
 use Rattle.rhai_tree.specs.declared.position.Position.{Position}
-use Rattle.rhai_tree.specs.declared.expr.Expr.{Expr}
 use Rattle.rhai_tree.specs.Layers.{ExprLayer}
 use Rattle.rhai_values.specs.declared.base.value.CellId.{CellId}
 use Rattle.rhai_values.specs.declared.base.value.Dynamic.{Dynamic}
@@ -17,22 +16,21 @@ use Rattle.rhai_places.specs.declared.spot.Spot.{Spot}
 use Rattle.rhai_places.specs.declared.spot.Spot.TheVariants as spot
 use Rattle.rhai_places.specs.declared.spot.Access.{Access}
 use Rattle.rhai_places.specs.Parts.{IsPart, IsPlace, IsThere}
-use Rattle.rhai_machine.specs.language.Setting.{Setting, Rules}
+use Rattle.rhai_machine.specs.language.Setting.{Setting, Rules, cut}
 use Rattle.rhai_machine.specs.language.State.{Local, State}
 use Rattle.rhai_machine.specs.language.Values.{Cells, is_handle, through}
 use Rattle.rhai_machine.specs.language.Links.{Link, LinkForm, AtIndex, AtProperty, AtMethod, asked_by}
-use Rattle.rhai_machine.specs.language.Frames.{Chain, MemberAccess, Property, Frame, Core, core, on_value, Walk, Fail, MethodLink}
+use Rattle.rhai_machine.specs.language.Frames.{Chain, Property, Frame, Core, on_value, Walk, Fail, MethodLink}
+use Rattle.rhai_machine.specs.language.Frames.{ended_or_changed}
 use Rattle.rhai_machine.specs.language.Located.{index_by, is_indexed, is_map, is_unit, taken_at}
-use Rattle.rhai_machine.specs.language.Members.{focus_of, get_core}
-use Rattle.rhai_machine.specs.language.Chains.{after_method, entered, indexed_core, kept_access, member_core, method_of}
-use Rattle.rhai_machine.specs.language.Runs.{at, with_core, Goes}
-use Rattle.rhai_steps.specs.OnFocus.{RunsFrom}
-use Rattle.rhai_chains.specs.Chains.{form_seen, link_seen, BehindWalks, FollowsFrom, WalkRuns}
-use Rattle.rhai_chains.specs.Members.{access_of}
+use Rattle.rhai_machine.specs.language.Members.{focus_of}
+use Rattle.rhai_machine.specs.language.Chains.{after_method, entered, indexed_core, member_core, method_of}
+use Rattle.rhai_machine.specs.language.Runs.{at, with_core, Steps}
+use Rattle.rhai_machine.specs.machine.Memory.{Leads}
+use Rattle.rhai_machine.specs.language.Language.{machine}
+use Rattle.rhai_chains.specs.Chains.{form_seen, link_seen, BehindWalks}
 use Rattle.rhai_chains.specs.Spots.{way_through}
-use Rattle.rhai_chains.specs.declared.chain.Switches.{Switches}
 use Rattle.rhai_chains.specs.declared.links.Link.{Link as CodeLink}
-use Rattle.rhai_chains.specs.declared.members.MemberAccess.{MemberAccess as CodeAccess}
 use Rattle.rhai_walk.specs.declared.ways.Begun.{Begun}
 use Rattle.rhai_walk.specs.declared.ways.Begun.TheVariants as begun
 use Rattle.rhai_walk.specs.declared.ways.Descent.{Descent}
@@ -50,8 +48,8 @@ pub record LinkWalks (assigned : Bool) (link : Link) (count : ℕ) : Type 0 wher
   pub walks : BehindWalks assigned link.form link.behind behind
 
 -- how a link finds its spot, where no key is inserted
-abbrev pub way_below : CodeLink → Switches → Access
-way_below link switches = way_through (link_seen link) false switches.fail_on_invalid_map_property
+abbrev pub way_below : CodeLink → (is_strict : Bool) → Access
+way_below link is_strict = way_through (link_seen link) false is_strict
 
 -- the walk goes on so at a spot
 abbrev pub IsDescent : Descent → Spot → Type 0
@@ -173,13 +171,13 @@ module _ {H : Type 0} where
     -- the machine comes to where the focus is entered, unless it is assigned to in a method, and memory may run out there
     pub record Comes : Type 0 where
       pub comes : MayEndAt link.form (is_some link.behind || is_none chain.new) → (k : List (Frame H)) →
-          Goes rules (at (Walk chain) k old) (with_core (entered_core rules.setting link chain k new.local) new)
+          Leads (machine rules) (cut rules) (at (Walk chain) k old) (with_core (entered_core rules.setting link chain k new.local) new)
       pub may_run_out : (pos : Position) (k : List (Frame H)) →
-          Goes rules (at (Walk chain) k old) (at (Fail (error.ErrorOutOfMemory pos)) k new)
+          Leads (machine rules) (cut rules) (at (Walk chain) k old) (at (Fail (error.ErrorOutOfMemory pos)) k new)
 
   -- the walk has ended, or the machine comes to the link
   abbrev pub Begins : {S : Type 0} → Rules S H → Link → Chain H → State S H → Begun H → State S H → Type 0
-  Begins rules link chain old (begun.Ended r) new = WalkRuns rules chain old r new
+  Begins rules link chain old (begun.Ended r) new = Steps rules (Walk chain) old (ended_or_changed r) new
   Begins rules link chain old begun.Enters new = Comes rules link chain old new
 
   -- the focus may be entered
@@ -212,10 +210,3 @@ module _ {H : Type 0} where
       (source : Dynamic H) → Type 0
   TakesBelow (Ok v) wanted source = (there : Spot) × ((wanted ≡ Ok (source, there)) × (v ≡ taken_at source there))
   TakesBelow (Err e) wanted source = is_out_of_memory e ≡ false → wanted ≡ Err e
-
-  -- a member was got, and how it is set again is kept; or the machine comes to the error, or memory ran out before
-  abbrev pub GetsKept : {S : Type 0} → Rules S H → MemberAccess H → State S H →
-      Result (Dynamic H × CodeAccess H) (EvalAltResult H) → State S H → Type 0
-  GetsKept rules access old (Ok (v, kept)) new =
-      RunsFrom rules (get_core access) old (Ok (v, false)) new × (access_of kept ≡ kept_access access)
-  GetsKept rules access old (Err e) new = FollowsFrom rules (get_core access) old (Err e) new

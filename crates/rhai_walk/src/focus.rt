@@ -15,7 +15,7 @@ use rhai_context::ends::stop;
 use rhai_context::{Aside, Context, put_aside, take_up};
 use rhai_functions::function::Function;
 use rhai_state::error::EvalAltResult;
-use rhai_steps::errors::{data_race, data_race_by};
+use rhai_state::errors::{data_race, data_race_by};
 use rhai_steps::values::{let_go, unit_value};
 use rhai_tree::position::Position;
 use rhai_values::base::value::{CellId, Dynamic, Host};

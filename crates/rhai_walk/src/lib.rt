@@ -11,17 +11,13 @@ pub mod focus;
 pub mod temporaries;
 pub mod ways;
 
-use rhai_chains::chain::Switches;
-use rhai_state::limits::Limits;
+use rhai_state::session::Session;
 use rhai_tree::expr::Expr;
-use std::alloc::Global;
 
 /// What stays the same all along a walk.
-#[derive(Clone, Copy)]
-pub struct Walker<'w> {
-    pub limits: &'w Limits,
-    pub switches: Switches,
-    pub alloc: Global,
+#[derive(Drop)]
+pub struct Walker<'w, 'e, H> {
+    pub session: &'w Session<'e, H>,
     /// The root of the chain.
     pub root: &'w Expr,
 }

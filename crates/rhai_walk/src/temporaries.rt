@@ -1,19 +1,20 @@
 //! Temporaries that are the focus of a walk: how they go back to where they came from.
 
-ghost use Rattle.std.specs.Prelude.{◌≡◌, ◌≤◌, ◌∷◌, None, Some, true, IfErr, IfOk, IfSome};
+ghost use Rattle.std.specs.Prelude.{◌≡◌, ◌≤◌, ◌∷◌, None, Some, false, true, IfErr, IfOk, IfSome, Err, Ok};
 ghost use Rattle.std.specs.Option.{option_map};
 ghost use Rattle.rhai_state.specs.Errors.{is_out_of_memory};
 ghost use Rattle.rhai_machine.specs.language.Chains.{is_property as is_property_in, kept_access, way_back};
 ghost use Rattle.rhai_machine.specs.language.Frames.{core, ended_or_changed, MemberSet, Temporary};
-ghost use Rattle.rhai_machine.specs.language.Members.{focused_on, set_core};
-ghost use Rattle.rhai_machine.specs.language.Setting.{rules_of};
+ghost use Rattle.rhai_machine.specs.language.Members.{focused_on, set_core, get_core};
+ghost use Rattle.rhai_machine.specs.language.Runs.{Goes};
 ghost use Rattle.rhai_steps.specs.Agreement.{KeepsSight};
+ghost use Rattle.rhai_steps.specs.Sessions.{under};
 ghost use Rattle.rhai_steps.specs.States.{state_of};
-ghost use Rattle.rhai_steps.specs.OnFocus.{lending, RunsFrom};
+ghost use Rattle.rhai_steps.specs.OnFocus.{lending};
+ghost use Rattle.rhai_steps.specs.Follows.{Follows};
 ghost use Rattle.rhai_chains.specs.Chains.{form_seen, link_seen};
 ghost use Rattle.rhai_chains.specs.Members.{access_of};
-ghost use Rattle.rhai_context.specs.Ends.{came_changed, came_some, error_in};
-ghost use Rattle.rhai_walk.specs.Walking.{GetsKept};
+ghost use Rattle.rhai_context.specs.Ends.{came_changed, error_in};
 
 use crate::Walker;
 use rhai_chains::links::{Link, LinkForm};
@@ -35,8 +36,8 @@ pub fn access_back<'e, H: Host>(
     index: &Dynamic<H>,
     in_place: bool,
 ) -> Option<Option<MemberAccess<'e, H>>>
-    ensures some { (chain : _) → chain.in_place ≡ in_place → IfSome result (λ back. option_map access_of back
-        ≡ way_back (form_seen link.entry.form) (link_seen link.entry) index.now chain) }
+    ensures some { (chain : _) → IfSome result (λ back. option_map access_of back
+        ≡ way_back (form_seen link.entry.form) (link_seen link.entry) index.now (record chain { in_place = in_place })) }
     ensures none { result ≡ None → is_out_of_memory (error_in place.new) ≡ true }
 {
     match link.form {
@@ -80,7 +81,7 @@ fn keep_access<'e, H: Host>(
 
 /// Gets a member of the focus, and keeps how it is set again. An error is left in `place`.
 pub fn get_kept<'e, H: Host, T: NativeTable<H>>(
-    walker: &Walker<'_>,
+    walker: &Walker<'_, '_, H>,
     global: &mut GlobalRuntimeState<H>,
     place: &mut Option<EvalAltResult<H>>,
     table: &mut T,
@@ -89,13 +90,18 @@ pub fn get_kept<'e, H: Host, T: NativeTable<H>>(
 ) -> Option<(Dynamic<H>, MemberAccess<'e, H>)>
     ensures counts { global.old.num_operations ≤ global.new.num_operations }
     ensures sight { KeepsSight global.old global.new }
-    ensures runs { (offer : _) (scope : _) (held : _) →
-        GetsKept (rules_of walker.now.limits.now H.name_of offer T.natives) (access_of access.entry)
+    ensures gets { (scope : _) (held : _) → IfSome result (λ got. Goes (under H.name_of walker.now.session.now T.natives)
+        (get_core (access_of access.entry))
         (state_of (T.state table.old) global.old scope (lending held focus.old))
-        (came_some result place.new)
+        (core (ended_or_changed (Ok (got.0, false))))
+        (state_of (T.state table.new) global.new scope (lending held focus.new))) }
+    ensures kept { IfSome result (λ got. access_of got.1 ≡ kept_access (access_of access.entry)) }
+    ensures fails { (scope : _) (held : _) → result ≡ None →
+        Follows (under H.name_of walker.now.session.now T.natives) ended_or_changed (get_core (access_of access.entry))
+        (state_of (T.state table.old) global.old scope (lending held focus.old)) (Err (error_in place.new))
         (state_of (T.state table.new) global.new scope (lending held focus.new)) }
 {
-    let kept = match keep_access(walker.alloc, &access) {
+    let kept = match keep_access(walker.session.alloc, &access) {
         Ok(kept) => kept,
         Err(error) => {
             drop(access);
@@ -104,14 +110,7 @@ pub fn get_kept<'e, H: Host, T: NativeTable<H>>(
         }
     };
     let mut access = access;
-    let got = get_member(
-        walker.limits,
-        walker.alloc,
-        global,
-        table,
-        focus,
-        &mut access,
-    );
+    let got = get_member(walker.session, global, table, focus, &mut access);
     drop(access);
     match got {
         Ok((value, _)) => Some((value, kept)),
@@ -126,7 +125,7 @@ pub fn get_kept<'e, H: Host, T: NativeTable<H>>(
 /// Sets a temporary that may have been changed in the value it came from, where it has a way back. What the
 /// walk came to stays where it is, unless that is refused.
 pub fn come_back<H: Host, T: NativeTable<H>>(
-    walker: &Walker<'_>,
+    walker: &Walker<'_, '_, H>,
     global: &mut GlobalRuntimeState<H>,
     out: &Dynamic<H>,
     place: &mut Option<EvalAltResult<H>>,
@@ -138,12 +137,11 @@ pub fn come_back<H: Host, T: NativeTable<H>>(
 ) -> Option<bool>
     ensures counts { global.old.num_operations ≤ global.new.num_operations }
     ensures sight { KeepsSight global.old global.new }
-    ensures runs { (offer : _) (scope : _) (held : _) →
-        RunsFrom (rules_of walker.now.limits.now H.name_of offer T.natives)
-        (λ k l. core (ended_or_changed (came_changed mark out.now place.old))
-        (Temporary (Some source.old) (option_map access_of back.entry) ∷ k) (focused_on (Some temporary) l))
+    ensures runs { (scope : _) (held : _) →
+        Goes (under H.name_of walker.now.session.now T.natives)
+        (λ k l. core (ended_or_changed (came_changed mark out.now place.old)) (Temporary (Some source.old) (option_map access_of back.entry) ∷ k) (focused_on (Some temporary) l))
         (state_of (T.state table.old) global.old scope (lending held source.old))
-        (came_changed result out.now place.new)
+        (core (ended_or_changed (came_changed result out.now place.new)))
         (state_of (T.state table.new) global.new scope (lending held source.new)) }
 {
     let Some(access) = back else {
@@ -167,7 +165,7 @@ pub fn come_back<H: Host, T: NativeTable<H>>(
 
 /// Sets a temporary that was changed in the value that it came from. The answer is the walk's value.
 fn set_back<H: Host, T: NativeTable<H>>(
-    walker: &Walker<'_>,
+    walker: &Walker<'_, '_, H>,
     global: &mut GlobalRuntimeState<H>,
     out: &Dynamic<H>,
     place: &mut Option<EvalAltResult<H>>,
@@ -178,17 +176,16 @@ fn set_back<H: Host, T: NativeTable<H>>(
 ) -> Option<bool>
     ensures counts { global.old.num_operations ≤ global.new.num_operations }
     ensures sight { KeepsSight global.old global.new }
-    ensures runs { (offer : _) (scope : _) (held : _) →
-        RunsFrom (rules_of walker.now.limits.now H.name_of offer T.natives)
+    ensures runs { (scope : _) (held : _) →
+        Goes (under H.name_of walker.now.session.now T.natives)
         (λ k. set_core true (access_of access.entry) temporary (MemberSet out.now ∷ k))
         (state_of (T.state table.old) global.old scope (lending held source.old))
-        (came_changed result out.now place.new)
+        (core (ended_or_changed (came_changed result out.now place.new)))
         (state_of (T.state table.new) global.new scope (lending held source.new)) }
 {
     let mut access = access;
     let set = set_member(
-        walker.limits,
-        walker.alloc,
+        walker.session,
         global,
         table,
         source,

@@ -11,10 +11,10 @@ ghost use Rattle.rhai_places.specs.Found.{found};
 ghost use Rattle.rhai_machine.specs.language.Links.{link_of as link_in};
 ghost use Rattle.rhai_machine.specs.language.Located.{is_map as is_map_in, is_indexed as is_indexed_in};
 ghost use Rattle.rhai_machine.specs.language.Located.{is_unit as is_unit_in};
-ghost use Rattle.rhai_machine.specs.language.Setting.{rules_of};
 ghost use Rattle.rhai_machine.specs.language.State.{Answers};
 ghost use Rattle.rhai_machine.specs.language.Values.{through, used};
 ghost use Rattle.rhai_steps.specs.Agreement.{KeepsSight};
+ghost use Rattle.rhai_steps.specs.Sessions.{under};
 ghost use Rattle.rhai_steps.specs.States.{state_of};
 ghost use Rattle.rhai_steps.specs.OnFocus.{lending};
 ghost use Rattle.rhai_chains.specs.Chains.{form_seen, link_seen};
@@ -23,24 +23,22 @@ ghost use Rattle.rhai_walk.specs.Walking.{Begins, Enters, FindsDown, FitsLink, I
 ghost use Rattle.rhai_walk.specs.Walking.{IsFree, IsMethodIn, IsSpotBelow, IsWay, Leaves};
 ghost use Rattle.rhai_walk.specs.Walking.{TakesBelow, WayBy, way_below};
 
-use rhai_chains::chain::Switches;
 use rhai_chains::links::{Link, LinkForm, link_of};
 use rhai_chains::spots::{access_for, find_spot, take_spot};
 use rhai_context::ends::stop;
 use rhai_places::spot::Spot;
 use rhai_state::error::EvalAltResult;
-use rhai_state::limits::Limits;
+use rhai_state::errors::data_race;
+use rhai_state::session::Session;
 use rhai_state::state::GlobalRuntimeState;
 use rhai_state::table::NativeTable;
 use rhai_steps::charges::track_operation;
-use rhai_steps::errors::data_race;
 use rhai_steps::values::{text_value, unit_value};
 use rhai_tree::expr::{Expr, FnCallExpr};
 use rhai_tree::position::Position;
 use rhai_tree::{Shared, Text};
 use rhai_values::base::value::{CellId, Dynamic, Host, Union};
 use rhai_values::cells::{CellStore, put_back};
-use std::alloc::Global;
 use std::mem::replace;
 
 /// Which way the walk goes at a link.
@@ -149,8 +147,7 @@ pub enum Begun<H> {
 /// # Errors
 /// At the operator `ErrorDataRace` for the handle of a cell that is held; and a charge's.
 pub fn begin_link<H: Host, T: NativeTable<H>>(
-    limits: &Limits,
-    alloc: Global,
+    session: &Session<'_, H>,
     global: &mut GlobalRuntimeState<H>,
     table: &T,
     focus: &Dynamic<H>,
@@ -159,16 +156,16 @@ pub fn begin_link<H: Host, T: NativeTable<H>>(
     ensures counts { global.old.num_operations ≤ global.new.num_operations }
     ensures sight { KeepsSight global.old global.new }
     ensures fits { FitsLink result (cells_of global.new.cells) focus.now }
-    ensures begins { (offer : _) (scope : _) (held : _) (chain : _) →
+    ensures begins { (scope : _) (held : _) (chain : _) →
         link_in chain.rest ≡ Some (link_seen link.entry) →
-        Begins (rules_of limits.now H.name_of offer T.natives) (link_seen link.entry) chain
+        Begins (under H.name_of session.now T.natives) (link_seen link.entry) chain
         (state_of (T.state table.now) global.old scope (lending held focus.now))
         result (state_of (T.state table.now) global.new scope (lending held focus.now)) }
 {
     match way_of(&global.cells, focus, link) {
-        Way::Races => Begun::Ended(Err(data_race(alloc, link.at))),
+        Way::Races => Begun::Ended(Err(data_race(session.alloc, link.at))),
         Way::Stops => Begun::Ended(Ok((unit_value(), false))),
-        Way::Charges => match track_operation(limits, global, Position::NONE) {
+        Way::Charges => match track_operation(&session.limits, global, Position::NONE) {
             Ok(()) => Begun::Enters,
             Err(error) => Begun::Ended(Err(error)),
         },
@@ -261,25 +258,23 @@ fn descent_to(spot: Spot) -> Descent
 
 /// Finds the spot that an index or a key leads to, where no key is inserted.
 pub fn spot_below<H: Host>(
-    switches: Switches,
-    alloc: Global,
+    session: &Session<'_, H>,
     cells: &CellStore<H>,
     source: &mut Dynamic<H>,
     index: &Dynamic<H>,
     link: Link<'_>,
 ) -> Result<Spot, EvalAltResult<H>>
     ensures same { source.new ≡ source.old }
-    ensures finds { IsSpotBelow result (found (way_below link.entry switches) H.name_of (cells_of cells.now)
+    ensures finds { IsSpotBelow result (found (way_below link.entry session.now.fail_on_invalid_map_property) H.name_of (cells_of cells.now)
         source.old index.now) source.old }
 {
-    let how = access_for(link, false, switches);
-    find_spot(alloc, cells, source, index, how)
+    let how = access_for(link, false, session.fail_on_invalid_map_property);
+    find_spot(session.alloc, cells, source, index, how)
 }
 
 /// Finds where the walk goes on below a value, by an index or a key. An error is left in `place`.
 pub fn find_down<H: Host>(
-    switches: Switches,
-    alloc: Global,
+    session: &Session<'_, H>,
     cells: &CellStore<H>,
     place: &mut Option<EvalAltResult<H>>,
     source: &mut Dynamic<H>,
@@ -287,10 +282,10 @@ pub fn find_down<H: Host>(
     link: Link<'_>,
 ) -> Option<Descent>
     ensures same { source.new ≡ source.old }
-    ensures finds { FindsDown (came_some result place.new) (found (way_below link.entry switches)
+    ensures finds { FindsDown (came_some result place.new) (found (way_below link.entry session.now.fail_on_invalid_map_property)
         H.name_of (cells_of cells.now) source.old index.now) source.old }
 {
-    match spot_below(switches, alloc, cells, source, index, link) {
+    match spot_below(session, cells, source, index, link) {
         Ok(spot) => Some(descent_to(spot)),
         Err(error) => {
             stop(place, error);
@@ -318,19 +313,18 @@ pub fn key_for<H: Host>(
 
 /// Takes what an index or a key leads to. It is a copy, `()` for a key that is missing, or a part.
 pub fn take_below<H: Host>(
-    switches: Switches,
-    alloc: Global,
+    session: &Session<'_, H>,
     cells: &CellStore<H>,
     source: &mut Dynamic<H>,
     index: &Dynamic<H>,
     link: Link<'_>,
 ) -> Result<Dynamic<H>, EvalAltResult<H>>
     ensures same { source.new ≡ source.old }
-    ensures takes { TakesBelow result (found (way_below link.entry switches) H.name_of (cells_of cells.now)
+    ensures takes { TakesBelow result (found (way_below link.entry session.now.fail_on_invalid_map_property) H.name_of (cells_of cells.now)
         source.old index.now) source.old }
 {
-    match spot_below(switches, alloc, cells, source, index, link) {
-        Ok(spot) => take_spot(alloc, source, spot, link.at),
+    match spot_below(session, cells, source, index, link) {
+        Ok(spot) => take_spot(session.alloc, source, spot, link.at),
         Err(error) => Err(error),
     }
 }

@@ -1,7 +1,8 @@
 -- What a variable that was written, or was not, leads a turn to.
 use Rattle.std.proofs.Common.{◌≡◌, ◌≢◌, ◌+◌, ◌^◌, ◌∷◌, ◌∙◌, ℕ, [], Bool, false, true, List, map, Option, Some, Result, Ok, Err, refl, sym}
 use Rattle.std.proofs.Common.{ap}
-use Rattle.std.specs.Prelude.{nat_le}
+use Rattle.std.specs.Prelude.{nat_le, pos}
+use Rattle.rhai_tree.specs.declared.expr.Ident.{Ident}
 use Rattle.rhai_tree.specs.declared.expr.Stmt.{Stmt}
 use Rattle.rhai_values.specs.declared.base.value.Dynamic.{Dynamic}
 use Rattle.rhai_state.specs.declared.error.EvalAltResult.{EvalAltResult}
@@ -9,17 +10,18 @@ use Rattle.rhai_state.specs.declared.scope.ScopeEntry.{ScopeEntry}
 use Rattle.rhai_state.specs.Errors.{is_out_of_memory}
 use Rattle.rhai_state.specs.Scope.{name_of}
 use Rattle.rhai_machine.specs.machine.Machine.{Go}
-use Rattle.rhai_machine.specs.machine.Memory.{here}
-use Rattle.rhai_machine.specs.language.Setting.{Rules}
+use Rattle.rhai_machine.specs.machine.Memory.{here, Leads}
+use Rattle.rhai_machine.specs.language.Setting.{Rules, cut}
 use Rattle.rhai_machine.specs.language.State.{Local, State}
 use Rattle.rhai_machine.specs.language.Places.{Place, put}
-use Rattle.rhai_machine.specs.language.Turns.{ForLoop, Turns, next_turn}
+use Rattle.rhai_machine.specs.language.Turns.{ForLoop, Turns, integer_value, next_turn}
 use Rattle.rhai_machine.specs.language.Values.{flat}
-use Rattle.rhai_machine.specs.language.Walks.{counters, for_move, item_core, place_of_entry, turn_core}
+use Rattle.rhai_machine.specs.language.Walks.{counted_core, counters, for_move, item_core, place_of_entry, turn_core}
 use Rattle.rhai_tree.specs.Positions.{position_of}
 use Rattle.rhai_machine.specs.language.Frames.{Core, Enter, Fail, ForBody, ForItem, ForTurn, Frame, core, on_value}
-use Rattle.rhai_machine.specs.language.Runs.{at, Goes}
+use Rattle.rhai_machine.specs.language.Runs.{with_core, at}
 use Rattle.rhai_machine.proofs.Places.{put_names}
+use Rattle.rhai_machine.specs.language.Language.{machine}
 use Rattle.rhai_steps.proofs.Pieces.{or_runs_out, step_by}
 use Rattle.rhai_context.specs.Ends.{came, error_in}
 use Rattle.rhai_walks.specs.Loops.{entered_at}
@@ -39,6 +41,22 @@ module _ {H : Type 0} (v : Dynamic H) (l : Local H) (entries : List (ScopeEntry 
   wrote_not true e place wrote go k is = cc
   wrote_not false e (Ok p) wrote go k is = absurd wrote
   wrote_not false e (Err x) wrote go k is = λ memory. ap (λ (y : EvalAltResult H). core (Fail y) k l) (sym (wrote memory))
+
+  -- the number of a turn was written to its counter
+  pub counter_written : (done : Bool) (e : Option (EvalAltResult H)) (counted : Option Ident) (counter : Ident) (loop : ForLoop)
+      (turn base : ℕ) (go : Local H → Core H) (k : List (Frame H)) → counted ≡ Some counter → v ≡ integer_value (pos turn) →
+      Wrote (came done tt e) (place_of_entry counter.name loop.variable.pos base l) v l entries cells → done ≡ true →
+      counted_core counted loop turn base go k l ≡ go (seen_as entries cells l)
+  counter_written done e counted counter loop turn base go k some number wrote well =
+      rw (some, ← number) (wrote_on done e _ wrote go k well)
+
+  -- or was not
+  pub counter_not : (done : Bool) (e : Option (EvalAltResult H)) (counted : Option Ident) (counter : Ident) (loop : ForLoop)
+      (turn base : ℕ) (go : Local H → Core H) (k : List (Frame H)) → counted ≡ Some counter → v ≡ integer_value (pos turn) →
+      Wrote (came done tt e) (place_of_entry counter.name loop.variable.pos base l) v l entries cells → done ≡ false →
+      is_out_of_memory (error_in e) ≡ false → counted_core counted loop turn base go k l ≡ core (Fail (error_in e)) k l
+  counter_not done e counted counter loop turn base go k some number wrote failed memory =
+      rw (some, ← number) (wrote_not done e _ wrote _ k failed memory)
 
   -- an item whose variable was not written
   pub item_not : (done : Bool) (e : Option (EvalAltResult H)) (loop : ForLoop) (item : Dynamic H) (rest : Turns H) (turn base index : ℕ)
@@ -84,13 +102,13 @@ module _ {S H : Type 0} (rules : Rules S H) (loop : ForLoop) (item : Dynamic H) 
     -- a turn is counted, or is not
     pub counts : (m : Local H) →
         turn_core (nat_le (2 ^ 63) turn) loop item rest turn base k l ≡ core (ForItem loop item rest turn base) k m →
-        Goes rules (at (ForTurn loop left turn base) k (state l)) (at (ForItem loop item rest turn base) k (state m))
+        Leads (machine rules) (cut rules) (at (ForTurn loop left turn base) k (state l)) (at (ForItem loop item rest turn base) k (state m))
     counts m counted = step_by rules _ _ (Go (core (ForItem loop item rest turn base) k m))
         (rw is (turned loop.body.statements l some ∙ ap Go counted)) here
 
     pub counts_not : (e : EvalAltResult H) →
         (is_out_of_memory e ≡ false → turn_core (nat_le (2 ^ 63) turn) loop item rest turn base k l ≡ core (Fail e) k l) →
-        Goes rules (at (ForTurn loop left turn base) k (state l)) (at (Fail e) k (state l))
+        Leads (machine rules) (cut rules) (at (ForTurn loop left turn base) k (state l)) (at (Fail e) k (state l))
     counts_not e refused = or_runs_out rules (ForTurn loop left turn base) k (state l) e (λ m.
         step_by rules _ _ (Go (core (Fail e) k l)) (rw is (turned loop.body.statements l some ∙ ap Go (refused m))) here)
 
@@ -100,7 +118,8 @@ module _ {S H : Type 0} (rules : Rules S H) (loop : ForLoop) (item : Dynamic H) 
       ≡ core (Enter loop.body.statements true) (ForBody loop rest turn base ∷ k) m) →
       (done ≡ false → is_out_of_memory (error_in e) ≡ false → item_core loop item rest turn base k l ≡ core (Fail (error_in e)) k l) →
       (done ≡ false → m ≡ l) →
-      Goes rules (at (ForItem loop item rest turn base) k (state l)) (entered_at (came done tt e) loop rest turn base k (state m))
+      Leads (machine rules) (cut rules) (at (ForItem loop item rest turn base) k (state l))
+      (with_core (entered_at (came done tt e) loop rest turn base k m) (state m))
   enters true e l m entered refused same =
       step_by rules _ _ (Go (core (Enter loop.body.statements true) (ForBody loop rest turn base ∷ k) m)) (ap Go (entered refl)) here
   enters false e l m entered refused same = rw (same refl) (or_runs_out rules (ForItem loop item rest turn base) k (state l) (error_in e)

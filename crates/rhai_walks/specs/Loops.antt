@@ -1,10 +1,8 @@
 -- A `for` in code as the machine's, and how its turns are entered.
 use Rattle.std.specs.Prelude.{ℕ, true, ◌∷◌, List, Result, Ok, Err}
 use Rattle.rhai_machine.specs.Types.{EvalAltResult}
-use Rattle.rhai_machine.specs.machine.Point.{Point}
-use Rattle.rhai_machine.specs.language.Frames.{Core, Enter, Fail, ForBody, Frame}
-use Rattle.rhai_machine.specs.language.Runs.{at}
-use Rattle.rhai_machine.specs.language.State.{State}
+use Rattle.rhai_machine.specs.language.Frames.{Core, core, Enter, Fail, ForBody, Frame}
+use Rattle.rhai_machine.specs.language.State.{Local}
 use Rattle.rhai_machine.specs.language.Turns.{ForLoop, Turns}
 use Rattle.rhai_walks.specs.declared.parts.ForParts.{ForParts}
 
@@ -17,9 +15,9 @@ loop_in parts = record {
   body = parts.body.now;
 }
 
-module _ {S H : Type 0} where
+module _ {H : Type 0} where
   -- where the variables of a turn are written its body is run, and else the loop is left by the error
   abbrev pub entered_at : Result (Unit {0}) (EvalAltResult H) → (loop : ForLoop) → (rest : Turns H) → (turn base : ℕ) → List (Frame H) →
-      State S H → Point S (Core H)
-  entered_at (Ok done) loop rest turn base k l = at (Enter loop.body.statements true) (ForBody loop rest turn base ∷ k) l
-  entered_at (Err e) loop rest turn base k l = at (Fail e) k l
+      Local H → Core H
+  entered_at (Ok done) loop rest turn base k l = core (Enter loop.body.statements true) (ForBody loop rest turn base ∷ k) l
+  entered_at (Err e) loop rest turn base k l = core (Fail e) k l

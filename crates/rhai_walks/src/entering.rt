@@ -7,12 +7,12 @@ ghost use Rattle.rhai_state.specs.declared.error.EvalAltResult.TheVariants as er
 ghost use Rattle.rhai_state.specs.Errors.{is_out_of_memory};
 ghost use Rattle.rhai_state.specs.Scope.{entries_of, names_in};
 ghost use Rattle.rhai_machine.specs.language.Frames.{Enter, Fail, ForBody, ForItem, ForTurn, core};
-ghost use Rattle.rhai_machine.specs.language.Runs.{Goes, at};
-ghost use Rattle.rhai_machine.specs.language.Setting.{rules_of};
+ghost use Rattle.rhai_machine.specs.language.Runs.{Goes};
 ghost use Rattle.rhai_machine.specs.language.Turns.{next_turn};
 ghost use Rattle.rhai_machine.specs.language.Walks.{counter_overflow as text_of_overflow, counters, item_core};
 ghost use Rattle.rhai_machine.specs.language.Walks.{turn_core};
 ghost use Rattle.rhai_steps.specs.Agreement.{KeepsSight};
+ghost use Rattle.rhai_steps.specs.Sessions.{under};
 ghost use Rattle.rhai_steps.specs.States.{state_of};
 ghost use Rattle.rhai_context.specs.Ends.{came, error_in};
 ghost use Rattle.rhai_walks.specs.Loops.{entered_at, loop_in};
@@ -22,11 +22,11 @@ use crate::parts::ForParts;
 use crate::variables::write_variable;
 use rhai_context::ends::stop;
 use rhai_state::error::EvalAltResult;
-use rhai_state::limits::Limits;
+use rhai_state::errors::shared_text;
 use rhai_state::scope::Scope;
+use rhai_state::session::Session;
 use rhai_state::state::GlobalRuntimeState;
 use rhai_state::table::NativeTable;
-use rhai_steps::errors::shared_text;
 use rhai_steps::values::{flatten, is_bare_handle, let_go};
 use rhai_tree::position::Position;
 use rhai_values::base::value::{Dynamic, Host, Union};
@@ -89,15 +89,15 @@ fn count_turn<H: Host>(
     ensures sight { KeepsSight global.old global.new }
     ensures names { names_in scope.new ≡ names_in scope.old }
     ensures counted { (item : _) (rest : _) (k : _) (l : _) →
-        seen_as (entries_of scope.old) (cells_of global.old.cells) l ≡ l →
-        result ≡ true → turn_core (nat_le (2 ^ 63) turn) (loop_in parts.entry) item rest turn base k l
+        let before = seen_as (entries_of scope.old) (cells_of global.old.cells) l in
+        result ≡ true → turn_core (nat_le (2 ^ 63) turn) (loop_in parts.entry) item rest turn base k before
         ≡ core (ForItem (loop_in parts.entry) item rest turn base) k
         (seen_as (entries_of scope.new) (cells_of global.new.cells) l) }
     ensures refused { (item : _) (rest : _) (k : _) (l : _) →
-        seen_as (entries_of scope.old) (cells_of global.old.cells) l ≡ l →
+        let before = seen_as (entries_of scope.old) (cells_of global.old.cells) l in
         result ≡ false → is_out_of_memory (error_in place.new) ≡ false →
-        turn_core (nat_le (2 ^ 63) turn) (loop_in parts.entry) item rest turn base k l
-        ≡ core (Fail (error_in place.new)) k l }
+        turn_core (nat_le (2 ^ 63) turn) (loop_in parts.entry) item rest turn base k before
+        ≡ core (Fail (error_in place.new)) k before }
     ensures same_scope { result ≡ false → entries_of scope.new ≡ entries_of scope.old }
     ensures same_cells { result ≡ false → cells_of global.new.cells ≡ cells_of global.old.cells }
 {
@@ -139,14 +139,14 @@ fn enter_handle<H: Host>(
     ensures sight { KeepsSight global.old global.new }
     ensures names { names_in scope.new ≡ names_in scope.old }
     ensures entered { (rest : _) (turn : _) (k : _) (l : _) →
-        seen_as (entries_of scope.old) (cells_of global.old.cells) l ≡ l →
-        result ≡ true → item_core (loop_in parts.entry) item rest turn base k l
+        let before = seen_as (entries_of scope.old) (cells_of global.old.cells) l in
+        result ≡ true → item_core (loop_in parts.entry) item rest turn base k before
         ≡ core (Enter parts.entry.body.now.statements true) (ForBody (loop_in parts.entry) rest turn base ∷ k)
         (seen_as (entries_of scope.new) (cells_of global.new.cells) l) }
     ensures refused { (rest : _) (turn : _) (k : _) (l : _) →
-        seen_as (entries_of scope.old) (cells_of global.old.cells) l ≡ l →
+        let before = seen_as (entries_of scope.old) (cells_of global.old.cells) l in
         result ≡ false → is_out_of_memory (error_in place.new) ≡ false →
-        item_core (loop_in parts.entry) item rest turn base k l ≡ core (Fail (error_in place.new)) k l }
+        item_core (loop_in parts.entry) item rest turn base k before ≡ core (Fail (error_in place.new)) k before }
     ensures same_scope { result ≡ false → entries_of scope.new ≡ entries_of scope.old }
     ensures same_cells { result ≡ false → cells_of global.new.cells ≡ cells_of global.old.cells }
 {
@@ -185,14 +185,14 @@ fn enter_item<H: Host>(
     ensures sight { KeepsSight global.old global.new }
     ensures names { names_in scope.new ≡ names_in scope.old }
     ensures entered { (rest : _) (turn : _) (k : _) (l : _) →
-        seen_as (entries_of scope.old) (cells_of global.old.cells) l ≡ l →
-        result ≡ true → item_core (loop_in parts.entry) item rest turn base k l
+        let before = seen_as (entries_of scope.old) (cells_of global.old.cells) l in
+        result ≡ true → item_core (loop_in parts.entry) item rest turn base k before
         ≡ core (Enter parts.entry.body.now.statements true) (ForBody (loop_in parts.entry) rest turn base ∷ k)
         (seen_as (entries_of scope.new) (cells_of global.new.cells) l) }
     ensures refused { (rest : _) (turn : _) (k : _) (l : _) →
-        seen_as (entries_of scope.old) (cells_of global.old.cells) l ≡ l →
+        let before = seen_as (entries_of scope.old) (cells_of global.old.cells) l in
         result ≡ false → is_out_of_memory (error_in place.new) ≡ false →
-        item_core (loop_in parts.entry) item rest turn base k l ≡ core (Fail (error_in place.new)) k l }
+        item_core (loop_in parts.entry) item rest turn base k before ≡ core (Fail (error_in place.new)) k before }
     ensures same_scope { result ≡ false → entries_of scope.new ≡ entries_of scope.old }
     ensures same_cells { result ≡ false → cells_of global.new.cells ≡ cells_of global.old.cells }
 {
@@ -218,8 +218,7 @@ fn enter_item<H: Host>(
 /// # Errors
 /// Those of `count_turn`, and then those of `enter_item`.
 pub fn enter_turn<H: Host, T: NativeTable<H>>(
-    limits: &Limits,
-    alloc: Global,
+    session: &Session<'_, H>,
     global: &mut GlobalRuntimeState<H>,
     table: &T,
     scope: &mut Scope<H>,
@@ -233,17 +232,17 @@ pub fn enter_turn<H: Host, T: NativeTable<H>>(
     ensures rest { global.new ≡ record global.old { cells = global.new.cells } }
     ensures sight { KeepsSight global.old global.new }
     ensures names { names_in scope.new ≡ names_in scope.old }
-    ensures enters { (offer : _) (held : _) (left : _) (rest : _) (k : _) →
+    ensures enters { (held : _) (left : _) (rest : _) →
         next_turn left ≡ Some (item, rest) → parts.entry.body.now.statements ≢ [] →
-        Goes (rules_of limits.now H.name_of offer T.natives)
-        (at (ForTurn (loop_in parts.entry) left turn base) k
-        (state_of (T.state table.now) global.old scope.old held))
-        (entered_at (came result tt place.new) (loop_in parts.entry) rest turn base k
-        (state_of (T.state table.now) global.new scope.new held)) }
+        Goes (under H.name_of session.now T.natives)
+        (core (ForTurn (loop_in parts.entry) left turn base))
+        (state_of (T.state table.now) global.old scope.old held)
+        (entered_at (came result tt place.new) (loop_in parts.entry) rest turn base)
+        (state_of (T.state table.now) global.new scope.new held) }
 {
-    if !count_turn(alloc, global, scope, place, parts, turn, base) {
+    if !count_turn(session.alloc, global, scope, place, parts, turn, base) {
         let_go(item);
         return false;
     }
-    enter_item(alloc, global, scope, place, parts, item, base)
+    enter_item(session.alloc, global, scope, place, parts, item, base)
 }

@@ -11,8 +11,8 @@ ghost use Rattle.rhai_walks.specs.Variables.{Wrote, cell_in, seen_as};
 
 use rhai_context::ends::{stop, write_number};
 use rhai_state::error::EvalAltResult;
+use rhai_state::errors::data_race_of;
 use rhai_state::scope::Scope;
-use rhai_steps::errors::data_race_of;
 use rhai_steps::values::let_go;
 use rhai_tree::position::Position;
 use rhai_tree::{Shared, Text};
@@ -72,8 +72,8 @@ pub fn write_variable<H: Host>(
     pos: Position,
 ) -> bool
     requires { index < length (entries_of scope.old) }
-    ensures wrote { (l : _) → seen_as (entries_of scope.old) (cells_of cells.old) l ≡ l →
-        Wrote (came result tt place.new) (place_of_entry name.now pos index l) value l
+    ensures wrote { (l : _) → let before = seen_as (entries_of scope.old) (cells_of cells.old) l in
+        Wrote (came result tt place.new) (place_of_entry name.now pos index before) value before
         (entries_of scope.new) (cells_of cells.new) }
     ensures scope { result ≡ false → entries_of scope.new ≡ entries_of scope.old }
     ensures cells { result ≡ false → cells_of cells.new ≡ cells_of cells.old }

@@ -2,7 +2,8 @@ use Rattle.std.proofs.Common.{◌≡◌, arith, sym, refl, ◌∙◌}
 use Rattle.rhai_tree.specs.declared.expr.Expr.{out-Expr}
 use Rattle.rhai_tree.specs.declared.expr.Expr.TheOpen as layer
 use Rattle.rhai_tree.specs.declared.expr.Expr.TheVariants as exprs
-use Rattle.rhai_machine.specs.language.Setting.{Rules, rules_of}
+use Rattle.rhai_machine.specs.language.Setting.{Rules}
+use Rattle.rhai_steps.specs.Sessions.{under}
 use Rattle.rhai_steps.proofs.Agreeing.{brings}
 use Rattle.rhai_operands.proofs.Names.{good_name}
 use Rattle.rhai_at_once.proofs.Steps.{argument_resolves, at_once}
@@ -16,8 +17,8 @@ entry_of_variable-requires g c =
     frame form (argument_resolves c.args.call.now c.in-Some.arg.now c.args.pos frame c.in-Some.ensures h)) c.requires.resolves
 
 pub returns-clause-runs : goal.returns-clause-runs
-returns-clause-runs g c offer held offers =
-    let rules : Rules _ _ = rules_of c.args.limits.now g.H.Host.name_of offer g.T.NativeTable.natives in
+returns-clause-runs g c held =
+    let rules : Rules _ _ = under g.H.Host.name_of c.args.session.now g.T.NativeTable.natives in
     let form : out-Expr c.in-Some.arg.now ≡ layer.Variable c.in-Variable.offset c.in-Variable.name c.in-Variable.namespace
     c.in-Variable.pos = rw (c.in-Variable.is, exprs.outs-Variable) refl in
     at_once rules c.args.call.now c.in-Some.arg.now c.in-Some.ensures c.args.pos c.in-Variable.offset c.in-Variable.name
@@ -27,6 +28,6 @@ returns-clause-runs g c offer held offers =
     c.in-Some-entry_of_variable.index c.value_at-value.result.now
     (sym c.entry_of_variable.ensures.exact ∙ c.in-Some-entry_of_variable.is) c.value_at-value.ensures
     (sym c.is_lendable.ensures ∙ c.if-not-is_lendable.false)
-    (sym (rw (c.as_str-function.ensures, c.get.ensures) at (c.is_scripted.ensures offer offers)) ∙ c.if-is_scripted.false) _ _
-    (rw (c.as_str-function.ensures, c.get.ensures) at (c.call_entry.ensures.runs offer held c.value_at-value.result.now
+    (sym (rw (c.as_str-function.ensures, c.get.ensures) at (c.is_scripted.ensures)) ∙ c.if-is_scripted.false) _ _
+    (rw (c.as_str-function.ensures, c.get.ensures) at (c.call_entry.ensures.runs held c.value_at-value.result.now
     c.value_at-value.ensures))

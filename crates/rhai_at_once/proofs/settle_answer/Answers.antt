@@ -1,5 +1,6 @@
-use Rattle.std.proofs.Common.{ap, sym, ◌∙◌, None, Ok, Some}
+use Rattle.std.proofs.Common.{ap, sym, ◌∙◌, Ok, Some}
 use Rattle.rhai_values.specs.Cells.{cells_of}
+use Rattle.rhai_steps.specs.Operations.{operation_of}
 use Rattle.rhai_at_once.proofs.Steps.{number_told}
 use Rattle.rhai_at_once.proofs.settle_answer.Goals as goal
 
@@ -8,8 +9,8 @@ returns-in-Ok-clause-told g c =
     let (given, number, is) = c.in-Ok.ensures.number in
     rw (given, is)
     (λ memory. ap Ok (c.put_number.ensures ∙ is)
-    ∙ sym (number_told g.row.H.Denot c.args.limits.now g.H.Host.name_of number (Some c.args.first.now) c.args.rest.now
-    (record { name = c.args.name.now; token = None; at = c.args.pos }) (cells_of c.args.cells.now)))
+    ∙ sym (number_told g.row.H.Denot c.args.session.now.limits g.H.Host.name_of number (Some c.args.first.now) c.args.rest.now
+    (operation_of c.args.operation.now) (cells_of c.args.cells.now)))
 
 pub returns-clause-told : goal.returns-clause-told
 returns-clause-told g c = rw c.settle.ensures (rw c.in-Err.ensures.other at c.replied-answered.ensures.told)

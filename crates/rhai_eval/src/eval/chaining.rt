@@ -119,8 +119,7 @@ impl<H: Host> Engine<H> {
             unreachable!()
         };
         let new = new_value(new_val);
-        let limits = self.limits();
-        let evaluator = self.evaluator(alloc, &limits);
+        let evaluator = self.evaluator(alloc);
         match this {
             Some(place) => {
                 let mut run = take_with_this(alloc, global, scope, place);

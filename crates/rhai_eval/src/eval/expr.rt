@@ -94,7 +94,7 @@ impl<H: Host> Engine<H> {
                 part: Part::Whole,
             });
         }
-        let value = value_named(alloc, &self.offered(), global, expr)?;
+        let value = value_named(&self.session(alloc), global, expr)?;
         Ok(Target {
             at: scope.spare_mut(),
             part: Part::Temporary(value),
@@ -133,7 +133,7 @@ impl<H: Host> Engine<H> {
         ensures table { T.state table.new ≡ T.state table.old }
     {
         if is_behind_path(expr) {
-            let value = value_named(alloc, &self.offered(), global, expr)?;
+            let value = value_named(&self.session(alloc), global, expr)?;
             return Ok(Target {
                 at: scope.spare_mut(),
                 part: Part::Temporary(value),
@@ -190,8 +190,7 @@ impl<H: Host> Engine<H> {
         ensures caches { _caches.new ≡ _caches.old }
         ensures search { global.new.always_search_scope ≡ global.old.always_search_scope }
     {
-        let limits = self.limits();
-        let evaluator = self.evaluator(alloc, &limits);
+        let evaluator = self.evaluator(alloc);
         match this {
             Some(place) => {
                 let mut run = take_with_this(alloc, global, scope, place);

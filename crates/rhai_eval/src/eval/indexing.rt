@@ -4,12 +4,11 @@
 
 ghost use Rattle.std.specs.Prelude.{◌≡◌, ◌∷◌, [], ◌<◌, false, true, length, slice_get, IfErr, IfOk, Some};
 ghost use Rattle.rhai_values.specs.Cells.{IsNoHandle};
-ghost use Rattle.rhai_machine.specs.language.Frames.{Ask};
+ghost use Rattle.rhai_machine.specs.language.Frames.{Ask, ended_or_changed};
 ghost use Rattle.rhai_machine.specs.language.Members.{get_core, get_item, set_core, set_item};
-ghost use Rattle.rhai_machine.specs.language.Runs.{Runs};
-ghost use Rattle.rhai_machine.specs.language.Setting.{rules_of};
+ghost use Rattle.rhai_machine.specs.language.Runs.{Runs, Steps};
+ghost use Rattle.rhai_steps.specs.Sessions.{under as under_session};
 ghost use Rattle.rhai_steps.specs.States.{state_of};
-ghost use Rattle.rhai_calls.specs.ToldChanges.{MarkedRuns};
 ghost use Rattle.rhai_steps.specs.OnFocus.{lending};
 ghost use Rattle.rhai_index.specs.Indexes.{Indexes};
 ghost use Rattle.rhai_laws.specs.Kept.{Kept};
@@ -26,9 +25,10 @@ use rhai_places::spot::Access;
 use rhai_places::target::Target;
 use rhai_state::caches::Caches;
 use rhai_state::error::EvalAltResult;
-use rhai_state::limits::Limits;
+use rhai_state::session::Session;
 use rhai_state::state::GlobalRuntimeState;
 use rhai_state::table::NativeTable;
+use rhai_steps::operation::Operation;
 use rhai_steps::values::{let_go, list_of, unit_value};
 use rhai_tree::position::Position;
 use rhai_values::base::value::{Dynamic, Host};
@@ -90,36 +90,36 @@ fn put_both<H: Host>(both: (Dynamic<H>, Dynamic<H>), index: &mut Dynamic<H>, new
 
 /// Asks the indexer that reads, which `object` is lent to. A constant is kept from one that is not pure.
 fn ask_get<H: Host, T: NativeTable<H>>(
-    limits: &Limits,
-    alloc: Global,
+    session: &Session<'_, H>,
     global: &mut GlobalRuntimeState<H>,
     table: &mut T,
     object: &mut Dynamic<H>,
     index: &mut Dynamic<H>,
     pos: Position,
 ) -> Result<Dynamic<H>, EvalAltResult<H>>
-    ensures runs { (offer : _) (scope : _) (held : _) →
-        Runs (rules_of limits.now H.name_of offer T.natives) (Ask (get_item pos object.old index.old))
+    ensures runs { (scope : _) (held : _) →
+        Runs (under_session H.name_of session.now T.natives) (Ask (get_item pos object.old index.old))
         (state_of (T.state table.old) global.old scope (lending held object.old))
         result (state_of (T.state table.new) global.new scope (lending held object.new)) }
     ensures index { index.new ≡ index.old }
 {
     let guarded = true;
-    match list_of(alloc, replace(index, unit_value())) {
+    match list_of(session.alloc, replace(index, unit_value())) {
         Ok(items) => {
             let mut items = items;
             let rest = items.as_slice();
             let result = call_native(
-                limits,
-                alloc,
+                session,
                 global,
                 table,
-                "index$get$",
-                None,
+                &Operation {
+                    name: "index$get$",
+                    token: None,
+                    at: pos,
+                },
                 object,
                 rest,
                 guarded,
-                pos,
             );
             let_go(replace(index, first_of(&mut items)));
             drop(items);
@@ -134,8 +134,7 @@ fn ask_get<H: Host, T: NativeTable<H>>(
 
 /// Asks the indexer that writes, which `object` is lent to.
 fn ask_set<H: Host, T: NativeTable<H>>(
-    limits: &Limits,
-    alloc: Global,
+    session: &Session<'_, H>,
     global: &mut GlobalRuntimeState<H>,
     table: &mut T,
     object: &mut Dynamic<H>,
@@ -144,11 +143,11 @@ fn ask_set<H: Host, T: NativeTable<H>>(
     guarded: bool,
     pos: Position,
 ) -> Result<(Dynamic<H>, bool), EvalAltResult<H>>
-    ensures runs { (offer : _) (scope : _) (held : _) →
-        MarkedRuns (rules_of limits.now H.name_of offer T.natives)
+    ensures runs { (scope : _) (held : _) →
+        Steps (under_session H.name_of session.now T.natives)
         (Ask (set_item pos guarded object.old index.old new.old))
-        (state_of (T.state table.old) global.old scope (lending held object.old))
-        result (state_of (T.state table.new) global.new scope (lending held object.new)) }
+        (state_of (T.state table.old) global.old scope (lending held object.old)) (ended_or_changed result)
+        (state_of (T.state table.new) global.new scope (lending held object.new)) }
     ensures index { index.new ≡ index.old }
     ensures new { new.new ≡ new.old }
 {
@@ -157,7 +156,7 @@ fn ask_set<H: Host, T: NativeTable<H>>(
         marks: true,
     };
     match list_of_both(
-        alloc,
+        session.alloc,
         replace(index, unit_value()),
         replace(new, unit_value()),
     ) {
@@ -165,16 +164,17 @@ fn ask_set<H: Host, T: NativeTable<H>>(
             let mut items = items;
             let rest = items.as_slice();
             let result = pass_native(
-                limits,
-                alloc,
+                session,
                 global,
                 table,
-                "index$set$",
-                None,
+                &Operation {
+                    name: "index$set$",
+                    token: None,
+                    at: pos,
+                },
                 object,
                 rest,
                 passing,
-                pos,
             );
             put_both(both_of(&mut items), index, new);
             drop(items);
@@ -228,8 +228,7 @@ impl<H: Host> Engine<H> {
         };
         indexing::get_indexed_mut(
             target,
-            alloc,
-            &self.limits(),
+            &self.session(alloc),
             global,
             table,
             idx,
@@ -269,9 +268,9 @@ impl<H: Host> Engine<H> {
         ensures caches { _caches.new ≡ _caches.old }
         ensures search { global.new.always_search_scope ≡ global.old.always_search_scope }
     {
-        let limits = &self.limits();
+        let session = self.session(alloc);
         let search = global.always_search_scope;
-        let result = ask_get(limits, alloc, global, table, object, index, pos);
+        let result = ask_get(&session, global, table, object, index, pos);
         global.always_search_scope = search;
         result
     }
@@ -308,10 +307,10 @@ impl<H: Host> Engine<H> {
         ensures caches { _caches.new ≡ _caches.old }
         ensures search { global.new.always_search_scope ≡ global.old.always_search_scope }
     {
-        let limits = &self.limits();
+        let session = self.session(alloc);
         let search = global.always_search_scope;
         let result = ask_set(
-            limits, alloc, global, table, object, index, new_val, is_ref_mut, pos,
+            &session, global, table, object, index, new_val, is_ref_mut, pos,
         );
         global.always_search_scope = search;
         result

@@ -66,8 +66,7 @@ impl<H: Host> Engine<H> {
         ensures search { global.new.always_search_scope ≡ global.old.always_search_scope }
     {
         let mut run = take(alloc, global, scope);
-        let limits = self.limits();
-        let evaluator = self.evaluator(alloc, &limits);
+        let evaluator = self.evaluator(alloc);
         let done = evaluator.run_stmt_block(&mut run, table, tree.statements(), false);
         let outcome = finish(done, &mut run.value, &mut run.error);
         give_back(run, global, scope);

@@ -14,14 +14,13 @@ ghost use Rattle.rhai_steps.specs.States.{surroundings_of};
 ghost use Rattle.rhai_eval.specs.Lends.{with_variable};
 ghost use Rattle.rhai_eval.specs.Search.{is_variable, names_variable, value_there, variable_searched, IsBeside};
 
-use rhai_functions::function::Offered;
 use rhai_state::error::EvalAltResult;
 use rhai_state::scope::Scope;
+use rhai_state::session::Session;
 use rhai_state::state::GlobalRuntimeState;
 use rhai_steps::variables::{find_variable, is_plain, read_beside};
 use rhai_tree::expr::Expr;
 use rhai_values::base::value::{Dynamic, Host};
-use std::alloc::Global;
 
 /// Lends the value of the variable that an expression names, to be changed where it stands. Where it has an
 /// offset and variables are not searched for, it is that of the entry there, whatever its name, and else of
@@ -106,13 +105,12 @@ pub(crate) fn is_behind_path(expr: &Expr) -> bool
 /// # Errors
 /// `ErrorVariableNotFound` at the variable where there is no such thing.
 pub(crate) fn value_named<H: Host>(
-    alloc: Global,
-    offered: &Offered<'_, H>,
+    session: &Session<'_, H>,
     global: &GlobalRuntimeState<H>,
     expr: &Expr,
 ) -> Result<Dynamic<H>, EvalAltResult<H>>
     requires variable { names_variable (out-Expr expr.now) ≡ true }
-    ensures { IsBeside (globals_in offered.now) (surroundings_of global.now) (out-Expr expr.now) result }
+    ensures { IsBeside (globals_in session.now.offered) (surroundings_of global.now) (out-Expr expr.now) result }
 {
     match expr {
         Expr::Variable {
@@ -120,7 +118,7 @@ pub(crate) fn value_named<H: Host>(
             namespace,
             pos,
             ..
-        } => read_beside(alloc, offered, global, name, namespace, *pos),
+        } => read_beside(session, global, name, namespace, *pos),
         _ => unreachable!(),
     }
 }

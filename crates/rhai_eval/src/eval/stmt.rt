@@ -7,17 +7,18 @@ ghost use Rattle.rhai_tree.specs.Names.{Begins};
 ghost use Rattle.rhai_values.specs.Cells.{IsNoHandle};
 ghost use Rattle.rhai_state.specs.Native.{left_by, lent_value};
 ghost use Rattle.rhai_state.specs.Scope.{names_in};
-ghost use Rattle.rhai_machine.specs.language.Frames.{Exec, Enter};
-ghost use Rattle.rhai_machine.specs.language.Setting.{rules_of};
+ghost use Rattle.rhai_machine.specs.language.Frames.{Exec, Enter, ended_or_changed};
+ghost use Rattle.rhai_steps.specs.Sessions.{under as under_session};
 ghost use Rattle.rhai_machine.specs.language.State.{HasMemory};
+ghost use Rattle.rhai_machine.specs.language.Chains.{assign_focus};
 ghost use Rattle.rhai_places.specs.Targets.{shown};
 ghost use Rattle.rhai_steps.specs.Agreement.{AgreesAt, frame_of, passes};
 ghost use Rattle.rhai_steps.specs.States.{holding, state_of};
 ghost use Rattle.rhai_tree.specs.declared.expr.Stmt.{out-Stmt};
 ghost use Rattle.rhai_laws.specs.Kept.{Grown, Kept, declares, is_import};
 ghost use Rattle.rhai_steps.specs.OnFocus.{lending};
+ghost use Rattle.rhai_steps.specs.Follows.{Follows};
 ghost use Rattle.rhai_methods.specs.Targets.{ComesBack, StaysAlike, value_walked_on};
-ghost use Rattle.rhai_chains.specs.Chains.{FollowsFrom};
 ghost use Rattle.rhai_eval.specs.Assigned.{assigned, target_assigned, value_assigned, without_value};
 ghost use Rattle.rhai_eval.specs.Ends.{EndsAlone, EndsAs, EndsAssigned};
 ghost use Rattle.rhai_eval.specs.Places.{with_place};
@@ -31,8 +32,8 @@ use rhai_context::{give_back, take};
 use rhai_places::target::{Part, Target};
 use rhai_state::caches::Caches;
 use rhai_state::error::EvalAltResult;
-use rhai_state::limits::Limits;
 use rhai_state::scope::Scope;
+use rhai_state::session::Session;
 use rhai_state::state::GlobalRuntimeState;
 use rhai_state::table::NativeTable;
 use rhai_steps::values::let_go;
@@ -58,9 +59,7 @@ fn without_answer<H: Host>(
 
 /// Assigns to a value where it stands.
 fn assign_value<H: Host, T: NativeTable<H>>(
-    limits: &Limits,
-    fast: bool,
-    alloc: Global,
+    session: &Session<'_, H>,
     global: &mut GlobalRuntimeState<H>,
     table: &mut T,
     place: &mut Dynamic<H>,
@@ -68,13 +67,14 @@ fn assign_value<H: Host, T: NativeTable<H>>(
     op: OpAssignment,
     value: Dynamic<H>,
 ) -> Result<(), EvalAltResult<H>>
-    ensures follows { (offer : _) (scope : _) (held : _) → offer.fast_operators ≡ fast →
-        let rules = rules_of limits.now H.name_of offer T.natives in
-        FollowsFrom rules (value_assigned rules.setting root.now (record { op = op; value = value }))
-        (state_of (T.state table.old) global.old scope (lending held place.old))
-        (assigned result) (state_of (T.state table.new) global.new scope (lending held place.new)) }
+    ensures follows { (scope : _) (held : _) →
+        let rules = under_session H.name_of session.now T.natives in
+        Follows rules ended_or_changed
+        (value_assigned rules.setting root.now (record { op = op; value = value }))
+        (state_of (T.state table.old) global.old scope (lending held place.old)) (assigned result)
+        (state_of (T.state table.new) global.new scope (lending held place.new)) }
 {
-    let answer = assign_focus(limits, alloc, global, table, place, root, op, value, fast);
+    let answer = assign_focus(session, global, table, place, root, op, value);
     without_answer(answer)
 }
 
@@ -98,9 +98,7 @@ fn put_assigned<H: Host>(
 
 /// Assigns to what a target shows, and puts a part back into its place.
 fn assign_target<H: Host, T: NativeTable<H>>(
-    limits: &Limits,
-    fast: bool,
-    alloc: Global,
+    session: &Session<'_, H>,
     global: &mut GlobalRuntimeState<H>,
     table: &mut T,
     target: &mut Target<'_, H>,
@@ -110,16 +108,15 @@ fn assign_target<H: Host, T: NativeTable<H>>(
 ) -> Result<(), EvalAltResult<H>>
     ensures same_reference { target.new.at.ghost_name ≡ target.old.at.ghost_name }
     ensures part { StaysAlike target.old.part target.old.at.now target.new.part target.new.at.now }
-    ensures follows { (offer : _) (scope : _) (held : _) → offer.fast_operators ≡ fast →
-        let rules = rules_of limits.now H.name_of offer T.natives in
-        FollowsFrom rules (target_assigned rules.setting root.now (record { op = op; value = value })
-        target.old.part target.old.at.now)
-        (state_of (T.state table.old) global.old scope
-        (lending held (value_walked_on target.old.part target.old.at.now)))
-        (assigned result) (state_of (T.state table.new) global.new scope
-        (lending held (value_walked_on target.new.part target.new.at.now))) }
-    ensures shows { (offer : _) (scope : _) (held : _) → offer.fast_operators ≡ fast → HasMemory result →
-        let rules = rules_of limits.now H.name_of offer T.natives in
+    ensures follows { (scope : _) (held : _) →
+        let rules = under_session H.name_of session.now T.natives in
+        Follows rules ended_or_changed
+        (target_assigned rules.setting root.now (record { op = op; value = value }) target.old.part target.old.at.now)
+        (state_of (T.state table.old) global.old scope (lending held (value_walked_on target.old.part target.old.at.now)))
+        (assigned result)
+        (state_of (T.state table.new) global.new scope (lending held (value_walked_on target.new.part target.new.at.now))) }
+    ensures shows { (scope : _) (held : _) → HasMemory result →
+        let rules = under_session H.name_of session.now T.natives in
         EndsAlone rules (value_assigned rules.setting root.now (record { op = op; value = value }))
         (state_of (T.state table.old) global.old scope
         (lending held (shown target.old.part target.old.at.now)))
@@ -129,14 +126,14 @@ fn assign_target<H: Host, T: NativeTable<H>>(
     match &mut target.part {
         Part::Whole => {
             let place = &mut *target.at;
-            assign_value(limits, fast, alloc, global, table, place, root, op, value)
+            assign_value(session, global, table, place, root, op, value)
         }
         Part::Temporary(temporary) => assign_value(
-            limits, fast, alloc, global, table, temporary, root, op, value,
+            session, global, table, temporary, root, op, value,
         ),
         Part::Of(_, shown) => {
-            let outcome = assign_value(limits, fast, alloc, global, table, shown, root, op, value);
-            put_assigned(alloc, target, outcome, op.position)
+            let outcome = assign_value(session, global, table, shown, root, op, value);
+            put_assigned(session.alloc, target, outcome, op.position)
         }
     }
 }
@@ -196,13 +193,10 @@ impl<H: Host> Engine<H> {
         ensures caches { _caches.new ≡ _caches.old }
         ensures search { global.new.always_search_scope ≡ global.old.always_search_scope }
     {
-        let limits = &self.limits();
-        let fast = self.fast_operators;
+        let session = self.session(alloc);
         let op = *op_info;
         let search = global.always_search_scope;
-        let result = assign_target(
-            limits, fast, alloc, global, table, target, root, op, new_val,
-        );
+        let result = assign_target(&session, global, table, target, root, op, new_val);
         global.always_search_scope = search;
         result
     }
@@ -240,8 +234,7 @@ impl<H: Host> Engine<H> {
         ensures caches { _caches.new ≡ _caches.old }
         ensures search { global.new.always_search_scope ≡ global.old.always_search_scope }
     {
-        let limits = self.limits();
-        let evaluator = self.evaluator(alloc, &limits);
+        let evaluator = self.evaluator(alloc);
         match this {
             Some(place) => {
                 let mut run = take_with_this(alloc, global, scope, place);
@@ -293,8 +286,7 @@ impl<H: Host> Engine<H> {
         ensures caches { _caches.new ≡ _caches.old }
         ensures search { global.new.always_search_scope ≡ global.old.always_search_scope }
     {
-        let limits = self.limits();
-        let evaluator = self.evaluator(alloc, &limits);
+        let evaluator = self.evaluator(alloc);
         match this {
             Some(place) => {
                 let mut run = take_with_this(alloc, global, scope, place);

@@ -28,6 +28,7 @@ use rhai_state::error::EvalAltResult;
 use rhai_state::scope::Scope;
 use rhai_state::state::GlobalRuntimeState;
 use rhai_state::table::NativeTable;
+use rhai_steps::operation::Operation;
 use rhai_tree::expr::{Expr, FnCallExpr, Namespace};
 use rhai_tree::position::Position;
 use rhai_tree::token::Token;
@@ -77,8 +78,7 @@ impl<H: Host> Engine<H> {
         ensures caches { _caches.new ≡ _caches.old }
         ensures search { global.new.always_search_scope ≡ global.old.always_search_scope }
     {
-        let limits = self.limits();
-        let evaluator = self.evaluator(alloc, &limits);
+        let evaluator = self.evaluator(alloc);
         match this {
             Some(place) => {
                 let mut run = take_with_this(alloc, global, scope, place);
@@ -124,8 +124,7 @@ impl<H: Host> Engine<H> {
         ensures caches { _caches.new ≡ _caches.old }
         ensures search { global.new.always_search_scope ≡ global.old.always_search_scope }
     {
-        let limits = self.limits();
-        let evaluator = self.evaluator(alloc, &limits);
+        let evaluator = self.evaluator(alloc);
         match this {
             Some(place) => {
                 let mut run = take_with_this(alloc, global, scope, place);
@@ -181,13 +180,21 @@ impl<H: Host> Engine<H> {
     {
         let token = op_token.copied();
         let captures = capture_parent_scope;
-        let limits = self.limits();
-        let evaluator = self.evaluator(alloc, &limits);
+        let evaluator = self.evaluator(alloc);
         match this {
             Some(place) => {
                 let mut run = take_with_this(alloc, global, scope, place);
                 let done = evaluator.run_call(
-                    &mut run, table, fn_name, token, first_arg, args_expr, captures, pos,
+                    &mut run,
+                    table,
+                    &Operation {
+                        name: fn_name,
+                        token,
+                        at: pos,
+                    },
+                    first_arg,
+                    args_expr,
+                    captures,
                 );
                 let result = finish(done, &mut run.value, &mut run.error);
                 give_back_with_this(run, global, scope, place);
@@ -196,7 +203,16 @@ impl<H: Host> Engine<H> {
             None => {
                 let mut run = take(alloc, global, scope);
                 let done = evaluator.run_call(
-                    &mut run, table, fn_name, token, first_arg, args_expr, captures, pos,
+                    &mut run,
+                    table,
+                    &Operation {
+                        name: fn_name,
+                        token,
+                        at: pos,
+                    },
+                    first_arg,
+                    args_expr,
+                    captures,
                 );
                 let result = finish(done, &mut run.value, &mut run.error);
                 give_back(run, global, scope);
@@ -238,8 +254,7 @@ impl<H: Host> Engine<H> {
         ensures caches { _caches.new ≡ _caches.old }
         ensures search { global.new.always_search_scope ≡ global.old.always_search_scope }
     {
-        let limits = self.limits();
-        let evaluator = self.evaluator(alloc, &limits);
+        let evaluator = self.evaluator(alloc);
         match this {
             Some(place) => {
                 let mut run = take_with_this(alloc, global, scope, place);

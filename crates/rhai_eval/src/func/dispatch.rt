@@ -9,36 +9,38 @@ ghost use Rattle.rhai_state.specs.Errors.{is_out_of_memory};
 ghost use Rattle.rhai_state.specs.Native.{left_by, lent_value};
 ghost use Rattle.rhai_state.specs.Scope.{names_in};
 ghost use Rattle.rhai_machine.specs.language.Calls.{dispatch_core};
-ghost use Rattle.rhai_machine.specs.language.Frames.{EnterOnFocus};
+ghost use Rattle.rhai_machine.specs.language.Frames.{EnterOnFocus, core, ended_or_changed};
 ghost use Rattle.rhai_machine.specs.language.State.{Answers};
 ghost use Rattle.rhai_machine.specs.language.Values.{unit_value as unit};
-ghost use Rattle.rhai_calls.specs.ToldChanges.{MarkedRuns};
-ghost use Rattle.rhai_steps.specs.OnFocus.{lending, RunsFrom};
+ghost use Rattle.rhai_machine.specs.language.Runs.{Goes, Steps};
+ghost use Rattle.rhai_steps.specs.Operations.{operation_of};
+ghost use Rattle.rhai_steps.specs.OnFocus.{lending};
 ghost use Rattle.rhai_methods.specs.Methods.{IsEntered};
-ghost use Rattle.rhai_methods.specs.declared.calls.MethodCall.TheVariants.{Alone, OnTarget};
+ghost use Rattle.rhai_methods.specs.declared.calls.MethodEntry.TheVariants.{Alone, OnTarget};
 ghost use Rattle.rhai_steps.specs.States.{state_of};
 ghost use Rattle.rhai_laws.specs.Kept.{Kept};
 ghost use Rattle.rhai_eval.specs.Ends.{EndsChanged};
-ghost use Rattle.rhai_eval.specs.Entering.{came_out, ComesOut, ComesTo, IsByItself};
+ghost use Rattle.rhai_eval.specs.Entering.{came_out, IsByItself, came_to};
 ghost use Rattle.rhai_eval.specs.Places.{by_name, by_value, left_of, on_place, loan_start, with_place};
 ghost use Rattle.rhai_eval.specs.States.{under};
 
 use crate::engine::Engine;
 use crate::func::arguments::empty_all;
 use crate::func::captured::enter_with_this;
-use rhai_calls::dispatch::{Dispatched, Seeks, pass_all, pass_call};
+use rhai_calls::dispatch::{Called, Seeks, pass_all, pass_call};
 use rhai_calls::native::{Passing, tell_changed};
 use rhai_context::ends::finish;
 use rhai_context::{give_back, take};
 use rhai_few::Few;
 use rhai_functions::function::Function;
-use rhai_methods::calls::{MethodCall, on_target};
+use rhai_methods::calls::{MethodEntry, on_target};
 use rhai_methods::copies::take_out;
 use rhai_state::caches::Caches;
 use rhai_state::error::EvalAltResult;
 use rhai_state::scope::Scope;
 use rhai_state::state::GlobalRuntimeState;
 use rhai_state::table::NativeTable;
+use rhai_steps::operation::Operation;
 use rhai_steps::values::{copy, let_go, unit_value};
 use rhai_tree::Items;
 use rhai_tree::position::Position;
@@ -47,14 +49,8 @@ use rhai_values::base::value::{Dynamic, Host};
 use std::alloc::Global;
 use std::mem::replace;
 
-/// What a call by name comes to that enters no method any more.
-#[derive(Drop)]
-enum Outcome<H> {
-    /// It has ended, and a value tells whether the call changed its first argument.
-    Ended(Result<(Dynamic<H>, bool), EvalAltResult<H>>),
-    /// A function of a script is to be entered by itself, with these arguments.
-    Enters(Function<H>, Few<Dynamic<H>>),
-}
+/// A call by name that enters no method any more, but may enter a function of a script with its arguments.
+type ByItself<H> = Called<(Dynamic<H>, bool), (Function<H>, Few<Dynamic<H>>), H>;
 
 /// Tells whether a constant is kept from a native that is not pure. It is in a place of the caller, and for a
 /// method.
@@ -125,7 +121,7 @@ fn choose_entry<H: Host>(
     is_ref_mut: bool,
     is_method_call: bool,
     pos: Position,
-) -> MethodCall<H>
+) -> Called<(Dynamic<H>, bool), MethodEntry<H>, H>
     ensures method { is_method_call ≡ true → IsEntered result (OnTarget function rest.old) }
     ensures by_itself { is_method_call ≡ false → IsEntered result
         (Alone function ((if is_ref_mut then copy_of first.old else first.old) ∷ rest.old)) }
@@ -136,12 +132,19 @@ fn choose_entry<H: Host>(
         return on_target(alloc, function, Items::new(alloc), rest, pos);
     }
     match own_args(alloc, first, rest, is_ref_mut, pos) {
-        Ok(args) => MethodCall::Alone(function, args),
+        Ok(args) => Called::Enters(MethodEntry::Alone(function, args)),
         Err(error) => {
             drop(function);
-            MethodCall::Ended(Err(error))
+            Called::Ended(Err(error))
         }
     }
+}
+
+/// How a call has its first argument: lent by its caller, or as the target of a method.
+#[derive(Clone, Copy)]
+struct Manner {
+    is_ref_mut: bool,
+    is_method_call: bool,
 }
 
 impl<H: Host> Engine<H> {
@@ -152,72 +155,59 @@ impl<H: Host> Engine<H> {
         alloc: Global,
         global: &mut GlobalRuntimeState<H>,
         table: &mut T,
-        name: &str,
-        token: Option<Token>,
+        operation: &Operation<'_>,
         first: &mut Dynamic<H>,
         rest: &mut [Dynamic<H>],
-        is_ref_mut: bool,
-        is_method_call: bool,
-        pos: Position,
-    ) -> MethodCall<H>
-        ensures by_itself { is_method_call ≡ false → IsByItself result }
-        ensures lent { (scope : _) (held : _) (on_scope : _) → (is_ref_mut || is_method_call) ≡ true →
+        manner: Manner,
+    ) -> Called<(Dynamic<H>, bool), MethodEntry<H>, H>
+        ensures by_itself { manner.is_method_call ≡ false → IsByItself result }
+        ensures lent { (scope : _) (held : _) (on_scope : _) → (manner.is_ref_mut || manner.is_method_call) ≡ true →
             let rules = under H.name_of self.now T.natives in
-            ComesTo (not on_scope) pos rules (dispatch_core rules.setting (by_name is_method_call on_scope)
-            (on_place (record { name = name.now; token = token; at = pos }) true (Some first.old) rest.old))
-            (state_of (T.state table.old) global.old scope (lending held first.old)) result
+            Goes rules
+            (dispatch_core rules.setting (by_name manner.is_method_call on_scope) (on_place (operation_of operation.now) true (Some first.old) rest.old))
+            (state_of (T.state table.old) global.old scope (lending held first.old))
+            (came_to (not on_scope) operation.now.at result)
             (state_of (T.state table.new) global.new scope (lending held first.new)) }
-        ensures by_value { (scope : _) (held : _) (on_scope : _) → (is_ref_mut || is_method_call) ≡ false →
+        ensures by_value { (scope : _) (held : _) (on_scope : _) → (manner.is_ref_mut || manner.is_method_call) ≡ false →
             let rules = under H.name_of self.now T.natives in
-            ComesTo (not on_scope) pos rules (dispatch_core rules.setting (by_name false on_scope)
-            (by_value (record { name = name.now; token = token; at = pos }) (Some first.old) rest.old))
-            (state_of (T.state table.old) global.old scope held) result
+            Goes rules
+            (dispatch_core rules.setting (by_name false on_scope) (by_value (operation_of operation.now) (Some first.old) rest.old))
+            (state_of (T.state table.old) global.old scope held)
+            (came_to (not on_scope) operation.now.at result)
             (state_of (T.state table.new) global.new scope held) }
         ensures rest { rest.new ≡ replicate (length rest.old) unit }
-        ensures taken { (is_ref_mut || is_method_call) ≡ false → first.new ≡ unit }
+        ensures taken { (manner.is_ref_mut || manner.is_method_call) ≡ false → first.new ≡ unit }
         ensures search { global.new.always_search_scope ≡ global.old.always_search_scope }
     {
-        let limits = &self.limits();
         let search = global.always_search_scope;
-        let evaluator = self.evaluator(alloc, limits);
+        let session = self.session(alloc);
         let seeks = Seeks {
-            of_method: is_method_call,
+            of_method: manner.is_method_call,
             natives_alone: false,
         };
-        let is_lent = is_guarded(is_ref_mut, is_method_call);
+        let is_lent = is_guarded(manner.is_ref_mut, manner.is_method_call);
         let passing = Passing {
             guarded: is_lent,
             marks: true,
         };
         let dispatched = pass_call(
-            limits,
-            alloc,
-            &evaluator.offered,
-            global,
-            table,
-            seeks,
-            name,
-            token,
-            first,
-            &*rest,
-            passing,
-            pos,
+            &session, global, table, seeks, operation, first, &*rest, passing,
         );
         global.always_search_scope = search;
         match dispatched {
-            Dispatched::Ended(result) => {
+            Called::Ended(result) => {
                 empty_all(first, rest, is_lent);
-                MethodCall::Ended(result)
+                Called::Ended(result)
             }
-            Dispatched::Found(function) => {
+            Called::Enters(function) => {
                 let call = choose_entry(
                     alloc,
                     function,
                     first,
                     rest,
-                    is_ref_mut,
-                    is_method_call,
-                    pos,
+                    manner.is_ref_mut,
+                    manner.is_method_call,
+                    operation.at,
                 );
                 empty_all(first, rest, is_lent);
                 call
@@ -232,50 +222,43 @@ impl<H: Host> Engine<H> {
         alloc: Global,
         global: &mut GlobalRuntimeState<H>,
         table: &mut T,
-        name: &str,
-        token: Option<Token>,
+        operation: &Operation<'_>,
         first: &mut Dynamic<H>,
         rest: &mut [Dynamic<H>],
-        is_ref_mut: bool,
-        is_method_call: bool,
-        pos: Position,
-    ) -> Outcome<H>
-        ensures lent { (scope : _) (held : _) → (is_ref_mut || is_method_call) ≡ true →
+        manner: Manner,
+    ) -> ByItself<H>
+        ensures lent { (scope : _) (held : _) → (manner.is_ref_mut || manner.is_method_call) ≡ true →
             let rules = under H.name_of self.now T.natives in
-            ComesOut true pos rules (dispatch_core rules.setting (by_name is_method_call false)
-            (on_place (record { name = name.now; token = token; at = pos }) true (Some first.old) rest.old))
-            (state_of (T.state table.old) global.old scope (lending held first.old)) result
+            Goes rules
+            (dispatch_core rules.setting (by_name manner.is_method_call false) (on_place (operation_of operation.now) true (Some first.old) rest.old))
+            (state_of (T.state table.old) global.old scope (lending held first.old))
+            (came_out true operation.now.at result)
             (state_of (T.state table.new) global.new scope (lending held first.new)) }
-        ensures by_value { (scope : _) (held : _) → (is_ref_mut || is_method_call) ≡ false →
+        ensures by_value { (scope : _) (held : _) → (manner.is_ref_mut || manner.is_method_call) ≡ false →
             let rules = under H.name_of self.now T.natives in
-            ComesOut true pos rules (dispatch_core rules.setting (by_name false false)
-            (by_value (record { name = name.now; token = token; at = pos }) (Some first.old) rest.old))
-            (state_of (T.state table.old) global.old scope held) result
+            Goes rules
+            (dispatch_core rules.setting (by_name false false) (by_value (operation_of operation.now) (Some first.old) rest.old))
+            (state_of (T.state table.old) global.old scope held) (came_out true operation.now.at result)
             (state_of (T.state table.new) global.new scope held) }
         ensures rest { rest.new ≡ replicate (length rest.old) unit }
-        ensures taken { (is_ref_mut || is_method_call) ≡ false → first.new ≡ unit }
+        ensures taken { (manner.is_ref_mut || manner.is_method_call) ≡ false → first.new ≡ unit }
         ensures search { global.new.always_search_scope ≡ global.old.always_search_scope }
     {
-        let call = self.call_first(
-            alloc,
-            global,
-            table,
-            name,
-            token,
-            first,
-            rest,
-            is_ref_mut,
-            is_method_call,
-            pos,
-        );
+        let call = self.call_first(alloc, global, table, operation, first, rest, manner);
         match call {
-            MethodCall::Ended(result) => Outcome::Ended(result),
-            MethodCall::OnTarget(function, args) => {
-                Outcome::Ended(self.enter_method_fresh(
-                    alloc, global, table, function, first, args, pos,
-                ))
-            }
-            MethodCall::Alone(function, args) => Outcome::Enters(function, args),
+            Called::Ended(result) => Called::Ended(result),
+            Called::Enters(entry) => match entry {
+                MethodEntry::OnTarget(function, args) => Called::Ended(self.enter_method_fresh(
+                    alloc,
+                    global,
+                    table,
+                    function,
+                    first,
+                    args,
+                    operation.at,
+                )),
+                MethodEntry::Alone(function, args) => Called::Enters((function, args)),
+            },
         }
     }
 
@@ -287,48 +270,44 @@ impl<H: Host> Engine<H> {
         global: &mut GlobalRuntimeState<H>,
         table: &mut T,
         scope: &mut Scope<H>,
-        name: &str,
-        token: Option<Token>,
+        operation: &Operation<'_>,
         first: &mut Dynamic<H>,
         rest: &mut [Dynamic<H>],
-        is_ref_mut: bool,
-        is_method_call: bool,
-        pos: Position,
-    ) -> Outcome<H>
-        ensures lent { (held : _) → (is_ref_mut || is_method_call) ≡ true →
+        manner: Manner,
+    ) -> ByItself<H>
+        ensures lent { (held : _) → (manner.is_ref_mut || manner.is_method_call) ≡ true →
             let rules = under H.name_of self.now T.natives in
-            ComesOut false pos rules (dispatch_core rules.setting (by_name is_method_call true)
-            (on_place (record { name = name.now; token = token; at = pos }) true (Some first.old) rest.old))
-            (state_of (T.state table.old) global.old scope.old (lending held first.old)) result
+            Goes rules
+            (dispatch_core rules.setting (by_name manner.is_method_call true) (on_place (operation_of operation.now) true (Some first.old) rest.old))
+            (state_of (T.state table.old) global.old scope.old (lending held first.old))
+            (came_out false operation.now.at result)
             (state_of (T.state table.new) global.new scope.new (lending held first.new)) }
-        ensures by_value { (held : _) → (is_ref_mut || is_method_call) ≡ false →
+        ensures by_value { (held : _) → (manner.is_ref_mut || manner.is_method_call) ≡ false →
             let rules = under H.name_of self.now T.natives in
-            ComesOut false pos rules (dispatch_core rules.setting (by_name false true)
-            (by_value (record { name = name.now; token = token; at = pos }) (Some first.old) rest.old))
-            (state_of (T.state table.old) global.old scope.old held) result
+            Goes rules
+            (dispatch_core rules.setting (by_name false true) (by_value (operation_of operation.now) (Some first.old) rest.old))
+            (state_of (T.state table.old) global.old scope.old held) (came_out false operation.now.at result)
             (state_of (T.state table.new) global.new scope.new held) }
         ensures rest { rest.new ≡ replicate (length rest.old) unit }
-        ensures taken { (is_ref_mut || is_method_call) ≡ false → first.new ≡ unit }
+        ensures taken { (manner.is_ref_mut || manner.is_method_call) ≡ false → first.new ≡ unit }
         ensures search { global.new.always_search_scope ≡ global.old.always_search_scope }
     {
-        let call = self.call_first(
-            alloc,
-            global,
-            table,
-            name,
-            token,
-            first,
-            rest,
-            is_ref_mut,
-            is_method_call,
-            pos,
-        );
+        let call = self.call_first(alloc, global, table, operation, first, rest, manner);
         match call {
-            MethodCall::Ended(result) => Outcome::Ended(result),
-            MethodCall::OnTarget(function, args) => Outcome::Ended(self.enter_on_scope(
-                alloc, global, table, scope, function, first, args, pos,
-            )),
-            MethodCall::Alone(function, args) => Outcome::Enters(function, args),
+            Called::Ended(result) => Called::Ended(result),
+            Called::Enters(entry) => match entry {
+                MethodEntry::OnTarget(function, args) => Called::Ended(self.enter_on_scope(
+                    alloc,
+                    global,
+                    table,
+                    scope,
+                    function,
+                    first,
+                    args,
+                    operation.at,
+                )),
+                MethodEntry::Alone(function, args) => Called::Enters((function, args)),
+            },
         }
     }
 
@@ -338,43 +317,29 @@ impl<H: Host> Engine<H> {
         alloc: Global,
         global: &mut GlobalRuntimeState<H>,
         table: &mut T,
-        name: &str,
-        token: Option<Token>,
-        pos: Position,
-    ) -> Outcome<H>
+        operation: &Operation<'_>,
+    ) -> ByItself<H>
         ensures runs { (scope : _) (held : _) (on_scope : _) →
             let rules = under H.name_of self.now T.natives in
-            ComesOut (not on_scope) pos rules (dispatch_core rules.setting (by_name false on_scope)
-            (by_value (record { name = name.now; token = token; at = pos }) None []))
-            (state_of (T.state table.old) global.old scope held) result
+            Goes rules
+            (dispatch_core rules.setting (by_name false on_scope) (by_value (operation_of operation.now) None []))
+            (state_of (T.state table.old) global.old scope held)
+            (came_out (not on_scope) operation.now.at result)
             (state_of (T.state table.new) global.new scope held) }
         ensures search { global.new.always_search_scope ≡ global.old.always_search_scope }
     {
-        let limits = &self.limits();
         let search = global.always_search_scope;
-        let evaluator = self.evaluator(alloc, limits);
+        let session = self.session(alloc);
         let mut none = Few::new(alloc);
         let args = none.as_mut_slice();
-        let dispatched = pass_all(
-            limits,
-            alloc,
-            &evaluator.offered,
-            global,
-            table,
-            false,
-            name,
-            token,
-            args,
-            true,
-            pos,
-        );
+        let dispatched = pass_all(&session, global, table, false, operation, args, true);
         global.always_search_scope = search;
         match dispatched {
-            Dispatched::Ended(result) => {
+            Called::Ended(result) => {
                 drop(none);
-                Outcome::Ended(result)
+                Called::Ended(result)
             }
-            Dispatched::Found(function) => Outcome::Enters(function, none),
+            Called::Enters(function) => Called::Enters((function, none)),
         }
     }
 
@@ -389,16 +354,14 @@ impl<H: Host> Engine<H> {
         args: Few<Dynamic<H>>,
         pos: Position,
     ) -> Result<(Dynamic<H>, bool), EvalAltResult<H>>
-        ensures runs { (scope : _) (held : _) → MarkedRuns (under H.name_of self.now T.natives)
-            (EnterOnFocus function true args pos)
-            (state_of (T.state table.old) global.old scope (lending held place.old)) result
+        ensures runs { (scope : _) (held : _) → Steps (under H.name_of self.now T.natives) (EnterOnFocus function true args pos)
+            (state_of (T.state table.old) global.old scope (lending held place.old)) (ended_or_changed result)
             (state_of (T.state table.new) global.new scope (lending held place.new)) }
         ensures search { global.new.always_search_scope ≡ global.old.always_search_scope }
     {
         let mut scope = Scope::new(alloc);
         let mut run = take(alloc, global, &mut scope);
-        let limits = self.limits();
-        let evaluator = self.evaluator(alloc, &limits);
+        let evaluator = self.evaluator(alloc);
         let mut args = args;
         let values = args.as_mut_slice();
         let done = evaluator.enter_on_focus(&mut run, table, function, place, values, pos);
@@ -422,15 +385,14 @@ impl<H: Host> Engine<H> {
         args: Few<Dynamic<H>>,
         pos: Position,
     ) -> Result<(Dynamic<H>, bool), EvalAltResult<H>>
-        ensures runs { (held : _) → MarkedRuns (under H.name_of self.now T.natives)
-            (EnterOnFocus function false args pos)
-            (state_of (T.state table.old) global.old scope.old (lending held place.old)) result
+        ensures runs { (held : _) → Steps (under H.name_of self.now T.natives) (EnterOnFocus function false args pos)
+            (state_of (T.state table.old) global.old scope.old (lending held place.old))
+            (ended_or_changed result)
             (state_of (T.state table.new) global.new scope.new (lending held place.new)) }
         ensures search { global.new.always_search_scope ≡ global.old.always_search_scope }
     {
         let mut run = take(alloc, global, scope);
-        let limits = self.limits();
-        let evaluator = self.evaluator(alloc, &limits);
+        let evaluator = self.evaluator(alloc);
         let result = enter_with_this(
             &evaluator, alloc, &mut run, table, function, place, args, pos,
         );
@@ -446,20 +408,19 @@ impl<H: Host> Engine<H> {
         global: &mut GlobalRuntimeState<H>,
         table: &mut T,
         scope: &mut Scope<H>,
-        outcome: Outcome<H>,
+        outcome: ByItself<H>,
         pos: Position,
     ) -> Result<(Dynamic<H>, bool), EvalAltResult<H>>
-        ensures runs { (held : _) → RunsFrom (under H.name_of self.now T.natives) (came_out false pos outcome)
-            (state_of (T.state table.old) global.old scope.old held) result
+        ensures runs { (held : _) → Goes (under H.name_of self.now T.natives) (came_out false pos outcome)
+            (state_of (T.state table.old) global.old scope.old held) (core (ended_or_changed result))
             (state_of (T.state table.new) global.new scope.new held) }
         ensures search { global.new.always_search_scope ≡ global.old.always_search_scope }
     {
         match outcome {
-            Outcome::Ended(result) => result,
-            Outcome::Enters(function, args) => {
+            Called::Ended(result) => result,
+            Called::Enters((function, args)) => {
                 let mut run = take(alloc, global, scope);
-                let limits = self.limits();
-                let evaluator = self.evaluator(alloc, &limits);
+                let evaluator = self.evaluator(alloc);
                 let mut args = args;
                 let values = args.as_mut_slice();
                 let done = evaluator.enter_captured(&mut run, table, function, values, pos);
@@ -478,22 +439,21 @@ impl<H: Host> Engine<H> {
         alloc: Global,
         global: &mut GlobalRuntimeState<H>,
         table: &mut T,
-        outcome: Outcome<H>,
+        outcome: ByItself<H>,
         pos: Position,
     ) -> Result<(Dynamic<H>, bool), EvalAltResult<H>>
         ensures runs { (scope : _) (held : _) →
-            RunsFrom (under H.name_of self.now T.natives) (came_out true pos outcome)
-            (state_of (T.state table.old) global.old scope held) result
+            Goes (under H.name_of self.now T.natives) (came_out true pos outcome)
+            (state_of (T.state table.old) global.old scope held) (core (ended_or_changed result))
             (state_of (T.state table.new) global.new scope held) }
         ensures search { global.new.always_search_scope ≡ global.old.always_search_scope }
     {
         match outcome {
-            Outcome::Ended(result) => result,
-            Outcome::Enters(function, args) => {
+            Called::Ended(result) => result,
+            Called::Enters((function, args)) => {
                 let mut scope = Scope::new(alloc);
                 let mut run = take(alloc, global, &mut scope);
-                let limits = self.limits();
-                let evaluator = self.evaluator(alloc, &limits);
+                let evaluator = self.evaluator(alloc);
                 let mut args = args;
                 let values = args.as_mut_slice();
                 let done = evaluator.enter_fresh(&mut run, table, function, values, pos);
@@ -577,13 +537,17 @@ impl<H: Host> Engine<H> {
                         global,
                         table,
                         scope,
-                        name,
-                        token,
+                        &Operation {
+                            name,
+                            token,
+                            at: pos,
+                        },
                         first,
                         rest,
-                        is_ref_mut,
-                        is_method_call,
-                        pos,
+                        Manner {
+                            is_ref_mut,
+                            is_method_call,
+                        },
                     );
                     return self.finish_on_scope(alloc, global, table, scope, outcome, pos);
                 }
@@ -592,19 +556,32 @@ impl<H: Host> Engine<H> {
                         alloc,
                         global,
                         table,
-                        name,
-                        token,
+                        &Operation {
+                            name,
+                            token,
+                            at: pos,
+                        },
                         first,
                         rest,
-                        is_ref_mut,
-                        is_method_call,
-                        pos,
+                        Manner {
+                            is_ref_mut,
+                            is_method_call,
+                        },
                     );
                     return self.finish_fresh(alloc, global, table, outcome, pos);
                 }
             },
             None => {
-                let outcome = self.begin_bare_call(alloc, global, table, name, token, pos);
+                let outcome = self.begin_bare_call(
+                    alloc,
+                    global,
+                    table,
+                    &Operation {
+                        name,
+                        token,
+                        at: pos,
+                    },
+                );
                 match scope {
                     Some(scope) => return self.finish_on_scope(
                         alloc, global, table, scope, outcome, pos,

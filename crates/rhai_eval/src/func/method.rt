@@ -7,8 +7,10 @@ ghost use Rattle.rhai_places.specs.Targets.{is_shared as shows_handle, shown};
 ghost use Rattle.rhai_machine.specs.language.Methods.{method_core};
 ghost use Rattle.rhai_machine.specs.language.State.{HasMemory};
 ghost use Rattle.rhai_machine.specs.language.Values.{unit_value as unit};
+ghost use Rattle.rhai_machine.specs.language.Runs.{Goes};
+ghost use Rattle.rhai_machine.specs.language.Frames.{core, ended_or_changed};
 ghost use Rattle.rhai_methods.specs.Targets.{on_target, StaysAlike, value_walked_on};
-ghost use Rattle.rhai_steps.specs.OnFocus.{lending, RunsFrom};
+ghost use Rattle.rhai_steps.specs.OnFocus.{lending};
 ghost use Rattle.rhai_eval_core.specs.States.{under as under_what_is_read};
 ghost use Rattle.rhai_steps.specs.States.{state_of};
 ghost use Rattle.rhai_laws.specs.Kept.{Kept};
@@ -49,18 +51,11 @@ fn call_on_target<H: Host, T: NativeTable<H>>(
     ensures part { StaysAlike target.old.part target.old.at.now target.new.part target.new.at.now }
     ensures runs { (scope : _) (held : _) →
         let rules = under_what_is_read H.name_of evaluator.now T.natives in
-        RunsFrom rules (on_target rules.setting
-        (record {
-          name = name.now;
-          at = pos;
-          first_at = first;
-          was_handle = shows_handle target.old.part target.old.at.now;
-        }) args.old
-        target.old.part target.old.at.now)
-        (state_of (T.state table.old) run.old.global scope
-        (lending held (shown target.old.part target.old.at.now)))
-        result (state_of (T.state table.new) run.new.global scope
-        (lending held (value_walked_on target.new.part target.new.at.now))) }
+        Goes rules
+        (on_target rules.setting (record { name = name.now; at = pos; first_at = first; was_handle = shows_handle target.old.part target.old.at.now }) args.old target.old.part target.old.at.now)
+        (state_of (T.state table.old) run.old.global scope (lending held (shown target.old.part target.old.at.now)))
+        (core (ended_or_changed result))
+        (state_of (T.state table.new) run.new.global scope (lending held (value_walked_on target.new.part target.new.at.now))) }
     ensures shows { (scope : _) (held : _) → HasMemory result →
         let rules = under_what_is_read H.name_of evaluator.now T.natives in
         EndsAlone rules (method_core rules.setting
@@ -162,8 +157,7 @@ impl<H: Host> Engine<H> {
     {
         let mut scope = Scope::new(alloc);
         let mut run = take(alloc, global, &mut scope);
-        let limits = self.limits();
-        let evaluator = self.evaluator(alloc, &limits);
+        let evaluator = self.evaluator(alloc);
         let first = Some(first_arg_pos);
         let result = call_on_target(
             &evaluator, alloc, &mut run, table, fn_name, target, call_args, first, pos,

@@ -17,6 +17,7 @@ use rhai_state::caches::Caches;
 use rhai_state::error::EvalAltResult;
 use rhai_state::state::GlobalRuntimeState;
 use rhai_state::table::NativeTable;
+use rhai_steps::operation::Operation;
 use rhai_tree::position::Position;
 use rhai_tree::token::Token;
 use rhai_values::base::value::{Dynamic, Host};
@@ -62,7 +63,7 @@ impl<H: Host> Engine<H> {
         ensures caches { _caches.new ≡ _caches.old }
         ensures search { global.new.always_search_scope ≡ global.old.always_search_scope }
     {
-        let limits = &self.limits();
+        let session = self.session(alloc);
         let token = op_token.copied();
         let search = global.always_search_scope;
         match first {
@@ -72,14 +73,32 @@ impl<H: Host> Engine<H> {
                     marks: true,
                 };
                 let result = pass_native(
-                    limits, alloc, global, table, name, token, first, rest, passing, position,
+                    &session,
+                    global,
+                    table,
+                    &Operation {
+                        name,
+                        token,
+                        at: position,
+                    },
+                    first,
+                    rest,
+                    passing,
                 );
                 global.always_search_scope = search;
                 result
             }
             None => {
                 let result = pass_native_alone(
-                    limits, alloc, global, table, name, token, true, position,
+                    &session,
+                    global,
+                    table,
+                    &Operation {
+                        name,
+                        token,
+                        at: position,
+                    },
+                    true,
                 );
                 global.always_search_scope = search;
                 result

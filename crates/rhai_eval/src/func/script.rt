@@ -76,8 +76,7 @@ impl<H: Host> Engine<H> {
         let before = run.scope.len();
         let parameters = def.def().params.len();
         let level = run.global.level;
-        let limits = self.limits();
-        let evaluator = self.evaluator(alloc, &limits);
+        let evaluator = self.evaluator(alloc);
         let done = evaluator.run_body(run, table, def, env, args, rewind_scope, level, pos);
         let result = finish(done, &mut run.value, &mut run.error);
         leave_variables(&mut run.scope, before, parameters, rewind_scope);

@@ -40,8 +40,7 @@ impl<'e, H: Host> Evaluator<'e, H> {
             (came result run.new.value run.new.error) (state_in (T.state table.new) run.new) }
     {
         let in_place = read_literal(
-            self.limits,
-            self.alloc,
+            &self.session,
             &mut run.global,
             &*table,
             &mut run.value,
@@ -81,7 +80,7 @@ impl<'e, H: Host> Evaluator<'e, H> {
         }
         let cells = &run.global.cells;
         let (out, place) = (&mut run.value, &mut run.error);
-        if !push_argument(self.alloc, cells, values, out, place, true, arg) {
+        if !push_argument(self.session.alloc, cells, values, out, place, true, arg) {
             return false;
         }
         self.run_more_args(run, table, values, rest, true)
@@ -112,7 +111,15 @@ impl<'e, H: Host> Evaluator<'e, H> {
             }
             let cells = &run.global.cells;
             let (out, place) = (&mut run.value, &mut run.error);
-            if !push_argument(self.alloc, cells, values, out, place, flattened, arg) {
+            if !push_argument(
+                self.session.alloc,
+                cells,
+                values,
+                out,
+                place,
+                flattened,
+                arg,
+            ) {
                 return false;
             }
         }

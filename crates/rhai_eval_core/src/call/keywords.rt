@@ -4,16 +4,16 @@
 ghost use Rattle.std.specs.Prelude.{◌≡◌, ◌≤◌, ◌+◌, [], IfOk, IsTrue, length, map, true};
 ghost use Rattle.rhai_tree.specs.Frame.{all_resolve_exprs, resolves_expr, tests_of};
 ghost use Rattle.rhai_tree.specs.Positions.{start_of};
-ghost use Rattle.rhai_machine.specs.language.Frames.{Argument, KeywordArgument};
+ghost use Rattle.rhai_machine.specs.language.Frames.{Argument, KeywordArgument, core, ended, core_over};
 ghost use Rattle.rhai_values.specs.declared.base.value.FnPtr.{out-FnPtr};
-ghost use Rattle.rhai_machine.specs.language.Arguments.{arguments_core, linked_to};
+ghost use Rattle.rhai_machine.specs.language.Arguments.{arguments_core, linked_to, arguments_there};
+ghost use Rattle.rhai_machine.specs.language.Runs.{Goes};
 ghost use Rattle.rhai_steps.specs.Agreement.{KeepsSight};
-ghost use Rattle.rhai_calls.specs.Called.{with_args};
+ghost use Rattle.rhai_calls.specs.Called.{with_args, came_out};
 ghost use Rattle.rhai_call_forms.specs.Keywords.{word_of};
-ghost use Rattle.rhai_callees.specs.Going.{GoesOut};
 ghost use Rattle.rhai_context.specs.Ends.{came};
 ghost use Rattle.rhai_eval_core.specs.Agreement.{KeepsNames, SuitsNames};
-ghost use Rattle.rhai_eval_core.specs.Calls.{RunsUnder, StartsAs, purpose_of};
+ghost use Rattle.rhai_eval_core.specs.Calls.{purpose_of};
 ghost use Rattle.rhai_eval_core.specs.States.{state_in, under};
 
 use crate::evaluator::Evaluator;
@@ -33,6 +33,7 @@ use rhai_few::Few;
 use rhai_functions::function::Function;
 use rhai_state::error::EvalAltResult;
 use rhai_state::table::NativeTable;
+use rhai_steps::operation::Operation;
 use rhai_tree::Items;
 use rhai_tree::expr::Expr;
 use rhai_tree::literal::NativeId;
@@ -82,10 +83,10 @@ impl<'e, H: Host> Evaluator<'e, H> {
         requires resolves_rest { SuitsNames run.old (all_resolve_exprs (map tests_of rest.now)) }
         ensures counts { IsTrue result → run.old.global.num_operations ≤ run.new.global.num_operations }
         ensures names { IsTrue result → KeepsNames run.old run.new }
-        ensures runs { RunsUnder (under H.name_of self.now T.natives) (Argument first.now)
-            (KeywordArgument (word_of word) pos (start_of first.now) rest.now captures)
-            (state_in (T.state table.old) run.old)
-            (came result run.new.value run.new.error) (state_in (T.state table.new) run.new) }
+        ensures runs { Goes (under H.name_of self.now T.natives)
+            (core_over (Argument first.now) (KeywordArgument (word_of word) pos (start_of first.now) rest.now captures))
+            (state_in (T.state table.old) run.old) (core (ended (came result run.new.value run.new.error)))
+            (state_in (T.state table.new) run.new) }
     {
         if !self.run_arg(run, table, first) {
             return false;
@@ -98,7 +99,7 @@ impl<'e, H: Host> Evaluator<'e, H> {
                 true
             }
             Keyword::IsDefinedVariable => {
-                match text_of(self.alloc, &run.global.cells, value, start) {
+                match text_of(self.session.alloc, &run.global.cells, value, start) {
                     Ok(text) => {
                         put(&mut run.value, is_defined(&run.scope, &text));
                         true
@@ -106,21 +107,36 @@ impl<'e, H: Host> Evaluator<'e, H> {
                     Err(error) => stop(&mut run.error, error),
                 }
             }
-            Keyword::MakePointer => match text_of(self.alloc, &run.global.cells, value, start) {
+            Keyword::MakePointer => match text_of(
+                self.session.alloc,
+                &run.global.cells,
+                value,
+                start,
+            ) {
                 Ok(text) => {
-                    let made = make_pointer(self.alloc, text, start);
+                    let made = make_pointer(self.session.alloc, text, start);
                     settle(&mut run.error, &mut run.value, made)
                 }
                 Err(error) => stop(&mut run.error, error),
             },
-            Keyword::Curry => match pointer_of(self.alloc, &run.global.cells, value, start) {
+            Keyword::Curry => match pointer_of(
+                self.session.alloc,
+                &run.global.cells,
+                value,
+                start,
+            ) {
                 Ok(pointer) => {
                     self.run_pointer(run, table, PointerUse::Curry(pointer), rest, pos)
                 }
                 Err(error) => stop(&mut run.error, error),
             },
             Keyword::CallPointer => {
-                let pointer = match pointer_of(self.alloc, &run.global.cells, value, start) {
+                let pointer = match pointer_of(
+                    self.session.alloc,
+                    &run.global.cells,
+                    value,
+                    start,
+                ) {
                     Ok(pointer) => pointer,
                     Err(error) => return stop(&mut run.error, error),
                 };
@@ -144,8 +160,18 @@ impl<'e, H: Host> Evaluator<'e, H> {
                                 let name = name.get().as_str();
                                 let alone = natives_alone(name);
                                 self.run_named(
-                                    run, table, name, None, curried, first, rest, captures, alone,
-                                    pos,
+                                    run,
+                                    table,
+                                    &Operation {
+                                        name,
+                                        token: None,
+                                        at: pos,
+                                    },
+                                    curried,
+                                    first,
+                                    rest,
+                                    captures,
+                                    alone,
                                 )
                             }
                         }
@@ -167,28 +193,37 @@ impl<'e, H: Host> Evaluator<'e, H> {
         pointer: PointerUse<H>,
         values: &mut Few<Dynamic<H>>,
         pos: Position,
-    ) -> Called<H>
+    ) -> Called<Dynamic<H>, Function<H>, H>
         ensures counts { run.old.global.num_operations ≤ run.new.global.num_operations }
         ensures sight { KeepsSight run.old.global run.new.global }
         ensures scope { run.new.scope ≡ run.old.scope }
-        ensures runs { GoesOut (under H.name_of self.now T.natives)
-            (purpose_of pointer pos) values.old true pos
-            (state_in (T.state table.old) run.old) (with_args result values.new)
+        ensures runs { let rules = under H.name_of self.now T.natives in
+            Goes rules (arguments_there rules.setting (purpose_of pointer pos) values.old)
+            (state_in (T.state table.old) run.old) (came_out true pos (with_args result values.new))
             (state_in (T.state table.new) run.new) }
     {
         match pointer {
             PointerUse::Curry(pointer) => {
-                Called::Ended(with_curried(self.alloc, pointer, values, pos))
+                Called::Ended(with_curried(self.session.alloc, pointer, values, pos))
             }
             PointerUse::Linked(function, curried) => {
                 let cells = &run.global.cells;
-                call_function(self.alloc, cells, function, curried, values, pos)
+                call_function(self.session.alloc, cells, function, curried, values, pos)
             }
             PointerUse::Number(id, curried) => {
-                let limits = self.limits;
                 let global = &mut run.global;
                 Called::Ended(call_number(
-                    limits, self.alloc, global, table, id, "call", curried, values, pos,
+                    &self.session,
+                    global,
+                    table,
+                    id,
+                    &Operation {
+                        name: "call",
+                        token: None,
+                        at: pos,
+                    },
+                    curried,
+                    values,
                 ))
             }
         }
@@ -208,12 +243,13 @@ impl<'e, H: Host> Evaluator<'e, H> {
         requires { SuitsNames run.old (all_resolve_exprs (map tests_of args.now)) }
         ensures counts { IsTrue result → run.old.global.num_operations ≤ run.new.global.num_operations }
         ensures names { IsTrue result → KeepsNames run.old run.new }
-        ensures runs { StartsAs (under H.name_of self.now T.natives)
+        ensures runs { let rules = under H.name_of self.now T.natives in
+            Goes rules
             (arguments_core (under H.name_of self.now T.natives).setting (purpose_of pointer pos) [] args.now)
-            (state_in (T.state table.old) run.old)
-            (came result run.new.value run.new.error) (state_in (T.state table.new) run.new) }
+            (state_in (T.state table.old) run.old) (core (ended (came result run.new.value run.new.error)))
+            (state_in (T.state table.new) run.new) }
     {
-        let mut values = Few::new(self.alloc);
+        let mut values = Few::new(self.session.alloc);
         if !self.run_more_args(run, table, &mut values, args, false) {
             drop(pointer);
             drop(values);

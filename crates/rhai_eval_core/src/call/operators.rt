@@ -6,10 +6,10 @@ ghost use Rattle.rhai_tree.specs.Frame.{resolves_expr, resolves_call};
 ghost use Rattle.rhai_tree.specs.declared.expr.Expr.TheOpen as layer;
 ghost use Rattle.rhai_machine.specs.language.Calls.{call_at};
 ghost use Rattle.rhai_machine.specs.language.Frames.{OpenExpr};
-ghost use Rattle.rhai_machine.specs.language.Runs.{Runs};
+ghost use Rattle.rhai_machine.specs.language.Runs.{Runs, Goes};
 ghost use Rattle.rhai_steps.specs.Agreement.{KeepsSight};
-ghost use Rattle.rhai_calls.specs.Called.{with_args};
-ghost use Rattle.rhai_calls.specs.Operates.{Operates};
+ghost use Rattle.rhai_calls.specs.Called.{with_args, came_out};
+ghost use Rattle.rhai_calls.specs.Operates.{operator_there};
 ghost use Rattle.rhai_context.specs.Ends.{came};
 ghost use Rattle.rhai_eval_core.specs.Agreement.{KeepsNames, SuitsNames};
 ghost use Rattle.rhai_eval_core.specs.States.{state_in, under};
@@ -22,7 +22,8 @@ use rhai_context::Context;
 use rhai_context::ends::take_value;
 use rhai_context::outcomes::flatten_at;
 use rhai_few::Few;
-use rhai_operands::operators::{operate_in_place, operate_known};
+use rhai_functions::function::Function;
+use rhai_operands::operators::{BinaryCall, operate_in_place, operate_known};
 use rhai_state::table::NativeTable;
 use rhai_steps::values::let_go;
 use rhai_tree::expr::{Expr, FnCallExpr};
@@ -48,24 +49,25 @@ impl<'e, H: Host> Evaluator<'e, H> {
             (state_in (T.state table.old) run.old)
             (came result run.new.value run.new.error) (state_in (T.state table.new) run.new) }
     {
-        match form_of(self.fast_operators, call) {
+        match form_of(self.session.fast_operators, call) {
             CallForm::Unary(token, operand) => {
                 self.run_unary(run, table, call, token, operand, pos)
             }
             CallForm::Binary(token, left, right) => {
                 let in_place = operate_in_place(
-                    self.limits,
-                    self.alloc,
+                    &self.session,
                     &mut run.global,
                     &*table,
                     &run.scope,
                     &mut run.value,
                     &mut run.error,
-                    call,
-                    token,
-                    left,
-                    right,
-                    pos,
+                    BinaryCall {
+                        call,
+                        token,
+                        left,
+                        right,
+                        at: pos,
+                    },
                 );
                 if let Some(done) = in_place {
                     return done;
@@ -91,7 +93,7 @@ impl<'e, H: Host> Evaluator<'e, H> {
         requires token { call.now.op_token ≡ Some token }
         requires args { call.now.args ≡ operand.now ∷ [] }
         requires resolves { SuitsNames run.old (resolves_expr operand.now) }
-        requires fast { self.now.fast_operators ≡ true }
+        requires fast { self.now.session.fast_operators ≡ true }
         ensures counts { IsTrue result → run.old.global.num_operations ≤ run.new.global.num_operations }
         ensures names { IsTrue result → KeepsNames run.old run.new }
         ensures runs { Runs (under H.name_of self.now T.natives) (OpenExpr (layer.Expr::FnCall call.now pos))
@@ -102,10 +104,10 @@ impl<'e, H: Host> Evaluator<'e, H> {
             return false;
         }
         let (out, place) = (&mut run.value, &mut run.error);
-        if !flatten_at(self.alloc, &run.global.cells, out, place, operand) {
+        if !flatten_at(self.session.alloc, &run.global.cells, out, place, operand) {
             return false;
         }
-        let mut operands = Few::new(self.alloc);
+        let mut operands = Few::new(self.session.alloc);
         let called = self.operate_on_one(run, table, call, token, &mut operands, pos);
         let done = self.finish_call(run, table, called, &mut operands, true, pos);
         drop(operands);
@@ -123,20 +125,19 @@ impl<'e, H: Host> Evaluator<'e, H> {
         token: Token,
         operands: &mut Few<Dynamic<H>>,
         pos: Position,
-    ) -> Called<H>
+    ) -> Called<Dynamic<H>, Function<H>, H>
         requires { operands.old ≡ [] }
         ensures counts { run.old.global.num_operations ≤ run.new.global.num_operations }
         ensures sight { KeepsSight run.old.global run.new.global }
         ensures scope { run.new.scope ≡ run.old.scope }
-        ensures runs { Operates (under H.name_of self.now T.natives)
-            (call_at call.now.name token pos (run.old.value ∷ [])) (state_in (T.state table.old) run.old)
-            (with_args result operands.new) (state_in (T.state table.new) run.new) }
+        ensures runs { let rules = under H.name_of self.now T.natives in
+            Goes rules (operator_there rules.setting (call_at call.now.name token pos (run.old.value ∷ [])))
+            (state_in (T.state table.old) run.old) (came_out true pos (with_args result operands.new))
+            (state_in (T.state table.new) run.new) }
     {
         let (global, out) = (&mut run.global, &mut run.value);
         operate_one(
-            self.limits,
-            self.alloc,
-            &self.offered,
+            &self.session,
             global,
             table,
             call,
@@ -159,21 +160,20 @@ impl<'e, H: Host> Evaluator<'e, H> {
         left: Dynamic<H>,
         operands: &mut Few<Dynamic<H>>,
         pos: Position,
-    ) -> Called<H>
+    ) -> Called<Dynamic<H>, Function<H>, H>
         requires { operands.old ≡ [] }
         ensures counts { run.old.global.num_operations ≤ run.new.global.num_operations }
         ensures sight { KeepsSight run.old.global run.new.global }
         ensures scope { run.new.scope ≡ run.old.scope }
-        ensures runs { Operates (under H.name_of self.now T.natives)
-            (call_at call.now.name token pos (left ∷ run.old.value ∷ []))
-            (state_in (T.state table.old) run.old)
-            (with_args result operands.new) (state_in (T.state table.new) run.new) }
+        ensures runs { let rules = under H.name_of self.now T.natives in
+            Goes rules
+            (operator_there rules.setting (call_at call.now.name token pos (left ∷ run.old.value ∷ [])))
+            (state_in (T.state table.old) run.old) (came_out true pos (with_args result operands.new))
+            (state_in (T.state table.new) run.new) }
     {
         let (global, out) = (&mut run.global, &mut run.value);
         operate_two(
-            self.limits,
-            self.alloc,
-            &self.offered,
+            &self.session,
             global,
             table,
             call,
@@ -203,7 +203,7 @@ impl<'e, H: Host> Evaluator<'e, H> {
         requires args { call.now.args ≡ left.now ∷ right.now ∷ [] }
         requires resolves_left { SuitsNames run.old (resolves_expr left.now) }
         requires resolves_right { SuitsNames run.old (resolves_expr right.now) }
-        requires fast { self.now.fast_operators ≡ true }
+        requires fast { self.now.session.fast_operators ≡ true }
         ensures counts { IsTrue result → run.old.global.num_operations ≤ run.new.global.num_operations }
         ensures names { IsTrue result → KeepsNames run.old run.new }
         ensures runs { Runs (under H.name_of self.now T.natives) (OpenExpr (layer.Expr::FnCall call.now pos))
@@ -214,7 +214,7 @@ impl<'e, H: Host> Evaluator<'e, H> {
             return false;
         }
         let (out, place) = (&mut run.value, &mut run.error);
-        if !flatten_at(self.alloc, &run.global.cells, out, place, left) {
+        if !flatten_at(self.session.alloc, &run.global.cells, out, place, left) {
             return false;
         }
         let first = take_value(&mut run.value);
@@ -223,14 +223,14 @@ impl<'e, H: Host> Evaluator<'e, H> {
             return false;
         }
         let (out, place) = (&mut run.value, &mut run.error);
-        if !flatten_at(self.alloc, &run.global.cells, out, place, right) {
+        if !flatten_at(self.session.alloc, &run.global.cells, out, place, right) {
             let_go(first);
             return false;
         }
         if operate_known(token, &first, &mut run.value) {
             return true;
         }
-        let mut operands = Few::new(self.alloc);
+        let mut operands = Few::new(self.session.alloc);
         let called = self.operate_on_two(run, table, call, token, first, &mut operands, pos);
         let done = self.finish_call(run, table, called, &mut operands, true, pos);
         drop(operands);

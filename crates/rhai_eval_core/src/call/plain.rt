@@ -2,15 +2,17 @@
 //! upstream's `func/call.rs` and `call_script_fn` that such a call takes; the contracts speak of the
 //! machine's runs.
 
-ghost use Rattle.std.specs.Prelude.{◌≡◌, ◌≤◌, [], None, IsTrue, false, length, map};
+ghost use Rattle.std.specs.Prelude.{◌≡◌, ◌≤◌, [], None, IsTrue, false, true, length, map, List};
 ghost use Rattle.rhai_tree.specs.Frame.{all_resolve_exprs, tests_of};
+ghost use Rattle.rhai_functions.specs.Entering.{parameters};
 ghost use Rattle.rhai_machine.specs.language.Arguments.{arguments_core};
 ghost use Rattle.rhai_machine.specs.language.Calls.{plainly};
-ghost use Rattle.rhai_machine.specs.language.Frames.{ToCall};
+ghost use Rattle.rhai_machine.specs.language.Frames.{ToCall, core, ended};
+ghost use Rattle.rhai_machine.specs.language.Runs.{Goes};
 ghost use Rattle.rhai_context.specs.Ends.{came};
 ghost use Rattle.rhai_plain.specs.Callees.{IsPlain};
 ghost use Rattle.rhai_eval_core.specs.Agreement.{KeepsNames, SuitsNames};
-ghost use Rattle.rhai_eval_core.specs.Calls.{Fills, StartsAs};
+ghost use Rattle.rhai_eval_core.specs.Calls.{Collects};
 ghost use Rattle.rhai_eval_core.specs.States.{state_in, under};
 
 use crate::evaluator::Evaluator;
@@ -46,14 +48,13 @@ impl<'e, H: Host> Evaluator<'e, H> {
         ensures counts { IsTrue result → run.old.global.num_operations ≤ run.new.global.num_operations }
         ensures names { IsTrue result → KeepsNames run.old run.new }
         ensures runs { let rules = under H.name_of self.now T.natives in
-            StartsAs rules (arguments_core rules.setting
-            (ToCall (record { name = call.now.name; token = None; at = pos })
-            [] (plainly false false)) [] call.now.args)
-            (state_in (T.state table.old) run.old)
-            (came result run.new.value run.new.error) (state_in (T.state table.new) run.new) }
+            Goes rules
+            (arguments_core rules.setting (ToCall (record { name = call.now.name; token = None; at = pos }) [] (plainly false false)) [] call.now.args)
+            (state_in (T.state table.old) run.old) (core (ended (came result run.new.value run.new.error)))
+            (state_in (T.state table.new) run.new) }
     {
         let def = definition_of(&function);
-        let mut variables = lend_variables(self.alloc, run);
+        let mut variables = lend_variables(self.session.alloc, run);
         let args = call.args.as_slice();
         if !self.run_parameters(run, table, &mut variables, def, args) {
             keep_variables(run, variables);
@@ -61,7 +62,7 @@ impl<'e, H: Host> Evaluator<'e, H> {
         }
         let cells = &run.global.cells;
         if stops_by_race(
-            self.alloc,
+            self.session.alloc,
             cells,
             &mut run.error,
             variables.as_slice(),
@@ -72,14 +73,14 @@ impl<'e, H: Host> Evaluator<'e, H> {
             return false;
         }
         let (global, out, place) = (&mut run.global, &mut run.value, &mut run.error);
-        if let Some(done) = ends_before(self.limits, global, out, place, def, pos) {
+        if let Some(done) = ends_before(&self.session.limits, global, out, place, def, pos) {
             keep_variables(run, variables);
             return done;
         }
         let entered = enter_plain(run, variables);
         let statements = statements_of(def);
         let done = self.run_stmt_block(run, table, statements, true);
-        leave_plain(self.alloc, run, def, entered, done, pos)
+        leave_plain(self.session.alloc, run, def, entered, done, pos)
     }
 
     /// Makes the values of arguments a function's variables, from left to right and flattened. Tells whether
@@ -99,9 +100,13 @@ impl<'e, H: Host> Evaluator<'e, H> {
         requires takes { length def.now.params ≡ length args.now }
         ensures counts { IsTrue result → run.old.global.num_operations ≤ run.new.global.num_operations }
         ensures names { IsTrue result → KeepsNames run.old run.new }
-        ensures fills { Fills (under H.name_of self.now T.natives) def.now.params args.now result
-            variables.new (state_in (T.state table.old) run.old) run.new.error
-            (state_in (T.state table.new) run.new) }
+        ensures fills { let old = state_in (T.state table.old) run.old in
+            let new = state_in (T.state table.new) run.new in
+            (values : List _)
+            × (Collects (under H.name_of self.now T.natives) true [] args.now old (came result values run.new.error) new)
+            × (IsTrue result → variables.new ≡ parameters def.now.params values)
+            × (IsTrue result → length values ≡ length args.now)
+            × (IsTrue result → new.local.around.lib ≡ old.local.around.lib) }
     {
         'each_arg: for arg in args {
             if !self.run_arg(run, table, arg) {
@@ -109,7 +114,7 @@ impl<'e, H: Host> Evaluator<'e, H> {
             }
             let cells = &run.global.cells;
             let (out, place) = (&mut run.value, &mut run.error);
-            if !push_parameter(self.alloc, cells, out, place, variables, def, arg) {
+            if !push_parameter(self.session.alloc, cells, out, place, variables, def, arg) {
                 return false;
             }
         }

@@ -42,24 +42,23 @@ impl<'e, H: Host> Evaluator<'e, H> {
         ensures counts { IsTrue result → run.old.global.num_operations ≤ run.new.global.num_operations }
         ensures names { IsTrue result → KeepsNames run.old run.new }
         ensures runs { (token : Option Token) → (captures : Bool) →
-            IsForm form.Function self.now.fast_operators token args.now →
+            IsForm form.Function self.now.session.fast_operators token args.now →
             Runs (under H.name_of self.now T.natives)
             (OpenExpr (layer.Expr::FnCall (in_parts namespace.now name.now args.now token captures) pos))
             (state_in (T.state table.old) run.old)
             (came result run.new.value run.new.error) (state_in (T.state table.new) run.new) }
     {
         let (last, others) = split_last_read(&run.this, args);
-        if !charge_last(self.limits, &mut run.global, &mut run.error, last) {
+        if !charge_last(&self.session.limits, &mut run.global, &mut run.error, last) {
             return false;
         }
-        let mut values = Few::new(self.alloc);
+        let mut values = Few::new(self.session.alloc);
         if !self.run_more_args(run, table, &mut values, others, true) {
             drop(values);
             return false;
         }
         let called = call_behind(
-            self.alloc,
-            &self.offered,
+            &self.session,
             &run.global,
             &run.scope,
             &run.this,

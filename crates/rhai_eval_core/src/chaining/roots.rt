@@ -10,17 +10,16 @@ ghost use Rattle.rhai_state.specs.Errors.{is_out_of_memory};
 ghost use Rattle.rhai_state.specs.Scope.{entries_of};
 ghost use Rattle.rhai_state.specs.declared.error.EvalAltResult.TheVariants as error;
 ghost use Rattle.rhai_machine.specs.language.Chains.{this_root_core};
-ghost use Rattle.rhai_machine.specs.language.Frames.{Back, ReadRoot, RootValue};
-ghost use Rattle.rhai_machine.specs.language.Runs.{Runs};
+ghost use Rattle.rhai_machine.specs.language.Frames.{Back, ReadRoot, RootValue, core, ended, core_over};
+ghost use Rattle.rhai_machine.specs.language.Runs.{Runs, Goes};
 ghost use Rattle.rhai_machine.specs.language.State.{Answers};
 ghost use Rattle.rhai_machine.specs.language.Values.{flat};
-ghost use Rattle.rhai_machine.specs.language.Variables.{variable_named};
-ghost use Rattle.rhai_steps.specs.Agreement.{AgreesAt, KeepsSight, variable_is_good};
+ghost use Rattle.rhai_steps.specs.Agreement.{AgreesAt, KeepsSight};
 ghost use Rattle.rhai_steps.specs.Offers.{globals_in};
 ghost use Rattle.rhai_steps.specs.States.{state_of};
+ghost use Rattle.rhai_steps.specs.Variables.{offset_is_good, variable_told};
 ghost use Rattle.rhai_chains.specs.Chains.{chain_at, Walks};
 ghost use Rattle.rhai_eval_core.specs.Agreement.{KeepsNames, SuitsNames};
-ghost use Rattle.rhai_eval_core.specs.Calls.{RunsUnder, StartsAs};
 ghost use Rattle.rhai_context.specs.Ends.{came, came_some, error_in};
 ghost use Rattle.rhai_eval_core.specs.Roots.{GoesBack, LendsVariable, RefusesThis};
 ghost use Rattle.rhai_eval_core.specs.States.{under};
@@ -32,22 +31,20 @@ use rhai_chains::chain::NewValue;
 use rhai_context::Context;
 use rhai_context::ends::{stop, take_value};
 use rhai_context::outcomes::flatten_at;
-use rhai_functions::function::Offered;
 use rhai_state::error::EvalAltResult;
+use rhai_state::errors::{data_race, data_race_of};
 use rhai_state::scope::Scope;
+use rhai_state::session::Session;
 use rhai_state::state::GlobalRuntimeState;
 use rhai_state::table::NativeTable;
-use rhai_steps::errors::{data_race, data_race_of};
 use rhai_steps::values::{let_go, unit_value};
-use rhai_steps::variables::{entry_of_variable, read_beside};
-use rhai_tree::expr::{Expr, Namespace};
+use rhai_steps::variables::{Variable, entry_of_variable, read_beside};
+use rhai_tree::expr::Expr;
 use rhai_tree::position::Position;
-use rhai_tree::{Shared, Text};
 use rhai_values::base::value::{Dynamic, Host};
 use rhai_values::cells::CellStore;
 use std::alloc::Global;
 use std::mem::replace;
-use std::num::NonZeroUsize;
 
 /// Tells whether a value is the handle of a cell that is held. The error is left in `place` then.
 pub(crate) fn refuses_held<H: Host>(
@@ -76,25 +73,33 @@ pub(crate) fn refuses_held<H: Host>(
 /// `ErrorDataRace` at the name for an entry that is the handle of a cell that is held, and those of
 /// `read_beside`. It is left in `place`, and the variables stay.
 fn lend_variable<H: Host>(
-    alloc: Global,
-    offered: &Offered<'_, H>,
+    session: &Session<'_, H>,
     global: &GlobalRuntimeState<H>,
     scope: &mut Scope<H>,
     place: &mut Option<EvalAltResult<H>>,
-    offset: Option<NonZeroUsize>,
-    name: &Shared<Text>,
-    namespace: &Namespace,
-    pos: Position,
+    variable: &Variable<'_>,
 ) -> Option<(Option<usize>, Dynamic<H>)>
-    requires { AgreesAt global.now scope.old (variable_is_good offset name.now namespace.now.path) }
-    ensures lends { LendsVariable (globals_in offered.now) global.now
-        (variable_named name.now namespace.now pos) (entries_of scope.old) (came_some result place.new)
+    requires { AgreesAt global.now scope.old (offset_is_good variable.now) }
+    ensures lends { LendsVariable (globals_in session.now.offered) global.now
+        (variable_told variable.now) (entries_of scope.old) (came_some result place.new)
         (entries_of scope.new) }
     ensures within { IfSome result (λ lent. IfSome lent.0 (λ at. at < length (entries_of scope.new))) }
     ensures kept { result ≡ None → scope.new ≡ scope.old }
 {
-    match entry_of_variable(global, scope, offset, name, namespace) {
-        None => match read_beside(alloc, offered, global, name, namespace, pos) {
+    match entry_of_variable(
+        global,
+        scope,
+        variable.offset,
+        variable.name,
+        variable.namespace,
+    ) {
+        None => match read_beside(
+            session,
+            global,
+            variable.name,
+            variable.namespace,
+            variable.at,
+        ) {
             Ok(value) => Some((None, value)),
             Err(error) => {
                 stop(place, error);
@@ -104,7 +109,7 @@ fn lend_variable<H: Host>(
         Some(index) => {
             let is_anothers = is_held(&global.cells, scope.value_at(index));
             if is_anothers {
-                stop(place, data_race_of(name, pos));
+                stop(place, data_race_of(variable.name, variable.at));
                 return None;
             }
             Some((Some(index), scope.replace_value(index, unit_value())))
@@ -211,39 +216,26 @@ impl<'e, H: Host> Evaluator<'e, H> {
         &self,
         run: &mut Context<H>,
         table: &mut T,
-        offset: Option<NonZeroUsize>,
-        name: &Shared<Text>,
-        namespace: &Namespace,
-        pos: Position,
+        variable: &Variable<'_>,
         root: &Expr,
         rest: &Expr,
         args: &mut [Dynamic<H>],
         new: Option<NewValue<H>>,
     ) -> bool
-        requires good { SuitsNames run.old (variable_is_good offset name.now namespace.now.path) }
+        requires good { SuitsNames run.old (offset_is_good variable.now) }
         requires walks { Walks (is_some new) (out-Expr rest.now) (length args.old) }
         ensures counts { run.old.global.num_operations ≤ run.new.global.num_operations }
         ensures names { KeepsNames run.old run.new }
         ensures this { run.new.this ≡ run.old.this }
         ensures runs { (held : _) (in_place : _) → Runs (under H.name_of self.now T.natives)
-            (ReadRoot (variable_named name.now namespace.now pos)
+            (ReadRoot (variable_told variable.now)
             (chain_at root.now (out-Expr rest.now) args.old new in_place))
             (state_of (T.state table.old) run.old.global run.old.scope held)
             (came result run.new.value run.new.error)
             (state_of (T.state table.new) run.new.global run.new.scope held) }
     {
         let (global, scope, place) = (&run.global, &mut run.scope, &mut run.error);
-        let lent = lend_variable(
-            self.alloc,
-            &self.offered,
-            global,
-            scope,
-            place,
-            offset,
-            name,
-            namespace,
-            pos,
-        );
+        let lent = lend_variable(&self.session, global, scope, place, variable);
         let Some((index, value)) = lent else {
             drop(new);
             return false;
@@ -276,16 +268,14 @@ impl<'e, H: Host> Evaluator<'e, H> {
         ensures sight { KeepsSight run.old.global run.new.global }
         ensures scope { run.new.scope ≡ run.old.scope }
         ensures runs { (scope : _) (focus : _) (in_place : _) →
-            StartsAs (under H.name_of self.now T.natives)
+            Goes (under H.name_of self.now T.natives)
             (this_root_core pos (chain_at root.now (out-Expr rest.now) args.old new in_place))
-            (state_of (T.state table.old) run.old.global scope
-            (record { this = run.old.this; focus = focus }))
-            (came result run.new.value run.new.error)
-            (state_of (T.state table.new) run.new.global scope
-            (record { this = run.new.this; focus = focus })) }
+            (state_of (T.state table.old) run.old.global scope (record { this = run.old.this; focus = focus }))
+            (core (ended (came result run.new.value run.new.error)))
+            (state_of (T.state table.new) run.new.global scope (record { this = run.new.this; focus = focus })) }
     {
         let (cells, this) = (&run.global.cells, &mut run.this);
-        let Some(value) = lend_this(self.alloc, cells, this, &mut run.error, pos) else {
+        let Some(value) = lend_this(self.session.alloc, cells, this, &mut run.error, pos) else {
             drop(new);
             return false;
         };
@@ -315,14 +305,14 @@ impl<'e, H: Host> Evaluator<'e, H> {
         ensures scope { run.new.scope ≡ run.old.scope }
         ensures this { run.new.this ≡ run.old.this }
         ensures runs { (scope : _) (held : _) (in_place : _) →
-            RunsUnder (under H.name_of self.now T.natives) (Back run.old.value)
-            (RootValue (chain_at root.now (out-Expr rest.now) args.old None in_place))
+            Goes (under H.name_of self.now T.natives)
+            (core_over (Back run.old.value) (RootValue (chain_at root.now (out-Expr rest.now) args.old None in_place)))
             (state_of (T.state table.old) run.old.global scope held)
-            (came result run.new.value run.new.error)
+            (core (ended (came result run.new.value run.new.error)))
             (state_of (T.state table.new) run.new.global scope held) }
     {
         let (cells, out) = (&run.global.cells, &mut run.value);
-        let Some(value) = take_flat(self.alloc, cells, out, &mut run.error, root) else {
+        let Some(value) = take_flat(self.session.alloc, cells, out, &mut run.error, root) else {
             return false;
         };
         let mut focus = value;

@@ -4,12 +4,14 @@
 
 ghost use Rattle.std.specs.Prelude.{◌≡◌, ◌≤◌, length, is_some};
 ghost use Rattle.rhai_tree.specs.declared.expr.Expr.{out-Expr};
+ghost use Rattle.rhai_machine.specs.language.Runs.{Steps};
+ghost use Rattle.rhai_machine.specs.language.Frames.{ended_or_changed, Walk};
 ghost use Rattle.rhai_steps.specs.Agreement.{KeepsSight};
 ghost use Rattle.rhai_steps.specs.States.{state_of};
 ghost use Rattle.rhai_steps.specs.OnFocus.{lending};
-ghost use Rattle.rhai_chains.specs.Chains.{chain_at, HasSwitches, Walks, WalkRuns};
+ghost use Rattle.rhai_chains.specs.Chains.{chain_at, Walks};
 ghost use Rattle.rhai_context.specs.Ends.{came_changed};
-ghost use Rattle.rhai_eval_core.specs.States.{offer_of, under};
+ghost use Rattle.rhai_eval_core.specs.States.{under};
 
 mod located;
 mod members;
@@ -17,7 +19,7 @@ mod methods;
 mod spots;
 
 use crate::evaluator::Evaluator;
-use rhai_chains::chain::{NewValue, Switches};
+use rhai_chains::chain::NewValue;
 use rhai_chains::links::link_of;
 use rhai_context::Context;
 use rhai_context::ends::settle_changed;
@@ -28,26 +30,13 @@ use rhai_walk::Walker;
 use rhai_walk::ways::{Begun, begin_link};
 
 impl<'e, H: Host> Evaluator<'e, H> {
-    /// Returns what the walk of a chain reads of an engine.
-    pub(crate) fn switches(&self) -> Switches
-        ensures { HasSwitches (offer_of self.now) result }
-    {
-        Switches {
-            fast_operators: self.fast_operators,
-            fail_on_invalid_map_property: self.fail_on_invalid_map_property,
-        }
-    }
-
     /// Returns what stays the same all along a walk.
-    pub(crate) fn walker<'w>(&'w self, root: &'w Expr) -> Walker<'w>
-        ensures limits { result.limits.now ≡ self.now.limits.now }
+    pub(crate) fn walker<'w>(&'w self, root: &'w Expr) -> Walker<'w, 'e, H>
+        ensures session { result.session.now ≡ self.now.session }
         ensures root { result.root.now ≡ root.now }
-        ensures switches { HasSwitches (offer_of self.now) result.switches }
     {
         Walker {
-            limits: self.limits,
-            switches: self.switches(),
-            alloc: self.alloc,
+            session: &self.session,
             root,
         }
     }
@@ -73,23 +62,16 @@ impl<'e, H: Host> Evaluator<'e, H> {
         ensures scope { run.new.scope ≡ run.old.scope }
         ensures this { run.new.this ≡ run.old.this }
         ensures runs { (scope : _) (held : _) →
-            WalkRuns (under H.name_of self.now T.natives)
-            (chain_at root.now (out-Expr rest.now) args.old new in_place)
+            Steps (under H.name_of self.now T.natives)
+            (Walk (chain_at root.now (out-Expr rest.now) args.old new in_place))
             (state_of (T.state table.old) run.old.global scope (lending held focus.old))
-            (came_changed result run.new.value run.new.error)
+            (ended_or_changed (came_changed result run.new.value run.new.error))
             (state_of (T.state table.new) run.new.global scope (lending held focus.new)) }
     {
         let Some(link) = link_of(rest) else {
             unreachable!()
         };
-        match begin_link(
-            self.limits,
-            self.alloc,
-            &mut run.global,
-            &*table,
-            focus,
-            link,
-        ) {
+        match begin_link(&self.session, &mut run.global, &*table, focus, link) {
             Begun::Ended(result) => {
                 drop(new);
                 settle_changed(&mut run.error, &mut run.value, result)

@@ -83,7 +83,7 @@ impl<'e, H: Host> Evaluator<'e, H> {
                 return false;
             }
             match unit_left(
-                self.alloc,
+                self.session.alloc,
                 &run.global.cells,
                 &run.value,
                 &mut run.error,

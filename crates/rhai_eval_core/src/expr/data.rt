@@ -38,7 +38,7 @@ impl<'e, H: Host> Evaluator<'e, H> {
             (state_in (T.state table.old) run.old)
             (came result run.new.value run.new.error) (state_in (T.state table.new) run.new) }
     {
-        let mut made = ArrayItems::new(self.alloc);
+        let mut made = ArrayItems::new(self.session.alloc);
         'each_item: for item in items {
             if !self.run_expr(run, table, item) {
                 drop(made);
@@ -46,12 +46,12 @@ impl<'e, H: Host> Evaluator<'e, H> {
             }
             let cells = &run.global.cells;
             let (out, place) = (&mut run.value, &mut run.error);
-            if !made.add(self.alloc, self.limits, cells, out, place, item) {
+            if !made.add(&self.session, cells, out, place, item) {
                 drop(made);
                 return false;
             }
         }
-        made.finish(self.alloc, &mut run.value, &mut run.error, pos)
+        made.finish(self.session.alloc, &mut run.value, &mut run.error, pos)
     }
 
     /// Makes a map of the values of its entries, which are evaluated from left to right. How it ended stands
@@ -73,7 +73,7 @@ impl<'e, H: Host> Evaluator<'e, H> {
             (state_in (T.state table.old) run.old)
             (came result run.new.value run.new.error) (state_in (T.state table.new) run.new) }
     {
-        let mut made = EntryValues::new(self.alloc);
+        let mut made = EntryValues::new(self.session.alloc);
         'each_entry: for entry in entries {
             if !self.run_expr(run, table, &entry.value) {
                 drop(made);
@@ -81,12 +81,18 @@ impl<'e, H: Host> Evaluator<'e, H> {
             }
             let cells = &run.global.cells;
             let (out, place) = (&mut run.value, &mut run.error);
-            if !made.add(self.alloc, self.limits, cells, out, place, &entry.value) {
+            if !made.add(&self.session, cells, out, place, &entry.value) {
                 drop(made);
                 return false;
             }
         }
-        made.finish(self.alloc, &mut run.value, &mut run.error, entries, pos)
+        made.finish(
+            self.session.alloc,
+            &mut run.value,
+            &mut run.error,
+            entries,
+            pos,
+        )
     }
 
     /// Joins a text of the values of its parts, which are evaluated from left to right. How it ended stands
@@ -108,25 +114,22 @@ impl<'e, H: Host> Evaluator<'e, H> {
             (state_in (T.state table.old) run.old)
             (came result run.new.value run.new.error) (state_in (T.state table.new) run.new) }
     {
-        let mut text = String::new(self.alloc);
+        let mut text = String::new(self.session.alloc);
         'each_part: for part in parts {
             if !self.run_expr(run, table, part) {
                 return false;
             }
             let (global, out, place) = (&mut run.global, &mut run.value, &mut run.error);
-            if !join(
-                self.limits,
-                self.alloc,
-                global,
-                table,
-                &mut text,
-                out,
-                place,
-                part,
-            ) {
+            if !join(&self.session, global, table, &mut text, out, place, part) {
                 return false;
             }
         }
-        finish(self.alloc, &mut run.value, &mut run.error, text, pos)
+        finish(
+            self.session.alloc,
+            &mut run.value,
+            &mut run.error,
+            text,
+            pos,
+        )
     }
 }

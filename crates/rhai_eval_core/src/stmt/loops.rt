@@ -21,8 +21,8 @@ use rhai_context::Context;
 use rhai_context::ends::{put_unit, settle_turn, stop, take_value};
 use rhai_context::outcomes::{BodyWay, body_way, charge, flatten_at, turn_end};
 use rhai_state::error::EvalAltResult;
+use rhai_state::errors::{loop_break, returned};
 use rhai_state::table::NativeTable;
-use rhai_steps::errors::{loop_break, returned};
 use rhai_steps::loops::{breaks, do_next, is_endless};
 use rhai_tree::Boxed;
 use rhai_tree::expr::{Expr, StmtBlock};
@@ -137,7 +137,12 @@ impl<'e, H: Host> Evaluator<'e, H> {
     {
         if is_endless(test) {
             if body.statements.is_empty() {
-                if charge(self.limits, &mut run.global, &mut run.error, body.position) {
+                if charge(
+                    &self.session.limits,
+                    &mut run.global,
+                    &mut run.error,
+                    body.position,
+                ) {
                     return None;
                 }
                 return Some(false);
@@ -244,13 +249,25 @@ impl<'e, H: Host> Evaluator<'e, H> {
         match value {
             None => {
                 put_unit(&mut run.value);
-                break_with(self.alloc, &mut run.value, &mut run.error, options, pos)
+                break_with(
+                    self.session.alloc,
+                    &mut run.value,
+                    &mut run.error,
+                    options,
+                    pos,
+                )
             }
             Some(value) => {
                 if !self.run_expr(run, table, value) {
                     return false;
                 }
-                break_with(self.alloc, &mut run.value, &mut run.error, options, pos)
+                break_with(
+                    self.session.alloc,
+                    &mut run.value,
+                    &mut run.error,
+                    options,
+                    pos,
+                )
             }
         }
     }
@@ -277,14 +294,20 @@ impl<'e, H: Host> Evaluator<'e, H> {
         match value {
             None => {
                 put_unit(&mut run.value);
-                leave_with(self.alloc, &mut run.value, &mut run.error, options, pos)
+                leave_with(
+                    self.session.alloc,
+                    &mut run.value,
+                    &mut run.error,
+                    options,
+                    pos,
+                )
             }
             Some(value) => {
                 if !self.run_expr(run, table, value) {
                     return false;
                 }
                 if !flatten_at(
-                    self.alloc,
+                    self.session.alloc,
                     &run.global.cells,
                     &mut run.value,
                     &mut run.error,
@@ -292,7 +315,13 @@ impl<'e, H: Host> Evaluator<'e, H> {
                 ) {
                     return false;
                 }
-                leave_with(self.alloc, &mut run.value, &mut run.error, options, pos)
+                leave_with(
+                    self.session.alloc,
+                    &mut run.value,
+                    &mut run.error,
+                    options,
+                    pos,
+                )
             }
         }
     }

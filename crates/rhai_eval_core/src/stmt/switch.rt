@@ -47,7 +47,7 @@ impl<'e, H: Host> Evaluator<'e, H> {
             return false;
         }
         if !flatten_at(
-            self.alloc,
+            self.session.alloc,
             &run.global.cells,
             &mut run.value,
             &mut run.error,

@@ -5,8 +5,8 @@ ghost use Rattle.rhai_tree.specs.Forms.{catch_of};
 ghost use Rattle.rhai_tree.specs.Frame.{resolves_block, with_name};
 ghost use Rattle.rhai_tree.specs.declared.expr.Expr.{out-Expr};
 ghost use Rattle.rhai_tree.specs.declared.expr.Expr.TheOpen as layer;
-ghost use Rattle.rhai_machine.specs.language.Frames.{OpenStmt, ended};
-ghost use Rattle.rhai_machine.specs.language.Runs.{Goes, Runs, at, with_core};
+ghost use Rattle.rhai_machine.specs.language.Frames.{OpenStmt, ended, core};
+ghost use Rattle.rhai_machine.specs.language.Runs.{Goes, Runs};
 ghost use Rattle.rhai_machine.specs.language.Tries.{branch_core, catch_variable};
 ghost use Rattle.rhai_steps.specs.Agreement.{above};
 ghost use Rattle.rhai_context.specs.Ends.{came};
@@ -73,14 +73,12 @@ impl<'e, H: Host> Evaluator<'e, H> {
         ensures names { IsTrue result → KeepsNames run.old run.new }
         ensures runs { let rules = under H.name_of self.now T.natives in
             let old = state_in (T.state table.old) run.old in
-            (k : _) → Goes rules (with_core (branch_core rules.setting
-            (catch_variable (out-Expr variable.now)) caught branch.now k old.local) old)
-            (at (ended (came result run.new.value run.new.error)) k (state_in (T.state table.new) run.new)) }
+            Goes rules (branch_core rules.setting (catch_variable (out-Expr variable.now)) caught branch.now) old
+            (core (ended (came result run.new.value run.new.error))) (state_in (T.state table.new) run.new) }
     {
         let base = run.scope.len();
         if !bind_caught(
-            self.limits,
-            self.alloc,
+            &self.session,
             &run.global.source,
             &mut run.scope,
             &mut run.error,

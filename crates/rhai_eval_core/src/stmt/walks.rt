@@ -64,14 +64,14 @@ impl<'e, H: Host> Evaluator<'e, H> {
             items,
             body,
         };
-        if !has_room(self.limits, &run.scope, &mut run.error, parts) {
+        if !has_room(&self.session.limits, &run.scope, &mut run.error, parts) {
             return false;
         }
         if !self.run_expr(run, table, items) {
             return false;
         }
         if !flatten_at(
-            self.alloc,
+            self.session.alloc,
             &run.global.cells,
             &mut run.value,
             &mut run.error,
@@ -127,7 +127,7 @@ impl<'e, H: Host> Evaluator<'e, H> {
         if parts.body.statements.is_empty() {
             let_go(item);
             if charge(
-                self.limits,
+                &self.session.limits,
                 &mut run.global,
                 &mut run.error,
                 parts.body.position,
@@ -137,8 +137,7 @@ impl<'e, H: Host> Evaluator<'e, H> {
             return Some(false);
         }
         if !enter_turn(
-            self.limits,
-            self.alloc,
+            &self.session,
             &mut run.global,
             &*table,
             &mut run.scope,

@@ -1,7 +1,6 @@
 -- The rules of a call's arguments, and of the keywords.
 use Rattle.std.specs.Prelude.{ℕ, ◌+◌, Bool, true, false, not, ◌&&◌, ◌||◌, List, [], ◌∷◌, ◌++◌, Option, Some, None, Result, Ok, Err}
 use Rattle.std.specs.Prelude.{codes, is_some, length, nat_eq, nat_le, if◌then◌else◌}
-use Rattle.std.specs.Option.{option_map}
 use Rattle.std.specs.List.{list_all, list_any, starts_with}
 use Rattle.std.specs.Str.{bytes_eq}
 use Rattle.rhai_machine.specs.Types.{Dynamic, EncapsulatedEnviron, EvalAltResult, Expr, out-Expr, FnPtr, Import, Module, ModuleFn, Position}
@@ -20,10 +19,11 @@ use Rattle.rhai_values.specs.Layers.{UnionLayer, layer_of}
 use Rattle.rhai_values.specs.TypeNames.{type_name_of}
 use Rattle.rhai_state.specs.declared.error.EvalAltResult.TheVariants as error
 use Rattle.rhai_state.specs.Scope.{index_of}
+use Rattle.rhai_state.specs.Errors.{mismatch}
 use Rattle.rhai_machine.specs.machine.Machine.{Move, Go, Charge}
 use Rattle.rhai_machine.specs.language.Setting.{Globals, Setting, globals_of}
 use Rattle.rhai_machine.specs.language.State.{Local, Surroundings}
-use Rattle.rhai_machine.specs.language.Values.{Cells, bool_value, flat, is_handle, mismatch, through}
+use Rattle.rhai_machine.specs.language.Values.{Cells, bool_value, flat, is_handle, through}
 use Rattle.rhai_machine.specs.language.Functions.{Function, in_libraries, key_by}
 use Rattle.rhai_machine.specs.language.Activations.{NoThis}
 use Rattle.rhai_machine.specs.language.Variables.{Path, Variable, path_of, variable_in}

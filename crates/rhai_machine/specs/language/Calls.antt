@@ -262,7 +262,8 @@ module _ {H : Type 0} where
   abbrev pub public_or_unknown : Option (ModuleFn H) → (path : List (List ℕ)) → (name : List ℕ) → List (List ℕ) → Position →
       Result (Function H) (EvalAltResult H)
   public_or_unknown (Some f) path name types at = Ok (function_in f)
-  public_or_unknown None path name types at = Err (error.ErrorFunctionNotFound (signature (path_text path ++ text_behind (name ∷ [])) types) at)
+  public_or_unknown None path name types at =
+      Err (error.ErrorFunctionNotFound (signature (path_text path ++ text_behind (name ∷ [])) types) at)
 
   -- the public function of a key, down the rest of a path from its root, or why there is none
   abbrev pub public_from : Option (Module H) → (path rest : List (List ℕ)) → (path_at : Position) → FunctionKey → List (List ℕ) →
@@ -372,11 +373,13 @@ module _ {H : Type 0} where
     -- a call by a name without a path fails where an argument is a handle of a held cell, and else goes on by the name
     abbrev pub by_name_core : Dispatch → Call H → List (Frame H) → Local H → Core H
     by_name_core how call k l =
-        if call_races how.of_method l.around.cells call.args then core (Fail (error.ErrorDataRace call.operation.name call.operation.at)) k l
+        if call_races how.of_method l.around.cells call.args then core (Fail (error.ErrorDataRace call.operation.name call.operation.at)) k
+        l
         else named_core how call.args call k l
 
     -- the function of a script that a call behind a path means, or why there is none
-    abbrev pub function_behind : (root : List ℕ) → (path : List (List ℕ)) → Dispatch → Call H → Local H → Result (Function H) (EvalAltResult H)
+    abbrev pub function_behind : (root : List ℕ) → (path : List (List ℕ)) → Dispatch → Call H → Local H →
+        Result (Function H) (EvalAltResult H)
     function_behind root path how call l = public_behind l.around.imports s.offer.global_sub_modules root path how.path.at
         (function_key call.operation.name (length call.args) None) (types_of s.host_type l.around.cells call.args) call.operation.at
 

@@ -1,7 +1,8 @@
 -- The rules of chains: first the arguments of all links, then the root, and then the walk from link to link.
-use Rattle.std.specs.Prelude.{ℕ, Bool, true, false, ◌&&◌, ◌||◌, List, [], ◌∷◌, length, take, Option, Some, None, option_map, is_some, is_none}
+use Rattle.std.specs.Prelude.{ℕ, Bool, true, false, ◌&&◌, ◌||◌, List, [], ◌∷◌, length, take, Option, Some, None, option_map, is_some}
+use Rattle.std.specs.Prelude.{is_none}
 use Rattle.std.specs.Prelude.{Result, Ok, Err, if◌then◌else◌}
-use Rattle.rhai_machine.specs.Types.{Dynamic, EvalAltResult, Expr, out-Expr, Position, Token, Union}
+use Rattle.rhai_machine.specs.Types.{Dynamic, EvalAltResult, Expr, out-Expr, Position, Token}
 use Rattle.rhai_tree.specs.declared.expr.Expr.TheOpen as layer
 use Rattle.rhai_tree.specs.Layers.{ExprLayer}
 use Rattle.rhai_tree.specs.Position.{none}
@@ -10,6 +11,7 @@ use Rattle.rhai_values.specs.declared.base.value.Union.TheVariants as value
 use Rattle.rhai_values.specs.Copy.{copy_of}
 use Rattle.rhai_values.specs.Layers.{layer_of}
 use Rattle.rhai_state.specs.declared.error.EvalAltResult.TheVariants as error
+use Rattle.rhai_state.specs.Errors.{root_name}
 use Rattle.rhai_places.specs.declared.spot.Spot.{Spot}
 use Rattle.rhai_places.specs.declared.spot.Spot.TheVariants as spot
 use Rattle.rhai_places.specs.Parts.{part_of, value_at}
@@ -21,7 +23,7 @@ use Rattle.rhai_machine.specs.language.Values.{unit_value, is_handle, through}
 use Rattle.rhai_machine.specs.language.Names.{Meaning, AtEntry, AsTemporary, bound_this, meant}
 use Rattle.rhai_machine.specs.language.Variables.{Variable, no_path, variable_named}
 use Rattle.rhai_machine.specs.language.Places.{focus_target}
-use Rattle.rhai_machine.specs.language.Links.{Link, LinkForm, AtIndex, AtProperty, AtMethod, asked_by, first_position, link_of, name_in}
+use Rattle.rhai_machine.specs.language.Links.{Link, LinkForm, AtIndex, AtProperty, AtMethod, asked_by, first_position, link_of}
 use Rattle.rhai_machine.specs.language.Frames.{Lender, FromEntry, FromThis, NewValue, Chain, Member, Property, Item, MemberAccess, ToChain}
 use Rattle.rhai_machine.specs.language.Frames.{Frame, Core, core, on_value, where_there}
 use Rattle.rhai_machine.specs.language.Frames.{Eval, ChainArguments, ChainRoot, ReadRoot, Walk, Locate, Back, Fail, RootValue, ChainEnd}
@@ -133,7 +135,7 @@ module _ {H : Type 0} where
 
   -- a result, unless what is assigned to is a constant: that is refused under the root's name, where the root starts
   abbrev pub unless_barred_by : {A : Type 0} → (barred : Bool) → (root : Expr) → Result A (EvalAltResult H) → Result A (EvalAltResult H)
-  unless_barred_by true root r = Err (error.ErrorAssignmentToConstant (name_in (out-Expr root)) (start_of root))
+  unless_barred_by true root r = Err (error.ErrorAssignmentToConstant (root_name (out-Expr root)) (start_of root))
   unless_barred_by false root r = r
 
   -- a result, unless the focus is a constant map that would get a new key
@@ -178,8 +180,9 @@ module _ {H : Type 0} where
     -- the focus is assigned to, unless it is a constant or the handle of a held cell
     abbrev pub assign_focus : (root : Expr) → NewValue H → List (Frame H) → Local H → Core H
     assign_focus root new k l =
-        on_value (focus_target l.around.cells (name_in (out-Expr root)) (start_of root) (focus_of l))
-        (λ target. assign_core s new.op.op (record { path = no_path; name = name_in (out-Expr root); at = position_of root; op = new.op }) target new.value k l)
+        on_value (focus_target l.around.cells (root_name (out-Expr root)) (start_of root) (focus_of l))
+        (λ target. assign_core s new.op.op (record { path = no_path; name = root_name (out-Expr root); at = position_of root; op = new.op })
+        target new.value k l)
         k l
 
     -- what waits for an assignment to a place: an item is measured before it goes back, and of a map's property the map after it
@@ -226,7 +229,8 @@ module _ {H : Type 0} where
     spot_core None None link index chain source k l = on_value (spot_of s false link l.around.cells source index)
         (λ spot. core (Back (taken_at spot.0 spot.1)) k l) k l
     spot_core None (Some new) link index chain source k l = on_value (unless_barred chain.root source index
-        (spot_of s true link l.around.cells source index)) (λ spot. assign_spot (is_place_spot spot.1) spot.1 link chain.root new spot.0 k l) k l
+        (spot_of s true link l.around.cells source index))
+        (λ spot. assign_spot (is_place_spot spot.1) spot.1 link chain.root new spot.0 k l) k l
 
     -- ---- the walk
 
@@ -240,7 +244,8 @@ module _ {H : Type 0} where
     -- a link with an index or a key, once it is charged: the focus is entered
     abbrev pub locate_core : Link → Chain H → List (Frame H) → Local H → Core H
     locate_core link chain k l = on_value (through l.around.cells (focus_of l) link.at)
-        (λ inner. entered inner (λ k l. indexed_core (is_indexed (layer_of inner)) link (index_by link.form chain.args) chain inner k l) k l) k l
+        (λ inner. entered inner (λ k l. indexed_core (is_indexed (layer_of inner)) link (index_by link.form chain.args) chain inner k l) k
+        l) k l
 
     -- a property: of a map it is an entry, which is charged, and of any other value a member
     abbrev pub property_move : (of_map : Bool) → (name : List ℕ) → Position → Link → (inner : Dynamic H) → Chain H → List (Frame H) →

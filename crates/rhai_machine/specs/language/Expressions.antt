@@ -74,7 +74,8 @@ module _ {H : Type 0} where
   module _ (s : Setting H) where
     -- A call. Under fast operators one that was written as an operator on one operand or two evaluates them from left to right; any other
     -- is one by name, or behind a path.
-    abbrev pub call_move : (fast_operators : Bool) → Option Token → FnCallExpr → List Expr → Position → List (Frame H) → Local H → Move H (Core H)
+    abbrev pub call_move : (fast_operators : Bool) → Option Token → FnCallExpr → List Expr → Position → List (Frame H) → Local H →
+        Move H (Core H)
     call_move true (Some token) call (operand ∷ []) pos k l =
         Go (core (Argument operand) (UnaryOperand (record { name = call.name; token = Some token; at = pos }) (position_of operand) ∷ k) l)
     call_move true (Some token) call (left ∷ right ∷ []) pos k l =

@@ -1,7 +1,8 @@
 -- The machine's controls and frames: what it does next, and what waits below for the value or the error that comes of it.
-use Rattle.std.specs.Prelude.{ℕ, Bool, true, false, List, [], Option, Result, Ok, Err}
+use Rattle.std.specs.Prelude.{ℕ, Bool, true, false, List, [], ◌∷◌, Option, Result, Ok, Err}
 use Rattle.std.specs.declared.num.NonZeroUsize.{NonZeroUsize}
-use Rattle.rhai_machine.specs.Types.{ASTFlags, ConditionalExpr, Dynamic, EvalAltResult, Expr, FnPtr, Ident, OpAssignment, Position, Stmt, StmtBlock}
+use Rattle.rhai_machine.specs.Types.{ASTFlags, ConditionalExpr, Dynamic, EvalAltResult, Expr, FnPtr, Ident, OpAssignment, Position, Stmt}
+use Rattle.rhai_machine.specs.Types.{StmtBlock}
 use Rattle.rhai_machine.specs.Types.{SharedVariable, Token}
 use Rattle.rhai_tree.specs.declared.expr.MapEntry.{MapEntry}
 use Rattle.rhai_tree.specs.Layers.{ExprLayer, StmtLayer}
@@ -211,7 +212,8 @@ pub data Frame (H : Type 0) : Type 0 where
   -- the value of an expression statement
   StatementValue : Position → Frame H
   -- the value of a `let` or of a `const`
-  DefineValue : (ident : Ident) → (index : Option NonZeroUsize) → (options : ASTFlags) → (restoring : Bool) → (value_at : Position) → Frame H
+  DefineValue : (ident : Ident) → (index : Option NonZeroUsize) → (options : ASTFlags) → (restoring : Bool) →
+      (value_at : Position) → Frame H
   -- the path of an `import`
   ImportPath : (alias : Option Ident) → (path_at : Position) → (starts_at : Position) → Frame H
   -- the condition of an `if`
@@ -325,6 +327,10 @@ module _ {H : Type 0} where
   -- a core of a control, a stack and a local state
   abbrev pub core : Control H → List (Frame H) → Local H → Core H
   core control stack local = record { control = control; stack = stack; local = local }
+
+  -- a core of a control over a frame
+  abbrev pub core_over : Control H → Frame H → List (Frame H) → Local H → Core H
+  core_over control frame stack local = core control (frame ∷ stack) local
 
   -- a chain over its root, before anything of it is done
   abbrev pub chain_on : (root : Expr) → ExprLayer → Option (NewValue H) → Chain H

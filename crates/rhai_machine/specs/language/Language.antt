@@ -8,8 +8,10 @@ use Rattle.rhai_machine.specs.machine.Machine.{Move, Halt, Go, Charge, Machine}
 use Rattle.rhai_machine.specs.language.Setting.{Setting, Rules, globals_of}
 use Rattle.rhai_machine.specs.language.State.{Local}
 use Rattle.rhai_machine.specs.language.Frames.{Control, Frame, Core, core, Eval, Exec, Ask, Assign, AskUpdate, Argument, Question, Fire}
-use Rattle.rhai_machine.specs.language.Frames.{QuestionUpdate, FireUpdate, OpenExpr, OpenStmt, Enter, Run, Store, StoreThis, WhileTurn, DoTurn, Back}
-use Rattle.rhai_machine.specs.language.Frames.{Changed, Fail, DoBody, CallNamed, EnterFunction, EnterOnFocus, AssignThis, OpenChain, ChainArguments, ChainRoot}
+use Rattle.rhai_machine.specs.language.Frames.{QuestionUpdate, FireUpdate, OpenExpr, OpenStmt, Enter, Run, Store, StoreThis, WhileTurn}
+use Rattle.rhai_machine.specs.language.Frames.{DoTurn, Back}
+use Rattle.rhai_machine.specs.language.Frames.{Changed, Fail, DoBody, CallNamed, EnterFunction, EnterOnFocus, AssignThis, OpenChain}
+use Rattle.rhai_machine.specs.language.Frames.{ChainArguments, ChainRoot}
 use Rattle.rhai_machine.specs.language.Frames.{ReadRoot, Walk, Locate, Choose, ForTurn, ForItem, Share}
 use Rattle.rhai_machine.specs.language.Links.{link_of}
 use Rattle.rhai_machine.specs.language.Chains.{asked_move, locate_core, open_move, read_root_core, root_move, walk_move}
@@ -85,4 +87,11 @@ without_memory pos c = core (Fail (error.ErrorOutOfMemory pos)) c.stack c.local
 
 -- the machine of the language, under its rules
 abbrev pub machine : {S H : Type 0} → Rules S H → Machine S H (Core H)
-machine rules = record { move = move rules.setting; refuse = refuse; without_memory = without_memory; natives = rules.natives; host = rules.setting.host_type }
+machine rules = record {
+  move = move rules.setting;
+  refuse = refuse;
+  without_memory = without_memory;
+  natives = rules.natives;
+  host =
+      rules.setting.host_type;
+}

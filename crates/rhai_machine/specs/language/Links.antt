@@ -85,8 +85,3 @@ link_position (AtMethod name args at) = at
 abbrev pub first_position : List Expr → Option Position
 first_position [] = None
 first_position (arg ∷ args) = Some (position_of arg)
-
--- the name of a variable, the empty text of anything else
-abbrev pub name_in : ExprLayer → List ℕ
-name_in (layer.Variable offset name namespace pos) = name
-name_in _ = []

@@ -7,7 +7,8 @@ use Rattle.rhai_values.specs.Copy.{plain}
 use Rattle.rhai_state.specs.declared.error.EvalAltResult.TheVariants as error
 use Rattle.rhai_machine.specs.language.State.{Local}
 use Rattle.rhai_machine.specs.language.Values.{unit_value}
-use Rattle.rhai_machine.specs.language.Frames.{Operation, FromFocus, Call, Member, Property, Item, MemberAccess, Frame, Core, core, ended, Ask}
+use Rattle.rhai_machine.specs.language.Frames.{Operation, FromFocus, Call, Member, Property, Item, MemberAccess, Frame, Core, core, ended}
+use Rattle.rhai_machine.specs.language.Frames.{Ask}
 use Rattle.rhai_machine.specs.language.Frames.{Fail, GetterTried, SetterTried, IndexerTried}
 use Rattle.rhai_machine.specs.language.Arguments.{operation_named}
 pub use Rattle.rhai_machine.specs.language.Handles.{focus_of, focused_on}

@@ -164,7 +164,8 @@ module _ {H : Type 0} where
     stmt_move (layer.For variable counter items body pos) restoring k l =
         Go (for_core (has_no_room s.limits (loop_of variable counter items body) l) (loop_of variable counter items body) k l)
     stmt_move (layer.BreakLoop value options pos) restoring k l = Go (break_core value (has_option 2 options) pos k l)
-    stmt_move (layer.TryCatch body variable branch pos) restoring k l = Go (core (Enter body.statements true) (TryBody variable branch ∷ k) l)
+    stmt_move (layer.TryCatch body variable branch pos) restoring k l =
+        Go (core (Enter body.statements true) (TryBody variable branch ∷ k) l)
     stmt_move (layer.Export ident alias pos) restoring k l = Go (export_core ident alias k l)
     stmt_move (layer.Import path alias pos) restoring k l =
         Go (import_core (nat_le s.limits.max_modules l.around.num_modules_loaded) path alias pos k l)

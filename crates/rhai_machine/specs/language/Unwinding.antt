@@ -11,15 +11,16 @@ use Rattle.rhai_places.specs.declared.spot.Spot.{Spot}
 use Rattle.rhai_places.specs.PutBack.{put_back, wanted}
 use Rattle.rhai_places.specs.Paths.{Rooted, gone_back}
 use Rattle.rhai_state.specs.declared.error.EvalAltResult.TheVariants as error
-use Rattle.rhai_state.specs.Errors.{is_catchable, is_system}
+use Rattle.rhai_state.specs.Errors.{is_catchable, is_system, mismatch}
 use Rattle.rhai_machine.specs.language.Setting.{Setting}
 use Rattle.rhai_machine.specs.language.State.{Local}
-use Rattle.rhai_machine.specs.language.Values.{Cells, flat, mismatch, through, truth, unit_value}
+use Rattle.rhai_machine.specs.language.Values.{Cells, flat, through, truth, unit_value}
 use Rattle.rhai_machine.specs.language.Places.{put}
 use Rattle.rhai_machine.specs.language.Cases.{candidates, default_of}
 use Rattle.rhai_machine.specs.language.Turns.{turns_of}
 use Rattle.rhai_machine.specs.language.Frames.{Operation, Lender, NewValue, Member, Property, Item, MemberAccess, Control, Frame, Core}
-use Rattle.rhai_machine.specs.language.Frames.{core, chain_on, on_value, ended, Assign, AssignThis, AssignThisValue, CallEnd, Eval, Argument, Run}
+use Rattle.rhai_machine.specs.language.Frames.{core, chain_on, on_value, ended, Assign, AssignThis, AssignThisValue, CallEnd, Eval}
+use Rattle.rhai_machine.specs.language.Frames.{Argument, Run}
 use Rattle.rhai_machine.specs.language.Frames.{WhileTurn, DoTurn, OpenChain, Walk, Back, Changed}
 use Rattle.rhai_machine.specs.language.Frames.{Fail, StatementValue, DefineValue, IfCondition, RestOfList, RestoreList, Top, UnaryOperand}
 use Rattle.rhai_machine.specs.language.Frames.{LeftOperand, RightOperand, AndPart, OrPart, CoalescePart, AssignValue, WhileCondition}
@@ -42,7 +43,8 @@ use Rattle.rhai_machine.specs.language.Loops.{while_core, do_control, caught}
 use Rattle.rhai_machine.specs.language.Walks.{started_core}
 use Rattle.rhai_machine.specs.language.Caught.{raised}
 use Rattle.rhai_machine.specs.language.Tries.{catch_variable, tried_core}
-use Rattle.rhai_machine.specs.language.Members.{focus_of, focused_on, set_core, lacks_property, lacks_indexer, getter_missing, setter_missing}
+use Rattle.rhai_machine.specs.language.Members.{focus_of, focused_on, set_core, lacks_property, lacks_indexer, getter_missing}
+use Rattle.rhai_machine.specs.language.Members.{setter_missing}
 use Rattle.rhai_machine.specs.language.Members.{indexer_missing}
 use Rattle.rhai_machine.specs.language.Chains.{assign_focus, begun_core}
 
@@ -133,7 +135,8 @@ module _ {H : Type 0} (s : Setting H) where
   up_core (IfCondition test_at body branch) v k l =
       on_value (truth s.host_type l.around.cells v test_at) (λ holds. chosen_core holds body branch k l) k l
   up_core (RestOfList rest restoring) v k l = core (Run rest restoring v) k l
-  up_core (UnaryOperand operation operand_at) v k l = on_value (flat l.around.cells v operand_at) (λ x. operands_there operation (x ∷ []) k l) k l
+  up_core (UnaryOperand operation operand_at) v k l =
+      on_value (flat l.around.cells v operand_at) (λ x. operands_there operation (x ∷ []) k l) k l
   up_core (LeftOperand operation left_at right) v k l = on_value (flat l.around.cells v left_at)
       (λ x. core (Argument right) (RightOperand operation x (position_of right) ∷ k) l) k l
   up_core (RightOperand operation left right_at) v k l =
@@ -163,7 +166,8 @@ module _ {H : Type 0} (s : Setting H) where
   up_core (SwitchValue value_at choice) v k l =
       on_value (flat l.around.cells v value_at) (λ x. core (Choose (candidates choice x) (default_of choice)) k l) k l
   up_core (SwitchCondition candidate rest default) v k l =
-      on_value (truth s.host_type l.around.cells v (position_of candidate.condition)) (λ holds. met_core holds candidate rest default k l) k l
+      on_value (truth s.host_type l.around.cells v (position_of candidate.condition)) (λ holds. met_core holds candidate rest default k l) k
+      l
   up_core (ForItems loop) v k l =
       on_value (flat l.around.cells v (position_of loop.items)) (λ x. started_core (turns_of (layer_of x)) loop k l) k l
   up_core (ForBody loop rest turn base) v k l = core (ForTurn loop rest (turn + 1) base) k l
@@ -178,7 +182,8 @@ module _ {H : Type 0} (s : Setting H) where
   up_core (RootValue chain) v k l =
       on_value (flat l.around.cells v (position_of chain.root)) (λ x. begun_core false None x chain k l) k l
   up_core (PartAssigned above at op_at) v k l = part_assigned (put_back above at (focus_of l)) above at op_at k l
-  up_core (Measured op_at) v k l = on_value (sized s.limits (as_measured l.around.cells (focus_of l)) op_at) (λ x. core (Changed unit_value) k l) k l
+  up_core (Measured op_at) v k l =
+      on_value (sized s.limits (as_measured l.around.cells (focus_of l)) op_at) (λ x. core (Changed unit_value) k l) k l
   up_core (MethodLink chain) v k l = core (Walk chain) (Temporary l.focus None ∷ k) (focused_on (Some v) l)
   up_core (MemberLink access chain) v k l = core (Walk chain) (Temporary l.focus (Some access) ∷ k) (focused_on (Some v) l)
   up_core (MemberGot access root new) v k l =

@@ -3,6 +3,7 @@ use Rattle.std.specs.Prelude.{ℕ, Bool, true, false, List, [], Option, Some, No
 use Rattle.rhai_machine.specs.Types.{Dynamic, EvalAltResult, Position, Union}
 use Rattle.rhai_values.specs.declared.base.value.Union.TheVariants as value
 use Rattle.rhai_state.specs.declared.error.EvalAltResult.TheVariants as error
+use Rattle.rhai_state.specs.Errors.{mismatch}
 use Rattle.rhai_values.specs.Cells.{value_of_cell}
 use Rattle.rhai_values.specs.Copy.{copy_of, plain}
 use Rattle.rhai_values.specs.TypeNames.{type_name_of}
@@ -57,10 +58,6 @@ module _ {H : Type 0} where
   -- a value looked at through its handle, without a copy; where its cell is held, a data race at this position
   abbrev pub through : Cells H → Dynamic H → Position → Result (Dynamic H) (EvalAltResult H)
   through cells v at = through_union cells v.value v at
-
-  -- the error that a value of one type is wanted, and one of another type is there
-  abbrev pub mismatch : List ℕ → List ℕ → Position → EvalAltResult H
-  mismatch wanted found at = error.ErrorMismatchDataType (record { wanted = wanted; found = found }) at
 
   -- the truth value that a value is, by its kind; any other kind is a mismatch
   abbrev pub truth_union : (H → List ℕ) → Cells H → Union H → Dynamic H → Position → Result Bool (EvalAltResult H)

@@ -12,7 +12,8 @@ module _ {S H Core : Type 0} (M : Machine S H Core) where
   out_of_memory at p = record p { core = M.without_memory at p.core }
 
   -- a native that finds no memory counts as one that fails, with what it leaves of its first argument and of the table's state
-  abbrev pub out_of_memory_in_native : Position → (Reply H → Option (Dynamic H) → Core) → EvalAltResult H → Option (Dynamic H) → S → Point S Core →
+  abbrev pub out_of_memory_in_native : Position → (Reply H → Option (Dynamic H) → Core) → EvalAltResult H → Option (Dynamic H) → S →
+      Point S Core →
       Point S Core
   out_of_memory_in_native at f e first state p = record p { core = M.without_memory at (f (Faults e) first); table = state }
 
@@ -37,7 +38,8 @@ module _ {S H Core : Type 0} (M : Machine S H Core) (allows : ℕ → Bool) wher
     before_step : (at : Position) → OutOfMemory p (out_of_memory M at p)
     -- within the native that the step calls
     in_native : {call : Request H} {f : Reply H → Option (Dynamic H) → Core} → M.move p.core ≡ Native call f →
-        (at : Position) (e : EvalAltResult H) (first : Option (Dynamic H)) (state : S) → MayLeave M.host M.natives p.table call first state →
+        (at : Position) (e : EvalAltResult H) (first : Option (Dynamic H)) (state : S) →
+        MayLeave M.host M.natives p.table call first state →
         OutOfMemory p (out_of_memory_in_native M at f e first state p)
 
   -- The machine comes by itself to a point, and memory runs out there. W says of a core that the error of that is on its way down, so from

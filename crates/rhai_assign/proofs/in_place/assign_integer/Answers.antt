@@ -4,7 +4,7 @@ use Rattle.rhai_tree.specs.declared.expr.Expr.TheVariants as exprs
 use Rattle.rhai_tree.specs.declared.expr.Expr.TheOpen as layer
 use Rattle.rhai_values.specs.Cells.{cells_of}
 use Rattle.rhai_state.specs.Scope.{entries_of}
-use Rattle.rhai_machine.specs.language.Setting.{rules_of}
+use Rattle.rhai_steps.specs.Sessions.{under}
 use Rattle.rhai_steps.proofs.Agreeing.{brings}
 use Rattle.rhai_operands.specs.Standing.{assigned_known, integer_of, standing}
 use Rattle.rhai_operands.proofs.Integers.{is_there}
@@ -21,24 +21,26 @@ returns-clause-keeps g c = integer_keeps c.args.global.now c.charge_all.new.glob
 pub returns-clause-found : goal.returns-clause-found
 returns-clause-found g c is =
     let stands = ap (assigned_known c.in-Some.token (writable_in c.value_at.result.now)) (is_there c.integer_in_place-operand.result
-    (integer_of (standing (out-Expr c.args.rhs.now) (entries_of c.args.scope.now)))
+    (integer_of (standing (out-Expr c.args.assignment.now.right.now) (entries_of c.args.scope.now)))
     (c.is_none-2.ensures ∙ ap not c.if-is_none-2.false) c.integer_in_place-operand.ensures) in
-    integer_found c.args.scope.now (cells_of c.args.global.now.cells) c.args.op.now c.args.lhs.now c.args.rhs.now
+    integer_found c.args.scope.now (cells_of c.args.global.now.cells) c.args.assignment.now.op.now c.args.assignment.now.left.now
+    c.args.assignment.now.right.now
     c.in-Variable.offset c.in-Variable.name c.in-Variable.namespace c.in-Variable.pos (rw (c.in-Variable.is, exprs.outs-Variable) refl)
     c.in-Some.token c.in-Some.is c.in-Some-index_by_offset.index c.value_at.result.now c.in-Some-compute_known.value
     c.in-Some-index_by_offset.ensures.exact c.value_at.ensures
     (stands ∙ sym (rw c.writable_integer-target.ensures at c.compute_known.ensures) ∙ c.in-Some-compute_known.is)
 
 pub returns-clause-runs : goal.returns-clause-runs
-returns-clause-runs g c is offer held restoring level fast =
+returns-clause-runs g c is held restoring level fast =
     let stands = ap (assigned_known c.in-Some.token (writable_in c.value_at.result.now)) (is_there c.integer_in_place-operand.result
-    (integer_of (standing (out-Expr c.args.rhs.now) (entries_of c.args.scope.now)))
+    (integer_of (standing (out-Expr c.args.assignment.now.right.now) (entries_of c.args.scope.now)))
     (c.is_none-2.ensures ∙ ap not c.if-is_none-2.false) c.integer_in_place-operand.ensures) in
-    let form : out-Expr c.args.lhs.now ≡ layer.Variable c.in-Variable.offset c.in-Variable.name c.in-Variable.namespace
+    let form : out-Expr c.args.assignment.now.left.now ≡ layer.Variable c.in-Variable.offset c.in-Variable.name c.in-Variable.namespace
     c.in-Variable.pos =
     rw (c.in-Variable.is, exprs.outs-Variable) refl in
-    integer_assigned (rules_of c.args.limits.now g.H.Host.name_of offer g.T.NativeTable.natives)
-    (g.T.NativeTable.state c.args._table.now) c.args.scope.now held c.args.op.now c.args.lhs.now c.args.rhs.now c.in-Variable.offset
+    integer_assigned (under g.H.Host.name_of c.args.session.now g.T.NativeTable.natives)
+    (g.T.NativeTable.state c.args._table.now) c.args.scope.now held c.args.assignment.now.op.now c.args.assignment.now.left.now
+    c.args.assignment.now.right.now c.in-Variable.offset
     c.in-Variable.name c.in-Variable.namespace c.in-Variable.pos restoring form
     (charged_at (c.args.charges - 2) level c.args.global.now) (record c.charge_all.new.global { scope_level = level })
     c.write_number.new.scope (omega (arith, c.requires.both, c.charge_all.ensures.room c.if-not-charge_all.false))
@@ -57,5 +59,6 @@ returns-clause-charged g c is = c.charge_all.ensures.charged c.if-not-charge_all
 
 pub index_by_offset-requires : goal.index_by_offset-requires
 index_by_offset-requires g c =
-    brings (λ frame. good_target c.args.lhs.now c.in-Variable.offset c.in-Variable.name c.in-Variable.namespace c.in-Variable.pos frame
+    brings (λ frame. good_target c.args.assignment.now.left.now c.in-Variable.offset c.in-Variable.name c.in-Variable.namespace
+    c.in-Variable.pos frame
     (rw (c.in-Variable.is, exprs.outs-Variable) refl)) c.requires.resolves_target

@@ -2,7 +2,7 @@ use Rattle.std.proofs.Common.{◌≡◌, refl}
 use Rattle.rhai_tree.specs.declared.expr.Expr.{out-Expr}
 use Rattle.rhai_tree.specs.declared.expr.Expr.TheVariants as exprs
 use Rattle.rhai_tree.specs.declared.expr.Expr.TheOpen as layer
-use Rattle.rhai_machine.specs.language.Setting.{rules_of}
+use Rattle.rhai_steps.specs.Sessions.{under}
 use Rattle.rhai_steps.proofs.Agreeing.{brings}
 use Rattle.rhai_operands.proofs.Names.{good_target}
 use Rattle.rhai_assign.specs.InPlace.{IsReady}
@@ -10,8 +10,8 @@ use Rattle.rhai_assign.proofs.Prepared.{target_stops, updates_in_place, value_st
 use Rattle.rhai_assign.proofs.in_place.assign_values.Goals as goal
 
 pub returns-in-Err-clause-runs : goal.returns-in-Err-clause-runs
-returns-in-Err-clause-runs g c offer held restoring fast =
-    let rules = rules_of c.args.limits.now g.H.Host.name_of offer g.T.NativeTable.natives in
+returns-in-Err-clause-runs g c held restoring fast =
+    let rules = under g.H.Host.name_of c.args.session.now g.T.NativeTable.natives in
     let ready : IsReady c.in_ok-ready.ready c.in-Variable.namespace.path c.in-Variable.name c.in-Variable.pos c.in_ok-token.token
     (out-Expr c.args.rhs.now) c.args.scope.now c.args.global.now.cells = c.in_ok-ready.ensures.ready in
     let form : out-Expr c.args.lhs.now ≡ layer.Variable c.in-Variable.offset c.in-Variable.name c.in-Variable.namespace
@@ -24,8 +24,8 @@ returns-in-Err-clause-runs g c offer held restoring fast =
     (rw c.position.ensures at c.in-Err.ensures.refused) c.in-Err.ensures.same
 
 pub returns-in-Err-track_operation-clause-runs : goal.returns-in-Err-track_operation-clause-runs
-returns-in-Err-track_operation-clause-runs g c offer held restoring fast =
-    let rules = rules_of c.args.limits.now g.H.Host.name_of offer g.T.NativeTable.natives in
+returns-in-Err-track_operation-clause-runs g c held restoring fast =
+    let rules = under g.H.Host.name_of c.args.session.now g.T.NativeTable.natives in
     let ready : IsReady c.in_ok-ready.ready c.in-Variable.namespace.path c.in-Variable.name c.in-Variable.pos c.in_ok-token.token
     (out-Expr c.args.rhs.now) c.args.scope.now c.args.global.now.cells = c.in_ok-ready.ensures.ready in
     let form : out-Expr c.args.lhs.now ≡ layer.Variable c.in-Variable.offset c.in-Variable.name c.in-Variable.namespace
@@ -39,8 +39,8 @@ returns-in-Err-track_operation-clause-runs g c offer held restoring fast =
     c.in-Err-track_operation.ensures.full c.in-Err-track_operation.ensures.refused c.in-Err-track_operation.ensures.same
 
 pub returns-clause-runs : goal.returns-clause-runs
-returns-clause-runs g c offer held restoring fast =
-    let rules = rules_of c.args.limits.now g.H.Host.name_of offer g.T.NativeTable.natives in
+returns-clause-runs g c held restoring fast =
+    let rules = under g.H.Host.name_of c.args.session.now g.T.NativeTable.natives in
     let ready : IsReady c.in_ok-ready.ready c.in-Variable.namespace.path c.in-Variable.name c.in-Variable.pos c.in_ok-token.token
     (out-Expr c.args.rhs.now) c.args.scope.now c.args.global.now.cells = c.in_ok-ready.ensures.ready in
     let form : out-Expr c.args.lhs.now ≡ layer.Variable c.in-Variable.offset c.in-Variable.name c.in-Variable.namespace

@@ -1,10 +1,10 @@
-use Rattle.std.proofs.Common.{◌≡◌, ◌<◌, ◌∙◌, arith, refl, true}
+use Rattle.std.proofs.Common.{◌≡◌, ◌<◌, arith, refl, true}
 use Rattle.rhai_tree.specs.declared.expr.Expr.TheOpen as layer
 use Rattle.rhai_tree.specs.declared.expr.Stmt.{out-Stmt}
 use Rattle.rhai_tree.specs.declared.expr.Stmt.TheVariants as stmts
-use Rattle.rhai_machine.specs.language.Frames.{Enter}
-use Rattle.rhai_machine.specs.language.Setting.{limit_under, rules_of}
+use Rattle.rhai_machine.specs.language.Setting.{limit_under}
 use Rattle.rhai_machine.specs.language.Statements.{deeper}
+use Rattle.rhai_steps.specs.Sessions.{under}
 use Rattle.rhai_steps.proofs.Agreeing.{brings}
 use Rattle.rhai_assign.proofs.Alone.{alone, one_item, only_resolves}
 use Rattle.rhai_assign.proofs.lists.assign_alone.Goals as goal
@@ -22,8 +22,8 @@ assign_integer-requires-clause-resolves g c =
     (rw (c.in-Assignment.is, stmts.outs-Assignment) refl) h).1) c.requires.resolves
 
 pub returns-clause-runs : goal.returns-clause-runs
-returns-clause-runs g c is offer held fast =
-    let rules = rules_of c.args.limits.now g.H.Host.name_of offer g.T.NativeTable.natives in
+returns-clause-runs g c is held =
+    let rules = under g.H.Host.name_of c.args.session.now g.T.NativeTable.natives in
     let form : out-Stmt c.only-item.result ≡ layer.Assignment c.in-Assignment.op c.in-Assignment.lhs c.in-Assignment.rhs =
     rw (c.in-Assignment.is, stmts.outs-Assignment) refl in
     let room : c.args.global.now.num_operations < limit_under rules = omega (arith, c.assign_integer.ensures.room is) in
@@ -31,4 +31,4 @@ returns-clause-runs g c is offer held fast =
     (alone rules (g.T.NativeTable.state c.args.table.now) c.args.global.now c.assign_integer.new.global c.args.scope.now
     c.assign_integer.new.scope held c.only-item.result _ form room (c.assign_integer.ensures.charged is)
     c.assign_integer.ensures.keeps.names
-    (c.assign_integer.ensures.runs is offer held true (deeper c.args.global.now.scope_level) (fast ∙ c.if-not-is_fast.false)))
+    (c.assign_integer.ensures.runs is held true (deeper c.args.global.now.scope_level) c.if-not-is_fast.false))

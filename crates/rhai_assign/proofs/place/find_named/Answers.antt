@@ -9,7 +9,8 @@ pub returns-in-Ok : goal.returns-in-Ok
 returns-in-Ok g c =
     let entries = entries_of c.args.scope.now in
     let found = c.in-Ok.ensures entries c.value_at.ensures in (
-      target_is (cells_of c.args.global.now.cells) c.args.namespace.now.path c.args.name.now c.args.pos entries c.in_ok-index.index
+      target_is (cells_of c.args.global.now.cells) c.args.variable.now.namespace.now.path c.args.variable.now.name.now
+          c.args.variable.now.at entries c.in_ok-index.index
           c.value_at.result.now (sym c.in_ok-index.ensures.exact) c.value_at.ensures ∙ ap if_found found.0,
       found.1,
     )
@@ -17,6 +18,7 @@ returns-in-Ok g c =
 pub returns-in-Err : goal.returns-in-Err
 returns-in-Err g c =
     let entries = entries_of c.args.scope.now in
-    target_is (cells_of c.args.global.now.cells) c.args.namespace.now.path c.args.name.now c.args.pos entries c.in_ok-index.index
+    target_is (cells_of c.args.global.now.cells) c.args.variable.now.namespace.now.path c.args.variable.now.name.now c.args.variable.now.at
+    entries c.in_ok-index.index
     c.value_at.result.now (sym c.in_ok-index.ensures.exact) c.value_at.ensures
     ∙ found_none _ (c.in-Err.ensures entries c.value_at.ensures).0

@@ -3,26 +3,30 @@ use Rattle.rhai_values.specs.Cells.{cells_of}
 use Rattle.rhai_state.specs.Scope.{entries_of}
 use Rattle.rhai_machine.specs.language.Names.{value_beside}
 use Rattle.rhai_machine.specs.language.Places.{target_meant}
-use Rattle.rhai_machine.specs.language.Variables.{variable_named}
 use Rattle.rhai_machine.proofs.MeantLaws.{meant_beside}
 use Rattle.rhai_steps.specs.Offers.{globals_in}
 use Rattle.rhai_steps.specs.States.{surroundings_of}
+use Rattle.rhai_steps.specs.Variables.{variable_told}
 use Rattle.rhai_assign.proofs.Entries.{entry_meant, none_temporary}
 use Rattle.rhai_assign.proofs.place.find_target.Goals as goal
 
 pub returns-in-Some : goal.returns-in-Some
 returns-in-Some g c =
-    let variable = variable_named c.args.name.now c.args.namespace.now c.args.pos in
-    rw (entry_meant (globals_in c.args.offered.now) (surroundings_of c.args.global.now) (entries_of c.args.scope.now) variable
+    let variable = variable_told c.args.variable.now in
+    rw (entry_meant (globals_in c.args.session.now.offered) (surroundings_of c.args.global.now) (entries_of c.args.scope.now) variable
     c.in-Some.index c.value_at.result.now (sym c.in-Some.ensures.exact) c.value_at.ensures)
     (c.entry_target.ensures (entries_of c.args.scope.now) c.value_at.ensures)
 
 pub returns-in-None : goal.returns-in-None
 returns-in-None g c =
-    let globals = globals_in c.args.offered.now in
+    let globals = globals_in c.args.session.now.offered in
     let around = surroundings_of c.args.global.now in
-    let variable = variable_named c.args.name.now c.args.namespace.now c.args.pos in
+    let variable = variable_told c.args.variable.now in
     let cells = cells_of c.args.global.now.cells in
-    let beside = ap (target_meant cells c.args.name.now c.args.pos)
+    let beside = ap (target_meant cells c.args.variable.now.name.now c.args.variable.now.at)
     (meant_beside globals around (entries_of c.args.scope.now) variable (sym c.in-None.ensures.exact)) in
-    rw beside (none_temporary cells c.args.name.now c.args.pos (value_beside globals around variable), c.no_target.ensures)
+    rw beside (
+      none_temporary cells c.args.variable.now.name.now c.args.variable.now.at
+          (value_beside globals around variable),
+      c.no_target.ensures,
+    )

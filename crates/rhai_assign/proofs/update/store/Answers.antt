@@ -1,14 +1,15 @@
 use Rattle.std.proofs.Common.{arith, ap}
 use Rattle.rhai_values.specs.declared.base.value.AccessMode.TheVariants.{ReadWrite}
 use Rattle.rhai_values.specs.Modes.{with_mode}
-use Rattle.rhai_machine.specs.language.Setting.{Rules, rules_of}
+use Rattle.rhai_machine.specs.language.Setting.{Rules}
 use Rattle.rhai_machine.specs.language.Frames.{Assignment}
 use Rattle.rhai_machine.specs.language.Places.{target}
 use Rattle.rhai_machine.specs.language.State.{Local}
+use Rattle.rhai_steps.specs.Sessions.{under}
 use Rattle.rhai_steps.specs.States.{state_of}
 use Rattle.rhai_assign.specs.Targets.{place_in, standing_at}
 use Rattle.rhai_assign.proofs.Places.{keeps_names, local_put}
-use Rattle.rhai_assign.proofs.Updates.{updates, writes}
+use Rattle.rhai_assign.proofs.Updates.{by_operator, writes}
 use Rattle.rhai_assign.proofs.update.store.Goals as goal
 
 pub returns-in-None-clause-keeps : goal.returns-in-None-clause-keeps
@@ -19,17 +20,17 @@ returns-in-None-clause-keeps g c = record {
 }
 
 pub returns-in-Some-clause-runs : goal.returns-in-Some-clause-runs
-returns-in-Some-clause-runs g c offer held path name fast =
-    let rules : Rules _ _ = rules_of c.args.limits.now g.H.Host.name_of offer g.T.NativeTable.natives in
+returns-in-Some-clause-runs g c held path name =
+    let rules : Rules _ _ = under g.H.Host.name_of c.args.session.now g.T.NativeTable.natives in
     let assignment : Assignment = record { path = path; name = name; at = c.args.pos; op = c.args.op } in
-    updates rules assignment (target (place_in c.args.place) (standing_at c.args.place c.args.scope.now c.args.global.now.cells))
+    by_operator rules assignment (target (place_in c.args.place) (standing_at c.args.place c.args.scope.now c.args.global.now.cells))
     c.args.value (state_of (g.T.NativeTable.state c.args.table.now) c.args.global.now c.args.scope.now held)
     (state_of (g.T.NativeTable.state c.update_at.new.table) c.update_at.new.global c.update_at.new.scope held) c.update_at.result
-    c.in-Some.token c.in-Some.is (c.update_at.ensures.runs offer held fast)
+    c.in-Some.token c.in-Some.is (c.update_at.ensures.runs held)
 
 pub returns-in-None-clause-runs : goal.returns-in-None-clause-runs
-returns-in-None-clause-runs g c offer held path name fast =
-    let rules : Rules _ _ = rules_of c.args.limits.now g.H.Host.name_of offer g.T.NativeTable.natives in
+returns-in-None-clause-runs g c held path name =
+    let rules : Rules _ _ = under g.H.Host.name_of c.args.session.now g.T.NativeTable.natives in
     let assignment : Assignment = record { path = path; name = name; at = c.args.pos; op = c.args.op } in
     rw c.unit_value.ensures (writes rules assignment
     (target (place_in c.args.place) (standing_at c.args.place c.args.scope.now c.args.global.now.cells)) c.args.value

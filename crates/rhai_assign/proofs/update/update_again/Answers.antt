@@ -1,8 +1,9 @@
 use Rattle.std.proofs.Common.{refl}
 use Rattle.rhai_operators.specs.Answers.{op_assign_of}
-use Rattle.rhai_machine.specs.language.Setting.{Rules, rules_of}
+use Rattle.rhai_machine.specs.language.Setting.{Rules}
 use Rattle.rhai_machine.specs.language.Places.{put}
 use Rattle.rhai_machine.specs.language.Frames.{AsValue, Update}
+use Rattle.rhai_steps.specs.Sessions.{under}
 use Rattle.rhai_steps.specs.States.{local_of, state_of}
 use Rattle.rhai_assign.specs.Lending.{placed}
 use Rattle.rhai_assign.specs.Updates.{update_of}
@@ -10,8 +11,8 @@ use Rattle.rhai_assign.proofs.Updates.{built, built_for, first_is, left_lent, no
 use Rattle.rhai_assign.proofs.update.update_again.Goals as goal
 
 pub returns-in-Some-clause-runs : goal.returns-in-Some-clause-runs
-returns-in-Some-clause-runs g c offer scope held place operand from only =
-    let rules : Rules _ _ = rules_of c.args.limits.now g.H.Host.name_of offer g.T.NativeTable.natives in
+returns-in-Some-clause-runs g c scope held place operand from only =
+    let rules : Rules _ _ = under g.H.Host.name_of c.args.session.now g.T.NativeTable.natives in
     let u : Update _ = update_of c.args.update AsValue place c.args.target.now operand in
     let l = local_of c.args.global.now scope held in
     built rules u c.builtin_op_assign.result (op_assign_of u.operator u.target operand) c.in-Some.outcome
@@ -23,8 +24,8 @@ returns-in-Some-clause-runs g c offer scope held place operand from only =
     c.write_lent.ensures.left)
 
 pub returns-in-None-clause-runs : goal.returns-in-None-clause-runs
-returns-in-None-clause-runs g c offer scope held place operand from only =
-    let rules : Rules _ _ = rules_of c.args.limits.now g.H.Host.name_of offer g.T.NativeTable.natives in
+returns-in-None-clause-runs g c scope held place operand from only =
+    let rules : Rules _ _ = under g.H.Host.name_of c.args.session.now g.T.NativeTable.natives in
     let u : Update _ = update_of c.args.update AsValue place c.args.target.now operand in
     not_built rules c.builtin_op_assign.result (op_assign_of u.operator u.target operand) c.update_by_value.result u
     (placed place c.args.target.now (state_of (g.T.NativeTable.state c.args.table.now) c.args.global.now scope held))
@@ -32,4 +33,4 @@ returns-in-None-clause-runs g c offer scope held place operand from only =
     (state_of (g.T.NativeTable.state c.update_by_value.new.table) c.update_by_value.new.global scope held))
     (built_for c.builtin_op_assign.result u.operator u.target c.index-rest-0.result operand c.builtin_op_assign.ensures.value
     (first_is c.args.rest.now c.index-rest-0.result operand c.index-rest-0.is only))
-    c.in-None.is (c.update_by_value.ensures.runs offer scope held place operand from only)
+    c.in-None.is (c.update_by_value.ensures.runs scope held place operand from only)

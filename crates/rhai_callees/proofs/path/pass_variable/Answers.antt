@@ -1,6 +1,6 @@
+use Rattle.rhai_steps.specs.Variables.{variable_told}
 use Rattle.std.proofs.Common.{sym, ◌∙◌}
 use Rattle.rhai_state.specs.Scope.{entries_of}
-use Rattle.rhai_machine.specs.language.Variables.{variable_named}
 use Rattle.rhai_steps.specs.Offers.{globals_in}
 use Rattle.rhai_steps.specs.States.{surroundings_of}
 use Rattle.rhai_callees.proofs.Passing.{beside_copied, entry_looked}
@@ -9,12 +9,12 @@ use Rattle.rhai_callees.proofs.path.pass_variable.Goals as goal
 pub returns-in-Some : goal.returns-in-Some
 returns-in-Some g c m =
     c.pass_entry.ensures m
-    ∙ sym (entry_looked (globals_in c.args.offered.now) (surroundings_of c.args.global.now) (entries_of c.args.scope.now)
-    (variable_named c.args.name.now c.args.namespace.now c.args.pos) c.in-Some.index c.value_at.result.now
+    ∙ sym (entry_looked (globals_in c.args.session.now.offered) (surroundings_of c.args.global.now) (entries_of c.args.scope.now)
+    (variable_told c.args.variable.now) c.in-Some.index c.value_at.result.now
     (sym c.entry_of_variable.ensures.exact ∙ c.in-Some.is) c.value_at.ensures)
 
 pub returns-in-None : goal.returns-in-None
 returns-in-None g c m =
     c.pass_beside.ensures m
-    ∙ sym (beside_copied (globals_in c.args.offered.now) (surroundings_of c.args.global.now) (entries_of c.args.scope.now)
-    (variable_named c.args.name.now c.args.namespace.now c.args.pos) (sym c.entry_of_variable.ensures.exact ∙ c.in-None.is))
+    ∙ sym (beside_copied (globals_in c.args.session.now.offered) (surroundings_of c.args.global.now) (entries_of c.args.scope.now)
+    (variable_told c.args.variable.now) (sym c.entry_of_variable.ensures.exact ∙ c.in-None.is))

@@ -1,7 +1,9 @@
 use Rattle.std.proofs.Common.{◌≡◌, ◌∷◌, Some, true}
 use Rattle.rhai_machine.specs.language.Calls.{plainly}
-use Rattle.rhai_machine.specs.language.Setting.{Rules, rules_of}
+use Rattle.rhai_machine.specs.language.Setting.{Rules}
 use Rattle.rhai_machine.specs.language.Frames.{Operation, FromEntry}
+use Rattle.rhai_steps.specs.Operations.{operation_of}
+use Rattle.rhai_steps.specs.Sessions.{under}
 use Rattle.rhai_steps.specs.States.{state_of}
 use Rattle.rhai_calls.specs.Called.{with_args}
 use Rattle.rhai_calls.specs.Lending.{lent_call}
@@ -14,9 +16,9 @@ returns-clause-names g c =
     c.call_first-called.new.first c.replace_value-first.ensures.after c.replace_value.ensures.after
 
 pub returns-clause-runs : goal.returns-clause-runs
-returns-clause-runs g c offer held on_scope v offers stands =
-    let rules : Rules _ _ = rules_of c.args.limits.now g.H.Host.name_of offer g.T.NativeTable.natives in
-    let operation : Operation = record { name = c.args.name.now; token = c.args.token; at = c.args.pos } in
+returns-clause-runs g c held on_scope v stands =
+    let rules : Rules _ _ = under g.H.Host.name_of c.args.session.now g.T.NativeTable.natives in
+    let operation : Operation = operation_of c.args.operation.now in
     let before = c.replace_value-first.ensures.before in
     let same : v ≡ c.replace_value-first.result = cc in
     lent_runs c.args.scope.now c.replace_value-first.new.self c.replace_value.new.self c.args.index c.unit_value.result
@@ -26,4 +28,4 @@ returns-clause-runs g c offer held on_scope v offers stands =
     (state_of (g.T.NativeTable.state c.args.table.now) c.args.global.now c.args.scope.now held)
     (with_args c.call_first-called.result c.call_first-called.new.args) (g.T.NativeTable.state c.call_first-called.new.table)
     c.call_first-called.new.global held
-    (rw same (c.call_first-called.ensures.runs offer c.args.scope.now held (FromEntry c.args.index) on_scope offers before))
+    (rw same (c.call_first-called.ensures.runs c.args.scope.now held (FromEntry c.args.index) on_scope before))

@@ -3,10 +3,10 @@ use Rattle.rhai_calls.proofs.Dispatching.{less_one, one_more}
 use Rattle.rhai_calls.proofs.dispatch.function_of.Goals as goal
 
 pub returns-then-seeks-2 : goal.returns-then-seeks-2
-returns-then-seeks-2 g c offer offers =
+returns-then-seeks-2 g c =
     rw (c.if-seeks.false, c.if-seeks-2.true, ← c.type_name-this_type.ensures, less_one (length c.args.rest.now))
-    (c.method_by.ensures offer offers)
+    (c.method_by.ensures)
 
 pub returns : goal.returns
-returns g c offer offers =
-    rw (c.if-seeks.false, c.if-seeks-2.false, one_more (length c.args.rest.now)) (c.function_by.ensures offer offers)
+returns g c =
+    rw (c.if-seeks.false, c.if-seeks-2.false, one_more (length c.args.rest.now)) (c.function_by.ensures)

@@ -1,6 +1,8 @@
 use Rattle.std.proofs.Common.{List, false, sym, subst}
 use Rattle.rhai_values.specs.declared.base.value.Dynamic.{Dynamic}
 use Rattle.rhai_machine.specs.language.Frames.{Operation}
+use Rattle.rhai_steps.specs.Operations.{operation_of}
+use Rattle.rhai_steps.specs.Sessions.{offer_of}
 use Rattle.rhai_steps.specs.States.{surroundings_of}
 use Rattle.rhai_calls.specs.declared.dispatch.Seeks.{Seeks}
 use Rattle.rhai_calls.specs.Dispatch.{ResolvesCall}
@@ -8,10 +10,10 @@ use Rattle.rhai_calls.proofs.Taking.{first_and_others}
 use Rattle.rhai_calls.proofs.dispatch.resolve_all.Goals as goal
 
 pub returns-in-len1-up : goal.returns-in-len1-up
-returns-in-len1-up g c offer offers =
+returns-in-len1-up g c =
     let seeks : Seeks = record { of_method = false; natives_alone = c.args.natives_alone } in
-    let operation : Operation = record { name = c.args.name.now; token = c.args.token; at = c.args.pos } in
+    let operation : Operation = operation_of c.args.operation.now in
     subst (λ (xs : List (Dynamic g.row.H.Denot)).
-    ResolvesCall offer (surroundings_of c.args.global.now) g.H.Host.name_of seeks operation xs c.resolve.result)
+    ResolvesCall (offer_of c.args.session.now) (surroundings_of c.args.global.now) g.H.Host.name_of seeks operation xs c.resolve.result)
     (sym (first_and_others c.args.args.now c.first-item.result c.first-item.result c.in-len1-up.len_at_least c.first-item.is))
-    (c.resolve.ensures offer offers)
+    (c.resolve.ensures)

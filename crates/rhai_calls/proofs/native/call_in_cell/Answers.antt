@@ -3,15 +3,17 @@ use Rattle.std.specs.Option.{option_copied}
 use Rattle.rhai_state.specs.Native.{reply_of}
 use Rattle.rhai_values.specs.Cells.{cells_of}
 use Rattle.rhai_machine.specs.language.Frames.{Operation}
-use Rattle.rhai_machine.specs.language.Setting.{Rules, rules_of}
+use Rattle.rhai_machine.specs.language.Setting.{Rules}
+use Rattle.rhai_steps.specs.Operations.{operation_of}
+use Rattle.rhai_steps.specs.Sessions.{under}
 use Rattle.rhai_calls.proofs.Lent.{cell_plain, comes_back, in_held}
 use Rattle.rhai_calls.proofs.NativeCalls.{calls_barred, calls_in_cell, calls_on, untold_by}
 use Rattle.rhai_calls.proofs.native.call_in_cell.Goals as goal
 
 pub returns-in-Err-clause-runs : goal.returns-in-Err-clause-runs
-returns-in-Err-clause-runs g c offer =
-    let rules : Rules _ _ = rules_of c.args.limits.now g.H.Host.name_of offer g.T.NativeTable.natives in
-    let operation : Operation = record { name = c.args.name.now; token = c.args.token; at = c.args.pos } in
+returns-in-Err-clause-runs g c =
+    let rules : Rules _ _ = under g.H.Host.name_of c.args.session.now g.T.NativeTable.natives in
+    let operation : Operation = operation_of c.args.operation.now in
     let there = sym c.in-Some.ensures.value in
     let plain = cell_plain (cells_of c.args.cells.now) c.args.cell.number c.in-Some.lent there c.requires in
     calls_in_cell rules operation c.args.id c.args.passing.guarded c.args.passing.marks c.args.cell c.args.rest.now
@@ -23,9 +25,9 @@ returns-in-Err-clause-runs g c offer =
     c.ask_native-asked.new.first (g.T.NativeTable.state c.ask_native-asked.new.table) _ c.in-Err.ensures.barred refl)
 
 pub returns-in-Ok-clause-runs : goal.returns-in-Ok-clause-runs
-returns-in-Ok-clause-runs g c offer =
-    let rules : Rules _ _ = rules_of c.args.limits.now g.H.Host.name_of offer g.T.NativeTable.natives in
-    let operation : Operation = record { name = c.args.name.now; token = c.args.token; at = c.args.pos } in
+returns-in-Ok-clause-runs g c =
+    let rules : Rules _ _ = under g.H.Host.name_of c.args.session.now g.T.NativeTable.natives in
+    let operation : Operation = operation_of c.args.operation.now in
     let there = sym c.in-Some.ensures.value in
     let plain = cell_plain (cells_of c.args.cells.now) c.args.cell.number c.in-Some.lent there c.requires in
     let left : c.unwrap-left.result.now ≡ c.ask_native-asked.new.first = comes_back (cells_of c.args.cells.now) (cells_of c.take.new.self)

@@ -2,24 +2,26 @@ use Rattle.std.proofs.Common.{refl}
 use Rattle.rhai_state.specs.Native.{reply_of}
 use Rattle.rhai_values.specs.Cells.{cells_of}
 use Rattle.rhai_machine.specs.language.Frames.{Operation}
-use Rattle.rhai_machine.specs.language.Setting.{Rules, rules_of}
+use Rattle.rhai_machine.specs.language.Setting.{Rules}
+use Rattle.rhai_steps.specs.Operations.{operation_of}
+use Rattle.rhai_steps.specs.Sessions.{under}
 use Rattle.rhai_calls.proofs.Lent.{handle_none}
 use Rattle.rhai_calls.proofs.NativeCalls.{calls_barred, calls_on, untold_by}
 use Rattle.rhai_calls.proofs.native.call_value.Goals as goal
 
 pub returns-in-Err-clause-runs : goal.returns-in-Err-clause-runs
-returns-in-Err-clause-runs g c offer =
-    let rules : Rules _ _ = rules_of c.args.limits.now g.H.Host.name_of offer g.T.NativeTable.natives in
-    let operation : Operation = record { name = c.args.name.now; token = c.args.token; at = c.args.pos } in
+returns-in-Err-clause-runs g c =
+    let rules : Rules _ _ = under g.H.Host.name_of c.args.session.now g.T.NativeTable.natives in
+    let operation : Operation = operation_of c.args.operation.now in
     calls_barred rules (cells_of c.args.cells.now) (cells_of c.args.cells.now) operation c.args.id c.args.passing.guarded
     c.args.passing.marks c.args.first.now c.args.rest.now (g.T.NativeTable.state c.args.table.now)
     (handle_none c.args.first.now.value c.requires) c.in-Err.error c.ask_native.new.first
     (g.T.NativeTable.state c.ask_native.new.table) _ c.in-Err.ensures.barred refl
 
 pub returns-in-Ok-clause-runs : goal.returns-in-Ok-clause-runs
-returns-in-Ok-clause-runs g c offer =
-    let rules : Rules _ _ = rules_of c.args.limits.now g.H.Host.name_of offer g.T.NativeTable.natives in
-    let operation : Operation = record { name = c.args.name.now; token = c.args.token; at = c.args.pos } in
+returns-in-Ok-clause-runs g c =
+    let rules : Rules _ _ = under g.H.Host.name_of c.args.session.now g.T.NativeTable.natives in
+    let operation : Operation = operation_of c.args.operation.now in
     calls_on rules (cells_of c.args.cells.now) (cells_of c.args.cells.now) operation c.args.id c.args.passing.guarded
     c.args.passing.marks c.args.first.now c.args.rest.now (g.T.NativeTable.state c.args.table.now)
     (handle_none c.args.first.now.value c.requires) (reply_of c.in-Ok.answer) c.ask_native.new.first

@@ -1,19 +1,20 @@
 use Rattle.std.proofs.Common.{Some, refl}
 use Rattle.rhai_machine.specs.language.Frames.{FromFocus}
 use Rattle.rhai_machine.specs.language.Members.{set_item}
-use Rattle.rhai_machine.specs.language.Setting.{Rules, rules_of}
+use Rattle.rhai_machine.specs.language.Setting.{Rules}
+use Rattle.rhai_steps.specs.Sessions.{under}
 use Rattle.rhai_steps.specs.States.{state_of}
 use Rattle.rhai_steps.specs.OnFocus.{lending}
 use Rattle.rhai_chains.proofs.MemberLemmas.{member_runs_out_asking}
 use Rattle.rhai_chains.proofs.members.ask_to_set.Goals as goal
 
 pub returns-in_default-clause-runs : goal.returns-in_default-clause-runs
-returns-in_default-clause-runs g c offer scope held =
-    let rules : Rules _ _ = rules_of c.args.limits.now g.H.Host.name_of offer g.T.NativeTable.natives in
+returns-in_default-clause-runs g c scope held =
+    let rules : Rules _ _ = under g.H.Host.name_of c.args.session.now g.T.NativeTable.natives in
     member_runs_out_asking rules (set_item c.args.at c.args.guarded c.args.focus.now c.args.index c.args.value)
     (state_of (g.T.NativeTable.state c.args.table.now) c.args.global.now scope (lending held c.args.focus.now)) c.args.at
 
 pub returns-clause-runs : goal.returns-clause-runs
-returns-clause-runs g c offer scope held =
+returns-clause-runs g c scope held =
     rw (c.as_slice-rest.ensures, c.in-Ok.ensures)
-    at (c.pass_native-answer.ensures.runs offer scope (lending held c.args.focus.now) (Some FromFocus) refl)
+    at (c.pass_native-answer.ensures.runs scope (lending held c.args.focus.now) (Some FromFocus) refl)

@@ -1,24 +1,28 @@
 use Rattle.rhai_machine.specs.language.Members.{set_item, named}
-use Rattle.rhai_machine.specs.language.Setting.{Rules, rules_of}
+use Rattle.rhai_machine.specs.language.Setting.{Rules}
+use Rattle.rhai_steps.specs.Sessions.{under}
 use Rattle.rhai_steps.specs.States.{state_of}
 use Rattle.rhai_steps.specs.OnFocus.{lending}
 use Rattle.rhai_chains.proofs.MemberLemmas.{answered_is, tries_from, member_runs_out_trying}
 use Rattle.rhai_chains.proofs.members.set_named.Goals as goal
 
 pub returns-in-Ok-clause-runs : goal.returns-in-Ok-clause-runs
-returns-in-Ok-clause-runs g c offer scope held =
-    let rules : Rules _ _ = rules_of c.args.limits.now g.H.Host.name_of offer g.T.NativeTable.natives in
-    let index = answered_is c.in-Ok.index (named c.args.name.now) (c.in-Ok.ensures tt) in
-    tries_from rules (λ focus. set_item c.args.at c.args.guarded focus (named c.args.name.now) c.args.value)
+returns-in-Ok-clause-runs g c scope held =
+    let rules : Rules _ _ = under g.H.Host.name_of c.args.session.now g.T.NativeTable.natives in
+    let index = answered_is c.in-Ok.index (named c.args.property.now.name.now) (c.in-Ok.ensures tt) in
+    tries_from rules (λ focus.
+    set_item c.args.property.now.at c.args.property.now.guarded focus (named c.args.property.now.name.now) c.args.value)
     (state_of (g.T.NativeTable.state c.args.table.now) c.args.global.now scope (lending held c.args.focus.now))
     (state_of (g.T.NativeTable.state c.ask_to_set-answer.new.table) c.ask_to_set-answer.new.global scope
     (lending held c.ask_to_set-answer.new.focus))
-    c.ask_to_set-answer.result (rw index at (c.ask_to_set-answer.ensures.runs offer scope held)) c.args.otherwise c.unless_missing.result
+    c.ask_to_set-answer.result (rw index at (c.ask_to_set-answer.ensures.runs scope held)) c.args.otherwise c.unless_missing.result
     c.unless_missing.ensures
 
 pub returns-in-Err-clause-runs : goal.returns-in-Err-clause-runs
-returns-in-Err-clause-runs g c offer scope held =
-    let rules : Rules _ _ = rules_of c.args.limits.now g.H.Host.name_of offer g.T.NativeTable.natives in
-    member_runs_out_trying rules (λ focus. set_item c.args.at c.args.guarded focus (named c.args.name.now) c.args.value) c.args.otherwise
+returns-in-Err-clause-runs g c scope held =
+    let rules : Rules _ _ = under g.H.Host.name_of c.args.session.now g.T.NativeTable.natives in
+    member_runs_out_trying rules
+    (λ focus. set_item c.args.property.now.at c.args.property.now.guarded focus (named c.args.property.now.name.now) c.args.value)
+    c.args.otherwise
     (state_of (g.T.NativeTable.state c.args.table.now) c.args.global.now scope (lending held c.args.focus.now)) c.in-Err.error
-    (named c.args.name.now) c.in-Err.ensures
+    (named c.args.property.now.name.now) c.in-Err.ensures

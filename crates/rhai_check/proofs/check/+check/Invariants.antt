@@ -26,7 +26,8 @@ invariant-stmt::check_statements-each l = record {
       (map seen_stmt (drop l.statement-index l.statements)) (around l.declared l.place);
   resolved : (base : Frame) → all_resolve (map resolves_stmt l.statements) (above base l.fn.declared) ≡ all_resolve
       (map resolves_stmt (drop l.statement-index l.statements)) (above base l.declared);
-  declares : IsTrue (any_of (map stmt_needs_memory (drop l.statement-index l.statements))) → IsTrue (any_of (map stmt_needs_memory l.statements));
+  declares : IsTrue (any_of (map stmt_needs_memory (drop l.statement-index l.statements))) →
+      IsTrue (any_of (map stmt_needs_memory l.statements));
 }
 
 abbrev pub invariant-expr::check_entries-each : goal.invariant-expr::check_entries-each

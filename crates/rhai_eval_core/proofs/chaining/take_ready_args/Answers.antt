@@ -9,5 +9,6 @@ pub put_ready_args-requires : goal.put_ready_args-requires
 put_ready_args-requires g c = (omega arith, (is_given c.in-Some.ready _ (rw c.in-Some.is at c.ready_at_once.ensures), c.requires))
 
 pub returns-in-Ok-clause-given : goal.returns-in-Ok-clause-given
-returns-in-Ok-clause-given g c = λ done. given_same c.in-Some.ready (at_once (link_of (out-Expr c.args.chain.now))) c.put_ready_args.new.made
+returns-in-Ok-clause-given g c = λ done.
+    given_same c.in-Some.ready (at_once (link_of (out-Expr c.args.chain.now))) c.put_ready_args.new.made
     (rw c.in-Some.is at c.ready_at_once.ensures) c.in-Ok.ensures.given

@@ -2,13 +2,14 @@
 
 ghost use Rattle.std.specs.Prelude.{◌≡◌, ◌≤◌, length, is_some};
 ghost use Rattle.rhai_values.specs.Cells.{cells_of};
-ghost use Rattle.rhai_machine.specs.language.Frames.{Item};
+ghost use Rattle.rhai_machine.specs.language.Frames.{Item, ended_or_changed};
 ghost use Rattle.rhai_context.specs.Ends.{came_changed};
 ghost use Rattle.rhai_eval_core.specs.States.{under};
 ghost use Rattle.rhai_steps.specs.Agreement.{KeepsSight};
 ghost use Rattle.rhai_steps.specs.States.{state_of};
 ghost use Rattle.rhai_steps.specs.OnFocus.{lending};
-ghost use Rattle.rhai_chains.specs.Chains.{chain_at, FollowsFrom};
+ghost use Rattle.rhai_steps.specs.Follows.{Follows};
+ghost use Rattle.rhai_chains.specs.Chains.{chain_at};
 ghost use Rattle.rhai_chains.specs.Chains.{link_seen};
 ghost use Rattle.rhai_chains.specs.Members.{access_of};
 ghost use Rattle.rhai_walk.specs.Walking.{entered_core, IsFree};
@@ -68,8 +69,8 @@ impl<'e, H: Host> Evaluator<'e, H> {
         ensures this { run.new.this ≡ run.old.this }
         ensures runs { (scope : _) (held : _) (rest : _) →
             let rules = under H.name_of self.now T.natives in
-            FollowsFrom rules (entered_core rules.setting (link_seen link.entry)
-            (chain_at root.now rest args.old new in_place))
+            Follows rules ended_or_changed
+            (entered_core rules.setting (link_seen link.entry) (chain_at root.now rest args.old new in_place))
             (state_of (T.state table.old) run.old.global scope (lending held focus.old))
             (came_changed result run.new.value run.new.error)
             (state_of (T.state table.new) run.new.global scope (lending held focus.new)) }

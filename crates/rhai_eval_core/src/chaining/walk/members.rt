@@ -5,12 +5,14 @@ ghost use Rattle.std.specs.Option.{option_copied, option_map};
 ghost use Rattle.rhai_tree.specs.declared.expr.Expr.{out-Expr};
 ghost use Rattle.rhai_machine.specs.language.Chains.{member_core};
 ghost use Rattle.rhai_machine.specs.language.Located.{args_behind};
+ghost use Rattle.rhai_machine.specs.language.Frames.{ended_or_changed};
 ghost use Rattle.rhai_context.specs.Ends.{came_changed};
 ghost use Rattle.rhai_eval_core.specs.States.{under};
 ghost use Rattle.rhai_steps.specs.Agreement.{KeepsSight};
 ghost use Rattle.rhai_steps.specs.States.{state_of};
 ghost use Rattle.rhai_steps.specs.OnFocus.{lending};
-ghost use Rattle.rhai_chains.specs.Chains.{BehindWalks, chain_at, FollowsFrom, form_seen};
+ghost use Rattle.rhai_steps.specs.Follows.{Follows};
+ghost use Rattle.rhai_chains.specs.Chains.{BehindWalks, chain_at, form_seen};
 ghost use Rattle.rhai_chains.specs.Chains.{link_seen, new_of};
 ghost use Rattle.rhai_chains.specs.Members.{access_of};
 
@@ -49,10 +51,8 @@ impl<'e, H: Host> Evaluator<'e, H> {
         ensures runs { (scope : _) (held : _) (rest : _) (all : _) (in_place : _) →
             args_behind (form_seen link.entry.form) all ≡ args.old →
             let rules = under H.name_of self.now T.natives in
-            FollowsFrom rules (member_core rules.setting
-            (option_map out-Expr (option_copied link.entry.behind)) (new_of new)
-            (link_seen link.entry) (access_of access.entry)
-            (chain_at root.now rest all new in_place))
+            Follows rules ended_or_changed
+            (member_core rules.setting (option_map out-Expr (option_copied link.entry.behind)) (new_of new) (link_seen link.entry) (access_of access.entry) (chain_at root.now rest all new in_place))
             (state_of (T.state table.old) run.old.global scope (lending held source.old))
             (came_changed result run.new.value run.new.error)
             (state_of (T.state table.new) run.new.global scope (lending held source.new)) }

@@ -5,11 +5,11 @@ ghost use Rattle.std.specs.Option.{option_copied, option_map};
 ghost use Rattle.rhai_tree.specs.declared.expr.Expr.{out-Expr};
 ghost use Rattle.rhai_machine.specs.language.Frames.{core, ended_or_changed};
 ghost use Rattle.rhai_machine.specs.language.Links.{first_position as first_position_in};
+ghost use Rattle.rhai_machine.specs.language.Runs.{Goes};
 ghost use Rattle.rhai_context.specs.Ends.{came_changed};
 ghost use Rattle.rhai_eval_core.specs.States.{under};
 ghost use Rattle.rhai_steps.specs.Agreement.{KeepsSight};
 ghost use Rattle.rhai_steps.specs.States.{state_of};
-ghost use Rattle.rhai_steps.specs.OnFocus.{RunsFrom};
 ghost use Rattle.rhai_chains.specs.Chains.{BehindWalks, chain_at, form_seen};
 ghost use Rattle.rhai_walk.specs.Walking.{behind_value};
 
@@ -58,12 +58,10 @@ impl<'e, H: Host> Evaluator<'e, H> {
         ensures scope { run.new.scope ≡ run.old.scope }
         ensures this { run.new.this ≡ run.old.this }
         ensures runs { (scope : _) (held : _) (rest : _) →
-            RunsFrom (under H.name_of self.now T.natives) (λ k l. core
-            (ended_or_changed (came_changed mark run.old.value run.old.error))
-            (behind_value (option_map out-Expr (option_copied link.entry.behind))
-            (chain_at root.now rest args.old new false) k) l)
+            Goes (under H.name_of self.now T.natives)
+            (λ k l. core (ended_or_changed (came_changed mark run.old.value run.old.error)) (behind_value (option_map out-Expr (option_copied link.entry.behind)) (chain_at root.now rest args.old new false) k) l)
             (state_of (T.state table.old) run.old.global scope held)
-            (came_changed result run.new.value run.new.error)
+            (core (ended_or_changed (came_changed result run.new.value run.new.error)))
             (state_of (T.state table.new) run.new.global scope held) }
     {
         let Some(rest) = link.behind else {

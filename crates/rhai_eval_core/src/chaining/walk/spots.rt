@@ -8,12 +8,14 @@ ghost use Rattle.rhai_places.specs.Parts.{IsPart};
 ghost use Rattle.rhai_machine.specs.language.Chains.{part_core, spot_core};
 ghost use Rattle.rhai_machine.specs.language.Links.{link_of as link_in};
 ghost use Rattle.rhai_machine.specs.language.Located.{args_behind};
+ghost use Rattle.rhai_machine.specs.language.Frames.{ended_or_changed};
 ghost use Rattle.rhai_context.specs.Ends.{came_changed};
 ghost use Rattle.rhai_eval_core.specs.States.{under};
 ghost use Rattle.rhai_steps.specs.Agreement.{KeepsSight};
 ghost use Rattle.rhai_steps.specs.States.{state_of};
 ghost use Rattle.rhai_steps.specs.OnFocus.{lending};
-ghost use Rattle.rhai_chains.specs.Chains.{BehindWalks, chain_at, FollowsFrom, form_seen};
+ghost use Rattle.rhai_steps.specs.Follows.{Follows};
+ghost use Rattle.rhai_chains.specs.Chains.{BehindWalks, chain_at, form_seen};
 ghost use Rattle.rhai_chains.specs.Chains.{link_seen, new_of, Walks};
 
 use crate::chaining::walk::methods::asked_by;
@@ -58,9 +60,8 @@ impl<'e, H: Host> Evaluator<'e, H> {
         ensures runs { (scope : _) (held : _) (rest : _) (all : _) →
             args_behind (form_seen link.entry.form) all ≡ args.old →
             let rules = under H.name_of self.now T.natives in
-            FollowsFrom rules (spot_core rules.setting (option_map out-Expr (option_copied link.entry.behind))
-            (new_of new) (link_seen link.entry) index.now (chain_at root.now rest all new in_place)
-            source.old)
+            Follows rules ended_or_changed
+            (spot_core rules.setting (option_map out-Expr (option_copied link.entry.behind)) (new_of new) (link_seen link.entry) index.now (chain_at root.now rest all new in_place) source.old)
             (state_of (T.state table.old) run.old.global scope (lending held source.old))
             (came_changed result run.new.value run.new.error)
             (state_of (T.state table.new) run.new.global scope (lending held source.new)) }
@@ -71,22 +72,19 @@ impl<'e, H: Host> Evaluator<'e, H> {
             return end_at(&walker, global, out, place, table, source, index, link, new);
         };
         let (cells, place) = (&run.global.cells, &mut run.error);
-        match find_down(
-            walker.switches,
-            self.alloc,
-            cells,
-            place,
-            source,
-            index,
-            link,
-        ) {
+        match find_down(&self.session, cells, place, source, index, link) {
             Some(Descent::Place(at)) => {
                 let place = place_mut(&mut source.value, at);
                 self.walk_chain(run, table, root, place, rest, args, new, true)
             }
             Some(Descent::Missing) => {
-                let Some(back) = access_back(self.alloc, &mut run.error, link, index, in_place)
-                else {
+                let Some(back) = access_back(
+                    self.session.alloc,
+                    &mut run.error,
+                    link,
+                    index,
+                    in_place,
+                ) else {
                     drop(new);
                     return None;
                 };
@@ -138,13 +136,13 @@ impl<'e, H: Host> Evaluator<'e, H> {
         ensures this { run.new.this ≡ run.old.this }
         ensures runs { (scope : _) (held : _) →
             let rules = under H.name_of self.now T.natives in
-            FollowsFrom rules (part_core rules.setting (link_in (out-Expr rest.now)) at
-            (chain_at root.now (out-Expr rest.now) args.old new false) source.old)
+            Follows rules ended_or_changed
+            (part_core rules.setting (link_in (out-Expr rest.now)) at (chain_at root.now (out-Expr rest.now) args.old new false) source.old)
             (state_of (T.state table.old) run.old.global scope (lending held source.old))
             (came_changed result run.new.value run.new.error)
             (state_of (T.state table.new) run.new.global scope (lending held source.new)) }
     {
-        let Some(part) = read_part_for(self.alloc, &mut run.error, source, at, rest) else {
+        let Some(part) = read_part_for(self.session.alloc, &mut run.error, source, at, rest) else {
             drop(new);
             return None;
         };
@@ -157,7 +155,16 @@ impl<'e, H: Host> Evaluator<'e, H> {
                     run, table, name, &mut part, given, first, method.at, false,
                 );
                 let (out, place) = (&run.value, &mut run.error);
-                let mark = put_back(self.alloc, out, place, source, at, &part, answer, method.at);
+                let mark = put_back(
+                    self.session.alloc,
+                    out,
+                    place,
+                    source,
+                    at,
+                    &part,
+                    answer,
+                    method.at,
+                );
                 drop(part);
                 self.walk_behind(run, table, root, mark, method.link, behind, new)
             }

@@ -32,11 +32,13 @@ returns-clause-left g c =
 pub returns-in_err-share-clause-taken : goal.returns-in_err-share-clause-taken
 returns-in_err-share-clause-taken g c = (
   suc c.params.at,
-  c.take_argument-value.ensures.left ∙ ap (λ xs. slice_set xs c.params.at unit) c.params.invariant.left ∙ set_next unit c.args.args.now c.params.at,
+  c.take_argument-value.ensures.left ∙ ap (λ xs. slice_set xs c.params.at unit) c.params.invariant.left
+      ∙ set_next unit c.args.args.now c.params.at,
 )
 
 pub returns-in_err-push_shared-clause-taken : goal.returns-in_err-push_shared-clause-taken
 returns-in_err-push_shared-clause-taken g c = (
   suc c.params.at,
-  c.take_argument-value.ensures.left ∙ ap (λ xs. slice_set xs c.params.at unit) c.params.invariant.left ∙ set_next unit c.args.args.now c.params.at,
+  c.take_argument-value.ensures.left ∙ ap (λ xs. slice_set xs c.params.at unit) c.params.invariant.left
+      ∙ set_next unit c.args.args.now c.params.at,
 )

@@ -12,6 +12,7 @@ returns-then-eq g c =
     let is : bytes_eq (out-Import _ c.index-imports-at.result).name c.args.name.now ≡ true =
     sym (rw (c.as_str.ensures, c.get.ensures) at c.eq.ensures) ∙ c.if-eq.true in
     rw is (ap Some (sym c.get-then-eq.ensures)) in
-    sym (ends_here (module_if_named c.args.name.now) c.args.imports.now (c.imports.at - 1) c.index-imports-at.result c.get-then-eq.result.now
+    sym (ends_here (module_if_named c.args.name.now) c.args.imports.now
+    (c.imports.at - 1) c.index-imports-at.result c.get-then-eq.result.now
     (omega arith) (rw place c.imports.invariant.0)
     (ap (module_if_named c.args.name.now) (sym c.index-imports-at.is) ∙ gives))

@@ -6,7 +6,7 @@ use Rattle.rhai_index.proofs.indexing.get_indexed_mut.Goals as goal
 
 pub returns-in_err-track_operation : goal.returns-in_err-track_operation
 returns-in_err-track_operation g c =
-    let full : c.args.limits.now.max_operations ≤ c.args.global.now.num_operations + 1 =
+    let full : c.args.session.now.limits.max_operations ≤ c.args.global.now.num_operations + 1 =
     omega (arith, c.in_err-track_operation.ensures.full) in
     ((search rules, search rules, uncalled _ _ _ _ _ (no_room _ _ _ full)), search (rules, ByState))
 
@@ -16,6 +16,6 @@ returns-then-not-asks_indexer g c = search (rules, ByState)
 pub returns-in_err-track_operation-2 : goal.returns-in_err-track_operation-2
 returns-in_err-track_operation-2 g c =
     let charged = ap (λ (h : GlobalRuntimeState g.row.H.Denot). h.num_operations) c.in_ok-track_operation.ensures.charged in
-    let full : c.args.limits.now.max_operations ≤ c.args.global.now.num_operations + 1 =
+    let full : c.args.session.now.limits.max_operations ≤ c.args.global.now.num_operations + 1 =
     omega (arith, charged, c.in_err-track_operation-2.ensures.full) in
     ((search rules, search rules, uncalled _ _ _ _ _ (no_room _ _ _ full)), search (rules, ByState))

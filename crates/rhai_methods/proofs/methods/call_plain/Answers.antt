@@ -1,35 +1,36 @@
 use Rattle.std.proofs.Common.{Ok, sym, ap, ◌∙◌}
-use Rattle.rhai_machine.specs.language.Setting.{Rules, rules_of}
+use Rattle.rhai_machine.specs.language.Setting.{Rules}
 use Rattle.rhai_machine.specs.language.Methods.{Method}
+use Rattle.rhai_steps.specs.Sessions.{under}
 use Rattle.rhai_steps.specs.States.{state_of}
 use Rattle.rhai_steps.specs.OnFocus.{lending}
 use Rattle.rhai_methods.proofs.Meanings.{named_goes, own_errs, own_goes}
 use Rattle.rhai_methods.proofs.methods.call_plain.Goals as goal
 
 pub returns-in-Ok-Some-clause-runs : goal.returns-in-Ok-Some-clause-runs
-returns-in-Ok-Some-clause-runs g c offer scope held first_at was_handle offers =
-    let rules : Rules _ _ = rules_of c.args.limits.now g.H.Host.name_of offer g.T.NativeTable.natives in
+returns-in-Ok-Some-clause-runs g c scope held first_at was_handle =
+    let rules : Rules _ _ = under g.H.Host.name_of c.args.session.now g.T.NativeTable.natives in
     let method : Method = record { name = c.args.name.now; at = c.args.pos; first_at = first_at; was_handle = was_handle } in
     own_goes rules method c.args.args.now c.args.target.now
     (state_of (g.T.NativeTable.state c.args.table.now) c.args.global.now scope (lending held c.args.target.now))
     c.in-Ok-Some.pointer (ap Ok (sym c.in-Ok-Some.field-0-is) ∙ c.in-Ok-Some.ensures tt) c.call_pointer_on.result
     (state_of (g.T.NativeTable.state c.call_pointer_on.new.table) c.call_pointer_on.new.global scope
     (lending held c.call_pointer_on.new.target))
-    (c.call_pointer_on.ensures.runs offer scope held offers)
+    (c.call_pointer_on.ensures.runs scope held)
 
 pub returns-in-Ok-None-clause-runs : goal.returns-in-Ok-None-clause-runs
-returns-in-Ok-None-clause-runs g c offer scope held first_at was_handle offers =
-    let rules : Rules _ _ = rules_of c.args.limits.now g.H.Host.name_of offer g.T.NativeTable.natives in
+returns-in-Ok-None-clause-runs g c scope held first_at was_handle =
+    let rules : Rules _ _ = under g.H.Host.name_of c.args.session.now g.T.NativeTable.natives in
     let method : Method = record { name = c.args.name.now; at = c.args.pos; first_at = first_at; was_handle = was_handle } in
     named_goes rules method c.args.args.now c.args.target.now
     (state_of (g.T.NativeTable.state c.args.table.now) c.args.global.now scope (lending held c.args.target.now))
     (ap Ok (sym c.in-Ok-None.field-0-is) ∙ c.in-Ok-None.ensures tt) c.call_named_on.result
     (state_of (g.T.NativeTable.state c.call_named_on.new.table) c.call_named_on.new.global scope (lending held c.call_named_on.new.target))
-    (c.call_named_on.ensures.runs offer scope held offers)
+    (c.call_named_on.ensures.runs scope held)
 
 pub returns-in-Err-clause-runs : goal.returns-in-Err-clause-runs
-returns-in-Err-clause-runs g c offer scope held first_at was_handle offers =
-    let rules : Rules _ _ = rules_of c.args.limits.now g.H.Host.name_of offer g.T.NativeTable.natives in
+returns-in-Err-clause-runs g c scope held first_at was_handle =
+    let rules : Rules _ _ = under g.H.Host.name_of c.args.session.now g.T.NativeTable.natives in
     let method : Method = record { name = c.args.name.now; at = c.args.pos; first_at = first_at; was_handle = was_handle } in
     own_errs rules method c.args.args.now c.args.target.now
     (state_of (g.T.NativeTable.state c.args.table.now) c.args.global.now scope (lending held c.args.target.now))

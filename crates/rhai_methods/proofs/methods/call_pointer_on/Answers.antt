@@ -1,8 +1,9 @@
 use Rattle.std.proofs.Common.{List, None, Some, refl, sym, ◌∙◌}
 use Rattle.std.specs.Prelude.{ℕ}
 use Rattle.std.specs.Option.{option_copied}
-use Rattle.rhai_machine.specs.language.Setting.{Rules, rules_of}
+use Rattle.rhai_machine.specs.language.Setting.{Rules}
 use Rattle.rhai_machine.specs.language.State.{State}
+use Rattle.rhai_steps.specs.Sessions.{under}
 use Rattle.rhai_steps.specs.States.{local_of, state_of}
 use Rattle.rhai_steps.specs.OnFocus.{lending}
 use Rattle.rhai_methods.specs.Parts.{name_called, on_with}
@@ -12,8 +13,8 @@ use Rattle.rhai_methods.proofs.Pointed.{linked_on_goes, on_found}
 use Rattle.rhai_methods.proofs.methods.call_pointer_on.Goals as goal
 
 pub returns-in-Ok-Some-clause-runs : goal.returns-in-Ok-Some-clause-runs
-returns-in-Ok-Some-clause-runs g c offer scope held offers =
-    let rules : Rules _ _ = rules_of c.args.limits.now g.H.Host.name_of offer g.T.NativeTable.natives in
+returns-in-Ok-Some-clause-runs g c scope held =
+    let rules : Rules _ _ = under g.H.Host.name_of c.args.session.now g.T.NativeTable.natives in
     let s : State _ _ = state_of (g.T.NativeTable.state c.args.table.now) c.args.global.now scope (lending held c.args.target.now) in
     let called : List ℕ = name_called c.args.pointer (option_copied c.args.called) in
     on_found rules c.args.pointer c.args.pos c.args.args.now s s c.enter_linked_on.result (Some c.in-Ok-Some.function)
@@ -22,18 +23,18 @@ returns-in-Ok-Some-clause-runs g c offer scope held offers =
     c.enter_linked_on.ensures called c.args.target.now)
 
 pub returns-in-Ok-None-clause-runs : goal.returns-in-Ok-None-clause-runs
-returns-in-Ok-None-clause-runs g c offer scope held offers =
-    let rules : Rules _ _ = rules_of c.args.limits.now g.H.Host.name_of offer g.T.NativeTable.natives in
+returns-in-Ok-None-clause-runs g c scope held =
+    let rules : Rules _ _ = under g.H.Host.name_of c.args.session.now g.T.NativeTable.natives in
     let s : State _ _ = state_of (g.T.NativeTable.state c.args.table.now) c.args.global.now scope (lending held c.args.target.now) in
     on_found rules c.args.pointer c.args.pos c.args.args.now s
     (state_of (g.T.NativeTable.state c.unlinked_on.new.table) c.unlinked_on.new.global scope (lending held c.unlinked_on.new.target))
     c.unlinked_on.result None
     (sym c.in-Ok-None.field-0-is ∙ rw c.as_slice.ensures at c.in-Ok-None.ensures)
-    (name_called c.args.pointer (option_copied c.args.called)) c.args.target.now (c.unlinked_on.ensures.runs offer scope held offers)
+    (name_called c.args.pointer (option_copied c.args.called)) c.args.target.now (c.unlinked_on.ensures.runs scope held)
 
 pub returns-in-Err-clause-runs : goal.returns-in-Err-clause-runs
-returns-in-Err-clause-runs g c offer scope held offers =
-    let rules : Rules _ _ = rules_of c.args.limits.now g.H.Host.name_of offer g.T.NativeTable.natives in
+returns-in-Err-clause-runs g c scope held =
+    let rules : Rules _ _ = under g.H.Host.name_of c.args.session.now g.T.NativeTable.natives in
     let called : List ℕ = name_called c.args.pointer (option_copied c.args.called) in
     runs_out_from rules c.args.pos (on_with rules.setting c.args.pointer called c.args.pos c.args.args.now c.args.target.now)
     (state_of (g.T.NativeTable.state c.args.table.now) c.args.global.now scope (lending held c.args.target.now)) _

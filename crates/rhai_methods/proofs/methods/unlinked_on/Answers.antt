@@ -1,7 +1,8 @@
 use Rattle.std.proofs.Common.{◌≡◌, ap, ◌∙◌}
 use Rattle.std.specs.Option.{option_copied}
 use Rattle.rhai_values.specs.declared.base.value.FnPtr.{out-FnPtr}
-use Rattle.rhai_machine.specs.language.Setting.{Rules, rules_of}
+use Rattle.rhai_machine.specs.language.Setting.{Rules}
+use Rattle.rhai_steps.specs.Sessions.{under}
 use Rattle.rhai_steps.specs.States.{state_of}
 use Rattle.rhai_steps.specs.OnFocus.{lending}
 use Rattle.rhai_methods.specs.Parts.{name_called}
@@ -9,8 +10,8 @@ use Rattle.rhai_methods.proofs.Pointed.{by_parts_on, called_is}
 use Rattle.rhai_methods.proofs.methods.unlinked_on.Goals as goal
 
 pub returns-clause-runs : goal.returns-clause-runs
-returns-clause-runs g c offer scope held offers =
-    let rules : Rules _ _ = rules_of c.args.limits.now g.H.Host.name_of offer g.T.NativeTable.natives in
+returns-clause-runs g c scope held =
+    let rules : Rules _ _ = under g.H.Host.name_of c.args.session.now g.T.NativeTable.natives in
     let named : c.as_str-text.result.now ≡ (out-FnPtr _ c.args.pointer).name =
     c.as_str-text.ensures ∙ c.get.ensures ∙ c.parts_of-name.ensures.name in
     let so : c.unwrap_or-called.result.now ≡ name_called c.args.pointer (option_copied c.args.called) =
@@ -21,4 +22,4 @@ returns-clause-runs g c offer scope held offers =
     c.call_on-call.result c.parts_of-name.result.2 c.as_str-text.result.now c.parts_of-name.result.1
     named c.parts_of-name.ensures.curried c.parts_of-name.ensures.number
     (name_called c.args.pointer (option_copied c.args.called)) c.args.target.now
-    (rw so at (c.call_on-call.ensures.runs offer scope held offers))
+    (rw so at (c.call_on-call.ensures.runs scope held))

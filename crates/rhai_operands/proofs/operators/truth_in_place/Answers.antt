@@ -3,7 +3,7 @@ use Rattle.rhai_tree.specs.declared.expr.Expr.{out-Expr}
 use Rattle.rhai_tree.specs.declared.expr.Expr.TheVariants as exprs
 use Rattle.rhai_tree.specs.declared.expr.Expr.TheOpen as layer
 use Rattle.rhai_state.specs.Scope.{entries_of}
-use Rattle.rhai_machine.specs.language.Setting.{rules_of}
+use Rattle.rhai_steps.specs.Sessions.{under}
 use Rattle.rhai_steps.proofs.Agreeing.{brings}
 use Rattle.rhai_context.specs.Ends.{error_in}
 use Rattle.rhai_operands.specs.Standing.{standing}
@@ -23,8 +23,8 @@ compare_in_place-requires-clause-resolves_right g c = brings (λ frame h. (call_
     (two_args _ _ _ c.in_ok-left.ensures) h).1) c.requires
 
 pub returns-then-not-charge-clause-runs : goal.returns-then-not-charge-clause-runs
-returns-then-not-charge-clause-runs g c offer held fast =
-    let rules = rules_of c.args.limits.now g.H.Host.name_of offer g.T.NativeTable.natives in
+returns-then-not-charge-clause-runs g c held fast =
+    let rules = under g.H.Host.name_of c.args.session.now g.T.NativeTable.natives in
     let form : out-Expr c.args.test.now ≡ layer.Expr::FnCall c.in-FnCall.call c.in-FnCall.pos = rw (c.in-FnCall.is, exprs.outs-FnCall)
     refl in
     let seen = compared_stands c.in_ok-token.token (standing (out-Expr c.in_ok-left.left.now) (entries_of c.args.scope.now))
@@ -39,8 +39,8 @@ returns-then-not-charge-clause-runs g c offer held fast =
     (c.if-not-charge.ensures.refused refl) (c.if-not-charge.ensures.same refl))
 
 pub returns-then-not-charge-2-clause-runs : goal.returns-then-not-charge-2-clause-runs
-returns-then-not-charge-2-clause-runs g c offer held fast =
-    let rules = rules_of c.args.limits.now g.H.Host.name_of offer g.T.NativeTable.natives in
+returns-then-not-charge-2-clause-runs g c held fast =
+    let rules = under g.H.Host.name_of c.args.session.now g.T.NativeTable.natives in
     let form : out-Expr c.args.test.now ≡ layer.Expr::FnCall c.in-FnCall.call c.in-FnCall.pos = rw (c.in-FnCall.is, exprs.outs-FnCall)
     refl in
     let seen = compared_stands c.in_ok-token.token (standing (out-Expr c.in_ok-left.left.now) (entries_of c.args.scope.now))
@@ -56,8 +56,8 @@ returns-then-not-charge-2-clause-runs g c offer held fast =
     (c.if-not-charge-2.ensures.same refl))
 
 pub returns-then-not-charge-3-clause-runs : goal.returns-then-not-charge-3-clause-runs
-returns-then-not-charge-3-clause-runs g c offer held fast =
-    let rules = rules_of c.args.limits.now g.H.Host.name_of offer g.T.NativeTable.natives in
+returns-then-not-charge-3-clause-runs g c held fast =
+    let rules = under g.H.Host.name_of c.args.session.now g.T.NativeTable.natives in
     let form : out-Expr c.args.test.now ≡ layer.Expr::FnCall c.in-FnCall.call c.in-FnCall.pos = rw (c.in-FnCall.is, exprs.outs-FnCall)
     refl in
     let seen = compared_stands c.in_ok-token.token (standing (out-Expr c.in_ok-left.left.now) (entries_of c.args.scope.now))
@@ -73,8 +73,8 @@ returns-then-not-charge-3-clause-runs g c offer held fast =
     (rw c.position-2.ensures at c.if-not-charge-3.ensures.refused refl) (c.if-not-charge-3.ensures.same refl))
 
 pub returns-clause-runs : goal.returns-clause-runs
-returns-clause-runs g c offer held fast =
-    let rules = rules_of c.args.limits.now g.H.Host.name_of offer g.T.NativeTable.natives in
+returns-clause-runs g c held fast =
+    let rules = under g.H.Host.name_of c.args.session.now g.T.NativeTable.natives in
     let form : out-Expr c.args.test.now ≡ layer.Expr::FnCall c.in-FnCall.call c.in-FnCall.pos = rw (c.in-FnCall.is, exprs.outs-FnCall)
     refl in
     let seen = compared_stands c.in_ok-token.token (standing (out-Expr c.in_ok-left.left.now) (entries_of c.args.scope.now))
@@ -89,8 +89,8 @@ returns-clause-runs g c offer held fast =
     (c.if-not-charge-3.ensures.room refl) (c.if-not-charge-3.ensures.charged refl) c.in_ok-holds.holds seen.4)
 
 pub returns-then-charge_all-clause-runs : goal.returns-then-charge_all-clause-runs
-returns-then-charge_all-clause-runs g c offer held fast =
-    let rules = rules_of c.args.limits.now g.H.Host.name_of offer g.T.NativeTable.natives in
+returns-then-charge_all-clause-runs g c held fast =
+    let rules = under g.H.Host.name_of c.args.session.now g.T.NativeTable.natives in
     let form : out-Expr c.args.test.now ≡ layer.Expr::FnCall c.in-FnCall.call c.in-FnCall.pos = rw (c.in-FnCall.is, exprs.outs-FnCall)
     refl in
     let seen = compared_stands c.in_ok-token.token (standing (out-Expr c.in_ok-left.left.now) (entries_of c.args.scope.now))

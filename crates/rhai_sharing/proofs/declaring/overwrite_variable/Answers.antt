@@ -33,25 +33,29 @@ returns-clause-declares g c held k =
     let old = entries_of c.args.scope.now in
     let before = local_of c.args.global.now c.args.scope.now held in
     let after = local_of c.publish-published.new.global c.args.scope.now held in
-    let name = c.args.ident.now.name in
+    let name = c.args.declaration.now.ident.now.name in
     let at = c.in-Some.at in
-    let v = with_mode (mode_of c.args.options) c.args.value in
+    let v = with_mode (mode_of c.args.declaration.now.options) c.args.value in
     let more = revalued old at (slice_get old at) v in
     let valued : c.set_access_mode.new.self ≡ v = c.set_access_mode.ensures ∙ ap (λ mode. with_mode mode c.args.value) c.mode_of.ensures in
     let written : entries_of c.replace_value-before.new.self ≡ more = rw (← valued) c.replace_value-before.ensures.after in
     let there : option_map value_of (slice_get (entries_of c.replace_value-before.new.self) at) ≡ Some v =
     rw written (revalued_value old at v c.replace_value-before.result c.replace_value-before.ensures.before) in
-    let entered : constant_core (enters c.args.options c.args.restoring before) name c.args.value before ≡ after =
-    sym (entered_as_given (mode_of c.args.options) (enters c.args.options c.args.restoring before) name c.args.value before)
+    let entered : constant_core (enters c.args.declaration.now.options c.args.declaration.now.restoring before) name c.args.value before ≡
+    after =
+    sym (entered_as_given (mode_of c.args.declaration.now.options)
+    (enters c.args.declaration.now.options c.args.declaration.now.restoring before) name c.args.value before)
     ∙ sym (c.in_default-published.ensures.entered v c.args.scope.now held there) in
     let here : index_of name old ≡ Some at = sym c.index_of_variable.ensures.exact ∙ c.in-Some.is in
     let found : index_of name more ≡ Some at = same_place name more old (revalued_names old at v) ∙ here in
-    let aliased : own_alias (is_exported c.args.options) more at name ≡ entries_of c.publish-published.new.scope =
-    sym (c.in_default-published.ensures.aliased ∙ ap (λ entries. own_alias (is_exported c.args.options) entries at name) written) in
-    rw (entered, here) (declares_at (is_exported c.args.options) c.args.ident.now k (put (InEntry at) v after) at found
+    let aliased : own_alias (is_exported c.args.declaration.now.options) more at name ≡ entries_of c.publish-published.new.scope =
+    sym (c.in_default-published.ensures.aliased
+    ∙ ap (λ entries. own_alias (is_exported c.args.declaration.now.options) entries at name) written) in
+    rw (entered, here) (declares_at (is_exported c.args.declaration.now.options) c.args.declaration.now.ident.now k
+    (put (InEntry at) v after) at found
     ∙ ap (λ entries. core (Back unit_value) k (record after { scope = entries })) aliased)
 
 pub returns-clause-names : goal.returns-clause-names
-returns-clause-names g c = rw c.in_default-published.ensures.aliased (own_names (is_exported c.args.options)
-    (entries_of c.replace_value-before.new.self) c.in-Some.at c.args.ident.now.name
+returns-clause-names g c = rw c.in_default-published.ensures.aliased (own_names (is_exported c.args.declaration.now.options)
+    (entries_of c.replace_value-before.new.self) c.in-Some.at c.args.declaration.now.ident.now.name
     ∙ rw c.replace_value-before.ensures.after (revalued_names (entries_of c.args.scope.now) c.in-Some.at _))

@@ -15,15 +15,18 @@ returns-in-Err-clause-same_scope g c =
     ∙ ap Some (sym (rw c.entries.ensures at c.index-entries-at.is)) in
     let counted : c.len-count.result ≡ length entry.aliases = c.len-count.ensures ∙ ap (λ e. length e.aliases) (sym
     c.index-entries-at.is) in
-    c.truncate_aliases.ensures ∙ rw c.in_ok-add_own_alias.ensures.aliased (first_own (is_exported c.args.options) old c.args.at entry
-    c.args.name.now c.len-count.result there counted)
+    c.truncate_aliases.ensures
+    ∙ rw c.in_ok-add_own_alias.ensures.aliased (first_own (is_exported c.args.declaration.now.options) old c.args.at entry
+    c.args.declaration.now.ident.now.name c.len-count.result there counted)
 
 pub returns-clause-entered : goal.returns-clause-entered
 returns-clause-entered g c v s held stands =
     let old = entries_of c.args.scope.now in
     let before = local_of c.args.global.now s held in
     let there : Some c.value_at-value.result.now ≡ Some v = sym c.value_at-value.ensures
-    ∙ rw c.in_ok-add_own_alias.ensures.aliased (own_value (is_exported c.args.options) old c.args.at c.args.name.now) ∙ stands in
+    ∙ rw c.in_ok-add_own_alias.ensures.aliased
+    (own_value (is_exported c.args.declaration.now.options) old c.args.at c.args.declaration.now.ident.now.name) ∙ stands in
     let same : c.value_at-value.result.now ≡ v = cc in
     c.in_default.ensures.entered s held
-    ∙ ap (λ x. constant_core (enters c.args.options c.args.restoring before) c.args.name.now x before) same
+    ∙ ap (λ x. constant_core (enters c.args.declaration.now.options c.args.declaration.now.restoring before)
+    c.args.declaration.now.ident.now.name x before) same

@@ -1,43 +1,44 @@
-use Rattle.rhai_machine.specs.language.Setting.{Rules, rules_of}
+use Rattle.rhai_machine.specs.language.Setting.{Rules}
 use Rattle.rhai_steps.specs.States.{state_of}
 use Rattle.rhai_steps.specs.OnFocus.{lending}
 use Rattle.rhai_chains.specs.Chains.{link_seen}
 use Rattle.rhai_values.specs.Cells.{cells_of}
+use Rattle.rhai_steps.specs.Sessions.{under}
 use Rattle.rhai_walk.specs.Walking.{IsFree}
 use Rattle.rhai_walk.proofs.Beginning.{charge_comes, charge_refused, free_seen, races_there, stops_there, uncharged_comes}
 use Rattle.rhai_walk.proofs.ways.begin_link.Goals as goal
 
 pub returns-in-Races-clause-begins : goal.returns-in-Races-clause-begins
-returns-in-Races-clause-begins g c offer scope held chain is =
-    let rules : Rules _ _ = rules_of c.args.limits.now g.H.Host.name_of offer g.T.NativeTable.natives in
+returns-in-Races-clause-begins g c scope held chain is =
+    let rules : Rules _ _ = under g.H.Host.name_of c.args.session.now g.T.NativeTable.natives in
     races_there rules (link_seen c.args.link) chain is
     (state_of (g.T.NativeTable.state c.args.table.now) c.args.global.now scope (lending held c.args.focus.now)) c.data_race.result
     c.in-Races.ensures c.data_race.ensures
 
 pub returns-in-Stops-clause-begins : goal.returns-in-Stops-clause-begins
-returns-in-Stops-clause-begins g c offer scope held chain is =
-    let rules : Rules _ _ = rules_of c.args.limits.now g.H.Host.name_of offer g.T.NativeTable.natives in
+returns-in-Stops-clause-begins g c scope held chain is =
+    let rules : Rules _ _ = under g.H.Host.name_of c.args.session.now g.T.NativeTable.natives in
     stops_there rules (link_seen c.args.link) chain is
     (state_of (g.T.NativeTable.state c.args.table.now) c.args.global.now scope (lending held c.args.focus.now)) c.unit_value.result
     c.in-Stops.ensures c.unit_value.ensures
 
 pub returns-in-Ok-clause-begins : goal.returns-in-Ok-clause-begins
-returns-in-Ok-clause-begins g c offer scope held chain is =
-    let rules : Rules _ _ = rules_of c.args.limits.now g.H.Host.name_of offer g.T.NativeTable.natives in
+returns-in-Ok-clause-begins g c scope held chain is =
+    let rules : Rules _ _ = under g.H.Host.name_of c.args.session.now g.T.NativeTable.natives in
     charge_comes rules (link_seen c.args.link) chain is (g.T.NativeTable.state c.args.table.now) c.args.global.now
     c.track_operation.new.global scope held c.args.focus.now c.in-Charges.ensures.0 c.in-Charges.ensures.1 c.in-Ok.ensures.room
     c.in-Ok.ensures.charged
 
 pub returns-in-Err-clause-begins : goal.returns-in-Err-clause-begins
-returns-in-Err-clause-begins g c offer scope held chain is =
-    let rules : Rules _ _ = rules_of c.args.limits.now g.H.Host.name_of offer g.T.NativeTable.natives in
+returns-in-Err-clause-begins g c scope held chain is =
+    let rules : Rules _ _ = under g.H.Host.name_of c.args.session.now g.T.NativeTable.natives in
     charge_refused rules (link_seen c.args.link) chain is (g.T.NativeTable.state c.args.table.now) c.args.global.now
     c.track_operation.new.global scope held c.args.focus.now c.in-Charges.ensures.0 c.in-Charges.ensures.1 c.in-Err.error
     c.in-Err.ensures.full c.in-Err.ensures.refused c.in-Err.ensures.same
 
 pub returns-in-Enters-clause-begins : goal.returns-in-Enters-clause-begins
-returns-in-Enters-clause-begins g c offer scope held chain is =
-    let rules : Rules _ _ = rules_of c.args.limits.now g.H.Host.name_of offer g.T.NativeTable.natives in
+returns-in-Enters-clause-begins g c scope held chain is =
+    let rules : Rules _ _ = under g.H.Host.name_of c.args.session.now g.T.NativeTable.natives in
     uncharged_comes rules (link_seen c.args.link) chain is
     (state_of (g.T.NativeTable.state c.args.table.now) c.args.global.now scope (lending held c.args.focus.now)) c.in-Enters.ensures.0
     c.in-Enters.ensures.1

@@ -1,12 +1,15 @@
-use Rattle.std.proofs.Common.{◌∙◌, sym}
+use Rattle.std.proofs.Common.{◌∙◌, refl, sym}
 use Rattle.rhai_values.specs.Cells.{cells_of}
 use Rattle.rhai_state.specs.Scope.{entries_of}
+use Rattle.rhai_walks.specs.Variables.{seen_as}
 use Rattle.rhai_walks.proofs.CellLemmas.{wrote_in_cell}
 use Rattle.rhai_walks.proofs.variables.write_variable.Goals as goal
 
 pub returns-clause-wrote : goal.returns-clause-wrote
-returns-clause-wrote g c l same =
-    wrote_in_cell (entries_of c.args.scope.now) (cells_of c.args.cells.now) (cells_of c.write_cell.new.cells) c.args.value l c.args.name.now
+returns-clause-wrote g c l =
+    let before = seen_as (entries_of c.args.scope.now) (cells_of c.args.cells.now) l in
+    wrote_in_cell (entries_of c.args.scope.now) (cells_of c.args.cells.now) (cells_of c.write_cell.new.cells) c.args.value before
+    c.args.name.now
     c.args.pos c.args.index c.write_cell.new.place c.write_cell.result c.value_at.result.now c.in-Some.id c.value_at.ensures
     (sym c.cell_of.ensures ∙ c.in-Some.is)
     (record {
@@ -14,4 +17,4 @@ returns-clause-wrote g c l same =
       wrote = c.write_cell.ensures.wrote;
       held = c.write_cell.ensures.held;
       told = c.write_cell.ensures.told;
-    }) same
+    }) refl

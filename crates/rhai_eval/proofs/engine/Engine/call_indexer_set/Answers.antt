@@ -3,7 +3,8 @@ use Rattle.rhai_machine.specs.language.Setting.{Rules}
 use Rattle.rhai_machine.specs.language.State.{State}
 use Rattle.rhai_steps.specs.States.{state_of}
 use Rattle.rhai_eval.specs.Places.{with_place}
-use Rattle.rhai_eval.specs.States.{offer_of, under}
+use Rattle.rhai_eval.specs.States.{under}
+use Rattle.rhai_eval.proofs.Public.{session_rules}
 use Rattle.rhai_eval.proofs.Indexed.{set_ends, set_kept}
 use Rattle.rhai_eval.proofs.engine.Engine.call_indexer_set.Goals as goal
 
@@ -15,7 +16,8 @@ returns-clause-ends g c scope this =
     let new : State _ _ = state_of (g.T.NativeTable.state c.ask_set-result.new.table) c.ask_set-result.new.global scope
     (with_place this (Some c.ask_set-result.new.object)) in
     set_ends rules c.args.index.now c.args.pos old new c.args.is_ref_mut c.args.new_val.now c.ask_set-result.result
-    (rw c.limits.ensures at (c.ask_set-result.ensures.runs (offer_of c.args.self.now) scope (with_place this None)))
+    (rw (session_rules g.H.Host.name_of g.T.NativeTable.natives c.args.self.now c.session-session.result
+    c.session-session.ensures.limits c.session-session.ensures.offer) at (c.ask_set-result.ensures.runs scope (with_place this None)))
 
 pub returns-clause-kept : goal.returns-clause-kept
 returns-clause-kept g c scope this =
@@ -25,4 +27,5 @@ returns-clause-kept g c scope this =
     let new : State _ _ = state_of (g.T.NativeTable.state c.ask_set-result.new.table) c.ask_set-result.new.global scope
     (with_place this (Some c.ask_set-result.new.object)) in
     set_kept rules c.args.index.now c.args.pos old new c.args.is_ref_mut c.args.new_val.now c.ask_set-result.result
-    (rw c.limits.ensures at (c.ask_set-result.ensures.runs (offer_of c.args.self.now) scope (with_place this None)))
+    (rw (session_rules g.H.Host.name_of g.T.NativeTable.natives c.args.self.now c.session-session.result
+    c.session-session.ensures.limits c.session-session.ensures.offer) at (c.ask_set-result.ensures.runs scope (with_place this None)))

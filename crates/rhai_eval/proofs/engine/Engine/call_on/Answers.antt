@@ -2,6 +2,7 @@ use Rattle.std.proofs.Common.{Some, false, true}
 use Rattle.rhai_machine.specs.language.Calls.{dispatch_core}
 use Rattle.rhai_machine.specs.language.Frames.{Operation}
 use Rattle.rhai_machine.specs.language.Setting.{Rules}
+use Rattle.rhai_steps.specs.Operations.{operation_of}
 use Rattle.rhai_steps.specs.OnFocus.{lending}
 use Rattle.rhai_steps.specs.States.{state_of}
 use Rattle.rhai_eval.specs.Places.{by_name, by_value, on_place}
@@ -12,8 +13,8 @@ use Rattle.rhai_eval.proofs.engine.Engine.call_on.Goals as goal
 pub returns-in-Ended-clause-lent : goal.returns-in-Ended-clause-lent
 returns-in-Ended-clause-lent g c held lent =
     let rules : Rules _ _ = under g.H.Host.name_of c.args.self.now g.T.NativeTable.natives in
-    let operation : Operation = record { name = c.args.name.now; token = c.args.token; at = c.args.pos } in
-    ended_out rules false c.args.pos (dispatch_core rules.setting (by_name c.args.is_method_call true)
+    let operation : Operation = operation_of c.args.operation.now in
+    ended_out rules false c.args.operation.now.at (dispatch_core rules.setting (by_name c.args.manner.is_method_call true)
     (on_place operation true (Some c.args.first.now) c.args.rest.now))
     c.call_first-call.result
     (state_of (g.T.NativeTable.state c.args.table.now) c.args.global.now c.args.scope.now (lending held c.args.first.now))
@@ -26,8 +27,8 @@ returns-in-Ended-clause-lent g c held lent =
 pub returns-in-OnTarget-clause-lent : goal.returns-in-OnTarget-clause-lent
 returns-in-OnTarget-clause-lent g c held lent =
     let rules : Rules _ _ = under g.H.Host.name_of c.args.self.now g.T.NativeTable.natives in
-    let operation : Operation = record { name = c.args.name.now; token = c.args.token; at = c.args.pos } in
-    method_out rules false c.args.pos (dispatch_core rules.setting (by_name c.args.is_method_call true)
+    let operation : Operation = operation_of c.args.operation.now in
+    method_out rules false c.args.operation.now.at (dispatch_core rules.setting (by_name c.args.manner.is_method_call true)
     (on_place operation true (Some c.args.first.now) c.args.rest.now))
     c.call_first-call.result
     (state_of (g.T.NativeTable.state c.args.table.now) c.args.global.now c.args.scope.now (lending held c.args.first.now))
@@ -35,14 +36,15 @@ returns-in-OnTarget-clause-lent g c held lent =
     c.call_first-call.new.first))
     (state_of (g.T.NativeTable.state c.enter_on_scope.new.table) c.enter_on_scope.new.global c.enter_on_scope.new.scope (lending held
     c.enter_on_scope.new.place))
-    c.in-OnTarget.function c.in-OnTarget.args c.enter_on_scope.result c.in-OnTarget.is
+    c.in-OnTarget.function c.in-OnTarget.args c.enter_on_scope.result
+    (rw c.in-OnTarget.is at c.in-Enters.is)
     (c.call_first-call.ensures.lent c.args.scope.now held true lent) (c.enter_on_scope.ensures.runs held)
 
 pub returns-in-Alone-clause-lent : goal.returns-in-Alone-clause-lent
 returns-in-Alone-clause-lent g c held lent =
     let rules : Rules _ _ = under g.H.Host.name_of c.args.self.now g.T.NativeTable.natives in
-    let operation : Operation = record { name = c.args.name.now; token = c.args.token; at = c.args.pos } in
-    alone_out rules false c.args.pos (dispatch_core rules.setting (by_name c.args.is_method_call true)
+    let operation : Operation = operation_of c.args.operation.now in
+    alone_out rules false c.args.operation.now.at (dispatch_core rules.setting (by_name c.args.manner.is_method_call true)
     (on_place operation true (Some c.args.first.now) c.args.rest.now))
     c.call_first-call.result
     (state_of (g.T.NativeTable.state c.args.table.now) c.args.global.now c.args.scope.now (lending held c.args.first.now))
@@ -50,13 +52,15 @@ returns-in-Alone-clause-lent g c held lent =
     c.call_first-call.new.first))
     (state_of (g.T.NativeTable.state c.call_first-call.new.table) c.call_first-call.new.global c.args.scope.now (lending held
     c.call_first-call.new.first))
-    c.in-Alone.function c.in-Alone.args c.in-Alone.is (c.call_first-call.ensures.lent c.args.scope.now held true lent)
+    c.in-Alone.function c.in-Alone.args
+    (rw c.in-Alone.is at c.in-Enters.is)
+    (c.call_first-call.ensures.lent c.args.scope.now held true lent)
 
 pub returns-in-Ended-clause-by_value : goal.returns-in-Ended-clause-by_value
 returns-in-Ended-clause-by_value g c held none =
     let rules : Rules _ _ = under g.H.Host.name_of c.args.self.now g.T.NativeTable.natives in
-    let operation : Operation = record { name = c.args.name.now; token = c.args.token; at = c.args.pos } in
-    ended_out rules false c.args.pos (dispatch_core rules.setting (by_name false true)
+    let operation : Operation = operation_of c.args.operation.now in
+    ended_out rules false c.args.operation.now.at (dispatch_core rules.setting (by_name false true)
     (by_value operation (Some c.args.first.now) c.args.rest.now))
     c.call_first-call.result
     (state_of (g.T.NativeTable.state c.args.table.now) c.args.global.now c.args.scope.now held)
@@ -66,22 +70,26 @@ returns-in-Ended-clause-by_value g c held none =
 
 pub returns-in-OnTarget-clause-by_value : goal.returns-in-OnTarget-clause-by_value
 returns-in-OnTarget-clause-by_value g c held none =
-    absurd (no_method c.call_first-call.result c.in-OnTarget.function c.in-OnTarget.args c.in-OnTarget.is
-    (c.call_first-call.ensures.by_itself (none_lends c.args.is_ref_mut c.args.is_method_call none).1))
+    absurd (no_method c.call_first-call.result c.in-OnTarget.function c.in-OnTarget.args
+    (rw c.in-OnTarget.is at c.in-Enters.is)
+    (c.call_first-call.ensures.by_itself (none_lends c.args.manner.is_ref_mut c.args.manner.is_method_call none).1))
 
 pub returns-in-Alone-clause-by_value : goal.returns-in-Alone-clause-by_value
 returns-in-Alone-clause-by_value g c held none =
     let rules : Rules _ _ = under g.H.Host.name_of c.args.self.now g.T.NativeTable.natives in
-    let operation : Operation = record { name = c.args.name.now; token = c.args.token; at = c.args.pos } in
-    alone_out rules false c.args.pos (dispatch_core rules.setting (by_name false true)
+    let operation : Operation = operation_of c.args.operation.now in
+    alone_out rules false c.args.operation.now.at (dispatch_core rules.setting (by_name false true)
     (by_value operation (Some c.args.first.now) c.args.rest.now))
     c.call_first-call.result
     (state_of (g.T.NativeTable.state c.args.table.now) c.args.global.now c.args.scope.now held)
     (state_of (g.T.NativeTable.state c.call_first-call.new.table) c.call_first-call.new.global c.args.scope.now held)
     (state_of (g.T.NativeTable.state c.call_first-call.new.table) c.call_first-call.new.global c.args.scope.now held)
-    c.in-Alone.function c.in-Alone.args c.in-Alone.is (c.call_first-call.ensures.by_value c.args.scope.now held true none)
+    c.in-Alone.function c.in-Alone.args
+    (rw c.in-Alone.is at c.in-Enters.is)
+    (c.call_first-call.ensures.by_value c.args.scope.now held true none)
 
 pub returns-in-OnTarget-clause-taken : goal.returns-in-OnTarget-clause-taken
 returns-in-OnTarget-clause-taken g c none =
-    absurd (no_method c.call_first-call.result c.in-OnTarget.function c.in-OnTarget.args c.in-OnTarget.is
-    (c.call_first-call.ensures.by_itself (none_lends c.args.is_ref_mut c.args.is_method_call none).1))
+    absurd (no_method c.call_first-call.result c.in-OnTarget.function c.in-OnTarget.args
+    (rw c.in-OnTarget.is at c.in-Enters.is)
+    (c.call_first-call.ensures.by_itself (none_lends c.args.manner.is_ref_mut c.args.manner.is_method_call none).1))

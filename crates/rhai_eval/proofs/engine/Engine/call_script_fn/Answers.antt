@@ -85,8 +85,10 @@ runs_on g c =
     c.give_back_with_this.new.scope c.give_back_with_this.ensures.scope
     (kept (under g.H.Host.name_of c.args.self.now g.T.NativeTable.natives)
     (EnterFunction (entered c.args.def.now (option_copied c.args.env) OwnThis false c.args.rewind_scope c.args.args.now
-    c.take_with_this-run.result.global.level c.args.pos)) (ended c.call_in_run-result.result) _ _ tt c.call_in_run-result.ensures.runs).bound
-    (lent_value c.args.this) (left_on g c c.args.this) c.in-Some.place.now c.give_back_with_this.new.this (ap lent_value c.in-Some.is) (this_on g c)
+    c.take_with_this-run.result.global.level c.args.pos))
+    (ended c.call_in_run-result.result) _ _ tt c.call_in_run-result.ensures.runs).bound
+    (lent_value c.args.this) (left_on g c c.args.this) c.in-Some.place.now c.give_back_with_this.new.this (ap lent_value c.in-Some.is)
+    (this_on g c)
     c.take_with_this-run.ensures.run c.give_back_with_this.ensures.this runs
 
 pub returns-in-Some-clause-ends : goal.returns-in-Some-clause-ends
@@ -218,7 +220,8 @@ runs_free g c =
     c.give_back.new.scope c.give_back.ensures.scope (kept (under g.H.Host.name_of c.args.self.now g.T.NativeTable.natives)
     (EnterFunction (entered c.args.def.now (option_copied c.args.env) OwnThis false c.args.rewind_scope c.args.args.now
     c.take-run.result.global.level c.args.pos)) (ended c.call_in_run-result-in-None.result) _ _ tt
-    c.call_in_run-result-in-None.ensures.runs).bound (lent_value c.args.this) (left_free g c c.args.this) (ap lent_value c.in-None.is) (this_free g c)
+    c.call_in_run-result-in-None.ensures.runs).bound (lent_value c.args.this) (left_free g c c.args.this) (ap lent_value c.in-None.is)
+    (this_free g c)
     c.take-run.ensures.run runs
 
 pub returns-in-None-clause-ends : goal.returns-in-None-clause-ends

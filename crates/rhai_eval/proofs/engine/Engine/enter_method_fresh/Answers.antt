@@ -1,6 +1,6 @@
 use Rattle.std.proofs.Common.{ap, true}
-use Rattle.rhai_machine.specs.language.Frames.{EnterOnFocus}
-use Rattle.rhai_calls.specs.ToldChanges.{MarkedRuns}
+use Rattle.rhai_machine.specs.language.Frames.{EnterOnFocus, ended_or_changed}
+use Rattle.rhai_machine.specs.language.Runs.{Steps}
 use Rattle.rhai_steps.specs.OnFocus.{lending}
 use Rattle.rhai_steps.specs.States.{state_of}
 use Rattle.rhai_context.specs.declared.Context.{Context}
@@ -20,8 +20,8 @@ returns-clause-runs g c scope held =
     (lending held c.enter_on_focus-done.new.focus))
     c.finish-result.result c.tell_changed.result c.tell_changed.ensures (
     (rw (← c.finish-result.ensures.came, c.as_mut_slice-values.ensures.value) at c.enter_on_focus-done.ensures.runs) scope held) in
-    handed_apart reads (λ rules old new. MarkedRuns rules (EnterOnFocus c.args.function true c.args.args c.args.pos) old
-    c.tell_changed.result new)
+    handed_apart reads (λ rules old new.
+    Steps rules (EnterOnFocus c.args.function true c.args.args c.args.pos) old (ended_or_changed c.tell_changed.result) new)
     (g.T.NativeTable.state c.args.table.now) (g.T.NativeTable.state c.enter_on_focus-done.new.table) c.take-run.result
     c.enter_on_focus-done.new.run c.args.global.now c.give_back.new.global c.give_back.ensures.global scope scope
     (lending held c.args.place.now) (lending held c.enter_on_focus-done.new.focus)

@@ -1,6 +1,6 @@
 use Rattle.std.proofs.Common.{None, false}
-use Rattle.rhai_machine.specs.language.Frames.{EnterOnFocus}
-use Rattle.rhai_calls.specs.ToldChanges.{MarkedRuns}
+use Rattle.rhai_machine.specs.language.Frames.{EnterOnFocus, ended_or_changed}
+use Rattle.rhai_machine.specs.language.Runs.{Steps}
 use Rattle.rhai_steps.specs.OnFocus.{lending}
 use Rattle.rhai_steps.specs.States.{state_of}
 use Rattle.rhai_eval.proofs.Dispatching.{runs_unchanged}
@@ -18,8 +18,8 @@ returns-clause-runs g c held =
     (state_of (g.T.NativeTable.state c.enter_with_this-result.new.table) c.enter_with_this-result.new.run.global
     c.enter_with_this-result.new.run.scope (lending held c.enter_with_this-result.new.focus))
     c.enter_with_this-result.result c.tell_changed.result c.tell_changed.ensures (c.enter_with_this-result.ensures.runs held) in
-    handed_held reads (λ rules old new. MarkedRuns rules (EnterOnFocus c.args.function false c.args.args c.args.pos) old
-    c.tell_changed.result new)
+    handed_held reads (λ rules old new.
+    Steps rules (EnterOnFocus c.args.function false c.args.args c.args.pos) old (ended_or_changed c.tell_changed.result) new)
     (g.T.NativeTable.state c.args.table.now) (g.T.NativeTable.state c.enter_with_this-result.new.table) c.take-run.result
     c.enter_with_this-result.new.run c.args.global.now c.give_back.new.global c.give_back.ensures.global c.args.scope.now
     c.give_back.new.scope c.give_back.ensures.scope None (lending held c.args.place.now)

@@ -36,14 +36,16 @@ pub run_chain-done-requires-clause-root : goal.run_chain-done-requires-clause-ro
 unfolding SuitsNames
 run_chain-done-requires-clause-root g c =
     let found = sym c.first_of.ensures ∙ ap option_copied c.in-Some.is in
-    rw c.take_with_this-run.ensures.run (at_known c.requires.resolves (chain_may_run (is_some c.args.new_val) c.args.expr.now c.in-Some.root.now
+    rw c.take_with_this-run.ensures.run
+    (at_known c.requires.resolves (chain_may_run (is_some c.args.new_val) c.args.expr.now c.in-Some.root.now
     c.requires.resolves.known found c.requires.resolves.holds).root_runs)
 
 pub run_chain-done-requires-clause-behind : goal.run_chain-done-requires-clause-behind
 unfolding SuitsNames
 run_chain-done-requires-clause-behind g c =
     let found = sym c.first_of.ensures ∙ ap option_copied c.in-Some.is in
-    rw c.take_with_this-run.ensures.run (at_known c.requires.resolves (chain_may_run (is_some c.args.new_val) c.args.expr.now c.in-Some.root.now
+    rw c.take_with_this-run.ensures.run
+    (at_known c.requires.resolves (chain_may_run (is_some c.args.new_val) c.args.expr.now c.in-Some.root.now
     c.requires.resolves.known found c.requires.resolves.holds).behind_runs)
 
 pub run_chain-done-requires-clause-walks : goal.run_chain-done-requires-clause-walks
@@ -112,7 +114,7 @@ left_on g c place =
                 c.args.scope,
                 (
                   Some (record c.in-Some-this.place { now = c.give_back_with_this.new.this }),
-                  (c.args.expr, five (five (five (five (five (five (five (five (five (tt, (tt, tt))))))))))),
+                  (c.args.expr, five (five (five (five (five (five (five (five (tt, (tt, (tt, (tt, tt)))))))))))),
                 ),
               ),
             ),
@@ -147,7 +149,8 @@ runs_on g c =
     c.in-Some.root.now (new_of c.new_value-new.result) (assigned_in c.args.new_val) _ c.finish-result.result _
     (sym c.first_of.ensures ∙ ap option_copied c.in-Some.is) c.new_value-new.ensures.same
     (rw (← c.finish-result.ensures.came) at c.run_chain-done.ensures.runs))).bound
-    (lent_value c.args.this) (left_on g c c.args.this) c.in-Some-this.place.now c.give_back_with_this.new.this (ap lent_value c.in-Some-this.is)
+    (lent_value c.args.this) (left_on g c c.args.this) c.in-Some-this.place.now c.give_back_with_this.new.this
+    (ap lent_value c.in-Some-this.is)
     (this_on g c) c.take_with_this-run.ensures.run c.give_back_with_this.ensures.this runs
 
 asks_on : (g : Over) (c : goal.After-give_back_with_this g) → OnOk c.finish-result.result
@@ -170,7 +173,8 @@ asks_on g c =
     c.in-Some.root.now (new_of c.new_value-new.result) (assigned_in c.args.new_val) _ c.finish-result.result _
     (sym c.first_of.ensures ∙ ap option_copied c.in-Some.is) c.new_value-new.ensures.same
     (rw (← c.finish-result.ensures.came) at c.run_chain-done.ensures.runs))).bound
-    (lent_value c.args.this) (left_on g c c.args.this) c.in-Some-this.place.now c.give_back_with_this.new.this (ap lent_value c.in-Some-this.is)
+    (lent_value c.args.this) (left_on g c c.args.this) c.in-Some-this.place.now c.give_back_with_this.new.this
+    (ap lent_value c.in-Some-this.is)
     (this_on g c) c.take_with_this-run.ensures.run c.give_back_with_this.ensures.this asks
 
 pub returns-in-Some-this-clause-ends : goal.returns-in-Some-this-clause-ends
@@ -211,7 +215,7 @@ left_free g c place =
               c.args.table,
               (
                 c.args.scope,
-                (place, (c.args.expr, five (five (five (five (five (five (five (five (five (tt, (tt, tt)))))))))))),
+                (place, (c.args.expr, five (five (five (five (five (five (five (five (tt, (tt, (tt, (tt, tt))))))))))))),
               ),
             ),
           ),

@@ -41,7 +41,7 @@ left_on g c place =
                 c.args.scope,
                 (
                   Some (record c.in-Some.place { now = c.give_back_with_this.new.this }),
-                  (c.args.expr, five (five (five (five (five (five (five (tt, (tt, (tt, (tt, tt))))))))))),
+                  (c.args.expr, five (five (five (five (five (five (five (tt, tt)))))))),
                 ),
               ),
             ),
@@ -64,7 +64,8 @@ runs_on g c =
     let runs = (rw (← c.finish-result.ensures.came) at c.run_expr-done.ensures.runs) in
     handed_on reads (λ r old new. Runs r (Eval c.args.expr.now) old c.finish-result.result new) (g.T.NativeTable.state c.args.table.now)
     (g.T.NativeTable.state c.run_expr-done.new.table) c.take_with_this-run.result c.run_expr-done.new.run c.args.global.now
-    c.give_back_with_this.new.global c.give_back_with_this.ensures.global c.args.scope.now c.give_back_with_this.new.scope c.give_back_with_this.ensures.scope
+    c.give_back_with_this.new.global c.give_back_with_this.ensures.global c.args.scope.now c.give_back_with_this.new.scope
+    c.give_back_with_this.ensures.scope
     (kept (under_what_is_read g.H.Host.name_of c.evaluator-evaluator.result g.T.NativeTable.natives) (Eval c.args.expr.now)
     (ended c.finish-result.result) _ _ tt
     (rw (← c.finish-result.ensures.came) at c.run_expr-done.ensures.runs)).bound (lent_value c.args.this) (left_on g c c.args.this)
@@ -105,7 +106,7 @@ left_free g c place =
               c.args.table,
               (
                 c.args.scope,
-                (place, (c.args.expr, five (five (five (five (five (five (five (tt, (tt, (tt, (tt, tt)))))))))))),
+                (place, (c.args.expr, five (five (five (five (five (five (five (tt, tt))))))))),
               ),
             ),
           ),

@@ -42,7 +42,7 @@ left_on g c place =
                 c.args.scope,
                 (
                   Some (record c.in-Some.place { now = c.give_back_with_this.new.this }),
-                  (c.args.expr, five (five (five (five (five (five (five (five (tt))))))))),
+                  (c.args.expr, five (five (five (five (five (five (five (tt, (tt, tt))))))))),
                 ),
               ),
             ),
@@ -72,7 +72,8 @@ runs_on g c =
     (OpenExpr (layer.Expr::FnCall c.args.expr.now c.args.pos)) (ended c.finish-result.result) _ _ tt
     (rw (← c.finish-result.ensures.came) at c.run_fn_call_expr-done.ensures.runs)).bound (lent_value c.args.this) (left_on g c c.args.this)
     c.in-Some.place.now
-    c.give_back_with_this.new.this (ap lent_value c.in-Some.is) (this_on g c) c.take_with_this-run.ensures.run c.give_back_with_this.ensures.this runs
+    c.give_back_with_this.new.this (ap lent_value c.in-Some.is)
+    (this_on g c) c.take_with_this-run.ensures.run c.give_back_with_this.ensures.this runs
 
 pub returns-in-Some-clause-ends : goal.returns-in-Some-clause-ends
 returns-in-Some-clause-ends g c = ends_as (under g.H.Host.name_of c.args.self.now g.T.NativeTable.natives)
@@ -108,7 +109,7 @@ left_free g c place =
               c.args.table,
               (
                 c.args.scope,
-                (place, (c.args.expr, five (five (five (five (five (five (five (five (tt)))))))))),
+                (place, (c.args.expr, five (five (five (five (five (five (five (tt, (tt, tt)))))))))),
               ),
             ),
           ),
@@ -135,7 +136,8 @@ runs_free g c =
     c.args.global.now c.give_back.new.global c.give_back.ensures.global c.args.scope.now c.give_back.new.scope c.give_back.ensures.scope
     (kept (under_what_is_read g.H.Host.name_of c.evaluator-evaluator.result g.T.NativeTable.natives)
     (OpenExpr (layer.Expr::FnCall c.args.expr.now c.args.pos)) (ended c.finish-result-in-None.result) _ _ tt
-    (rw (← c.finish-result-in-None.ensures.came) at c.run_fn_call_expr-done-in-None.ensures.runs)).bound (lent_value c.args.this) (left_free g c
+    (rw (← c.finish-result-in-None.ensures.came) at c.run_fn_call_expr-done-in-None.ensures.runs)).bound (lent_value c.args.this)
+    (left_free g c
     c.args.this) (ap lent_value
     c.in-None.is)
     (this_free g c) c.take-run.ensures.run runs

@@ -1,8 +1,11 @@
 use Rattle.std.proofs.Common.{None, false, ap, refl, ◌∙◌}
 use Rattle.rhai_state.specs.declared.state.GlobalRuntimeState.{GlobalRuntimeState}
 use Rattle.rhai_machine.specs.language.Frames.{ended, Enter}
-use Rattle.rhai_machine.specs.language.Runs.{Runs, Goes}
+use Rattle.rhai_machine.specs.language.Runs.{Runs}
 use Rattle.rhai_machine.specs.language.Script.{start_of_script, end_of_script}
+use Rattle.rhai_machine.specs.machine.Memory.{Leads}
+use Rattle.rhai_machine.specs.language.Language.{machine}
+use Rattle.rhai_machine.specs.language.Setting.{cut}
 use Rattle.rhai_laws.proofs.KeptLaws.{grown, names_begin, variables_stay}
 use Rattle.rhai_laws.proofs.ScriptMemory.{runs_up_to_memory}
 use Rattle.rhai_steps.specs.States.{holding, state_of}
@@ -34,7 +37,8 @@ statements_run g c =
 
 -- and then the script
 script_runs : (g : Over) (c : goal.After-end_script g) →
-    Goes (under g.H.Host.name_of c.args.self.now g.T.NativeTable.natives)
+    Leads (machine (under g.H.Host.name_of c.args.self.now g.T.NativeTable.natives))
+    (cut (under g.H.Host.name_of c.args.self.now g.T.NativeTable.natives))
     (start_of_script c.args.tree.now.0 c.args.map_exit_to_return_value
     (state_of (g.T.NativeTable.state c.args.table.now) c.args.global.now c.args.scope.now (holding None)))
     (end_of_script c.end_script.result

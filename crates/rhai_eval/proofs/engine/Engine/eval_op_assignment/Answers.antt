@@ -1,13 +1,15 @@
-use Rattle.std.proofs.Common.{Some, None, refl}
+use Rattle.std.proofs.Common.{Some, None}
 use Rattle.rhai_machine.specs.language.Frames.{NewValue}
 use Rattle.rhai_machine.specs.language.Setting.{Rules}
 use Rattle.rhai_machine.specs.language.State.{State}
 use Rattle.rhai_steps.specs.States.{state_of}
 use Rattle.rhai_methods.specs.Targets.{value_walked_on}
+use Rattle.rhai_places.specs.Targets.{shown}
 use Rattle.rhai_eval.specs.Assigned.{target_assigned}
 use Rattle.rhai_eval.specs.Places.{with_place}
-use Rattle.rhai_eval.specs.States.{offer_of, under}
-use Rattle.rhai_eval.proofs.Assigned.{assigned_ends, assigned_kept}
+use Rattle.rhai_eval.specs.States.{under}
+use Rattle.rhai_eval.proofs.Public.{session_rules}
+use Rattle.rhai_eval.proofs.Assigned.{alone_under, assigned_ends, assigned_kept, assigned_under}
 use Rattle.rhai_eval.proofs.engine.Engine.eval_op_assignment.Goals as goal
 
 pub returns-clause-ends : goal.returns-clause-ends
@@ -20,8 +22,11 @@ returns-clause-ends g c scope this =
     (with_place this (Some (value_walked_on c.assign_target-result.new.target.part c.assign_target-result.new.target.at.now))) in
     assigned_ends rules
     (target_assigned rules.setting c.args.root.now new_value c.args.target.now.part c.args.target.now.at.now) old new
-    c.assign_target-result.result (rw c.limits.ensures at
-    (c.assign_target-result.ensures.follows (offer_of c.args.self.now) scope (with_place this None) refl))
+    c.assign_target-result.result
+    (assigned_under (session_rules g.H.Host.name_of g.T.NativeTable.natives c.args.self.now c.session-session.result
+    c.session-session.ensures.limits c.session-session.ensures.offer)
+    c.args.root.now new_value c.args.target.now.part c.args.target.now.at.now old new c.assign_target-result.result
+    (c.assign_target-result.ensures.follows scope (with_place this None)))
 
 pub returns-clause-kept : goal.returns-clause-kept
 returns-clause-kept g c scope this =
@@ -32,9 +37,20 @@ returns-clause-kept g c scope this =
     let new : State _ _ = state_of (g.T.NativeTable.state c.assign_target-result.new.table) c.assign_target-result.new.global scope
     (with_place this (Some (value_walked_on c.assign_target-result.new.target.part c.assign_target-result.new.target.at.now))) in
     assigned_kept rules c.args.root.now new_value c.args.target.now.part c.args.target.now.at.now old new
-    c.assign_target-result.result (rw c.limits.ensures at
-    (c.assign_target-result.ensures.follows (offer_of c.args.self.now) scope (with_place this None) refl))
+    c.assign_target-result.result
+    (assigned_under (session_rules g.H.Host.name_of g.T.NativeTable.natives c.args.self.now c.session-session.result
+    c.session-session.ensures.limits c.session-session.ensures.offer)
+    c.args.root.now new_value c.args.target.now.part c.args.target.now.at.now old new c.assign_target-result.result
+    (c.assign_target-result.ensures.follows scope (with_place this None)))
 
 pub returns-clause-shows : goal.returns-clause-shows
-returns-clause-shows g c scope this memory = rw c.limits.ensures at
-    (c.assign_target-result.ensures.shows (offer_of c.args.self.now) scope (with_place this None) refl memory)
+returns-clause-shows g c scope this memory =
+    let new_value : NewValue _ = record { op = c.args.op_info.now; value = c.args.new_val } in
+    alone_under (session_rules g.H.Host.name_of g.T.NativeTable.natives c.args.self.now c.session-session.result
+    c.session-session.ensures.limits c.session-session.ensures.offer)
+    c.args.root.now new_value
+    (state_of (g.T.NativeTable.state c.args.table.now) c.args.global.now scope
+    (with_place this (Some (shown c.args.target.now.part c.args.target.now.at.now))))
+    (state_of (g.T.NativeTable.state c.assign_target-result.new.table) c.assign_target-result.new.global scope
+    (with_place this (Some (shown c.assign_target-result.new.target.part c.assign_target-result.new.target.at.now))))
+    (c.assign_target-result.ensures.shows scope (with_place this None) memory)

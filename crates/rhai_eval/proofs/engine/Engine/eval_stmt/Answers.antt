@@ -46,7 +46,7 @@ left_on g c place =
                 c.args.scope,
                 (
                   Some (record c.in-Some.place { now = c.give_back_with_this.new.this }),
-                  (c.args.stmt, five (five (five (five (five (five (five (tt, (tt, (tt, (tt, (tt, tt)))))))))))),
+                  (c.args.stmt, five (five (five (five (five (five (five (tt, (tt, tt))))))))),
                 ),
               ),
             ),
@@ -74,7 +74,8 @@ runs_on g c =
     (grown (under_what_is_read g.H.Host.name_of c.evaluator-evaluator.result g.T.NativeTable.natives)
     (Exec c.args.stmt.now c.args.rewind_scope) (ended c.finish-result.result) _ _ tt (rw (← c.finish-result.ensures.came) at
     c.run_stmt-done.ensures.runs)).bound
-    (lent_value c.args.this) (left_on g c c.args.this) c.in-Some.place.now c.give_back_with_this.new.this (ap lent_value c.in-Some.is) (this_on g c)
+    (lent_value c.args.this) (left_on g c c.args.this) c.in-Some.place.now c.give_back_with_this.new.this (ap lent_value c.in-Some.is)
+    (this_on g c)
     c.take_with_this-run.ensures.run c.give_back_with_this.ensures.this runs
 
 pub returns-in-Some-clause-ends : goal.returns-in-Some-clause-ends
@@ -115,7 +116,7 @@ left_free g c place =
               c.args.table,
               (
                 c.args.scope,
-                (place, (c.args.stmt, five (five (five (five (five (five (five (tt, (tt, (tt, (tt, (tt, tt))))))))))))),
+                (place, (c.args.stmt, five (five (five (five (five (five (five (tt, (tt, tt)))))))))),
               ),
             ),
           ),

@@ -57,7 +57,7 @@ left_on g c place =
                 c.args.scope,
                 (
                   Some (record c.in-Some.place { now = c.give_back_with_this.new.this }),
-                  (c.args.statements, five (five (five (five (five (five (five (tt, (tt, (tt, (tt, (tt, tt)))))))))))),
+                  (c.args.statements, five (five (five (five (five (five (five (tt, (tt, tt))))))))),
                 ),
               ),
             ),
@@ -148,7 +148,7 @@ left_free g c place =
               c.args.table,
               (
                 c.args.scope,
-                (place, (c.args.statements, five (five (five (five (five (five (five (tt, (tt, (tt, (tt, (tt, tt))))))))))))),
+                (place, (c.args.statements, five (five (five (five (five (five (five (tt, (tt, tt)))))))))),
               ),
             ),
           ),
@@ -175,7 +175,8 @@ runs_free g c =
     c.args.global.now c.give_back.new.global c.give_back.ensures.global c.args.scope.now c.give_back.new.scope c.give_back.ensures.scope
     (grown (under_what_is_read g.H.Host.name_of c.evaluator-evaluator.result g.T.NativeTable.natives)
     (Enter c.args.statements.now c.args.restore_orig_state) (ended c.finish-result-in-None.result) _ _ tt
-    (rw (← c.finish-result-in-None.ensures.came) at c.run_stmt_block-done-in-None.ensures.runs)).bound (lent_value c.args.this) (left_free g c
+    (rw (← c.finish-result-in-None.ensures.came) at c.run_stmt_block-done-in-None.ensures.runs)).bound (lent_value c.args.this)
+    (left_free g c
     c.args.this) (ap lent_value c.in-None.is)
     (this_free g c) c.take-run.ensures.run runs
 

@@ -81,7 +81,7 @@ scope_left_1 g c place =
                     c.args.op_token,
                     (
                       Some (record c.in-Some.first { now = c.call_on-outcome.new.first }),
-                      (c.args.rest, five (five (five (five (five (five (tt, (tt, (tt, (tt, five (tt, (tt, tt)))))))))))),
+                      (c.args.rest, five (five (five (five (five (five (five (five (five (five (tt, (tt, tt)))))))))))),
                     ),
                   ),
                 ),
@@ -113,7 +113,13 @@ first_left_1 g c place =
               c.args.table,
               (
                 c.args.scope,
-                (c.args.name, (c.args.op_token, (place, (c.args.rest, (c.args.is_ref_mut, (c.args.is_method_call, (c.args.position, tt))))))),
+                (
+                  c.args.name,
+                  (
+                    c.args.op_token,
+                    (place, (c.args.rest, (c.args.is_ref_mut, (c.args.is_method_call, (c.args.position, tt))))),
+                  ),
+                ),
               ),
             ),
           ),
@@ -138,7 +144,7 @@ first_left_1 g c place =
                     c.args.op_token,
                     (
                       Some (record c.in-Some.first { now = c.call_on-outcome.new.first }),
-                      (c.args.rest, five (five (five (five (five (five (tt, (tt, (tt, (tt, five (tt, (tt, tt)))))))))))),
+                      (c.args.rest, five (five (five (five (five (five (five (five (five (five (tt, (tt, tt)))))))))))),
                     ),
                   ),
                 ),
@@ -176,7 +182,8 @@ returns-in-Some-scope-clause-lent g c variables this lent =
     (with_place this (Some c.call_on-outcome.new.first)))
     (state_of (g.T.NativeTable.state c.finish_on_scope.new.table) c.finish_on_scope.new.global c.finish_on_scope.new.scope
     (with_place this (Some c.call_on-outcome.new.first)))
-    c.finish_on_scope.result (rw c.copied-token.ensures at (c.call_on-outcome.ensures.lent (with_place this None) lent)) (c.finish_on_scope.ensures.runs
+    c.finish_on_scope.result (rw c.copied-token.ensures at (c.call_on-outcome.ensures.lent (with_place this None) lent))
+    (c.finish_on_scope.ensures.runs
     (with_place this (Some c.call_on-outcome.new.first)))))
 
 pub returns-in-Some-scope-clause-by_value : goal.returns-in-Some-scope-clause-by_value
@@ -186,7 +193,8 @@ returns-in-Some-scope-clause-by_value g c variables held none =
     value_told rules operation c.args.rest.now (g.T.NativeTable.state c.args.table.now) (g.T.NativeTable.state c.finish_on_scope.new.table)
     c.args.global.now c.finish_on_scope.new.global c.finish_on_scope.result variables
     (loan_start c.args.scope) (scope_left_1 g c c.args.scope) (Some c.in-Some-scope.scope.now) (Some c.finish_on_scope.new.scope)
-    (ap loan_start c.in-Some-scope.is) (scope_is_1 g c) held (lent_value c.args.first) (Some c.in-Some.first.now) (ap lent_value c.in-Some.is)
+    (ap loan_start c.in-Some-scope.is) (scope_is_1 g c) held (lent_value c.args.first) (Some c.in-Some.first.now)
+    (ap lent_value c.in-Some.is)
     (call_ends rules (by_name false true) (by_value operation (Some c.in-Some.first.now) c.args.rest.now)
     (state_of (g.T.NativeTable.state c.args.table.now) c.args.global.now c.in-Some-scope.scope.now held)
     (state_of (g.T.NativeTable.state c.finish_on_scope.new.table) c.finish_on_scope.new.global c.finish_on_scope.new.scope held)
@@ -209,7 +217,8 @@ returns-in-Some-scope-clause-kept g c variables held =
     (loan_start c.args.scope) (scope_left_1 g c c.args.scope) (Some c.in-Some-scope.scope.now) (Some c.finish_on_scope.new.scope)
     (ap loan_start c.in-Some-scope.is) (scope_is_1 g c) held
     (either_way (c.args.is_ref_mut || c.args.is_method_call)
-    (λ lent. kept_holding rules (g.T.NativeTable.state c.args.table.now) (g.T.NativeTable.state c.finish_on_scope.new.table) c.args.global.now
+    (λ lent. kept_holding rules (g.T.NativeTable.state c.args.table.now) (g.T.NativeTable.state c.finish_on_scope.new.table)
+    c.args.global.now
     c.finish_on_scope.new.global c.in-Some-scope.scope.now c.finish_on_scope.new.scope (with_place this (Some c.in-Some.first.now))
     (with_place this (Some c.call_on-outcome.new.first)) held
     (call_kept rules (by_name c.args.is_method_call true) (on_place operation true (Some c.in-Some.first.now) c.args.rest.now)
@@ -227,7 +236,8 @@ returns-in-Some-scope-clause-kept g c variables held =
     (with_place this (Some c.call_on-outcome.new.first)))
     (state_of (g.T.NativeTable.state c.finish_on_scope.new.table) c.finish_on_scope.new.global c.finish_on_scope.new.scope
     (with_place this (Some c.call_on-outcome.new.first)))
-    c.finish_on_scope.result (rw c.copied-token.ensures at (c.call_on-outcome.ensures.lent (with_place this None) lent)) (c.finish_on_scope.ensures.runs
+    c.finish_on_scope.result (rw c.copied-token.ensures at (c.call_on-outcome.ensures.lent (with_place this None) lent))
+    (c.finish_on_scope.ensures.runs
     (with_place this (Some c.call_on-outcome.new.first))))))
     (λ none. call_kept rules (by_name false true) (by_value operation (Some c.in-Some.first.now) c.args.rest.now)
     (state_of (g.T.NativeTable.state c.args.table.now) c.args.global.now c.in-Some-scope.scope.now held)
@@ -265,7 +275,8 @@ returns-in-Some-scope-clause-names g c variables =
     (with_place this (Some c.call_on-outcome.new.first)))
     (state_of (g.T.NativeTable.state c.finish_on_scope.new.table) c.finish_on_scope.new.global c.finish_on_scope.new.scope
     (with_place this (Some c.call_on-outcome.new.first)))
-    c.finish_on_scope.result (rw c.copied-token.ensures at (c.call_on-outcome.ensures.lent (with_place this None) lent)) (c.finish_on_scope.ensures.runs
+    c.finish_on_scope.result (rw c.copied-token.ensures at (c.call_on-outcome.ensures.lent (with_place this None) lent))
+    (c.finish_on_scope.ensures.runs
     (with_place this (Some c.call_on-outcome.new.first)))))
     (λ none. call_names rules (by_name false true) (by_value operation (Some c.in-Some.first.now) c.args.rest.now)
     (state_of (g.T.NativeTable.state c.args.table.now) c.args.global.now c.in-Some-scope.scope.now held)
@@ -337,7 +348,7 @@ scope_left_2 g c place =
                     c.args.op_token,
                     (
                       Some (record c.in-Some.first { now = c.call_with-outcome.new.first }),
-                      (c.args.rest, five (five (five (five (five (five (tt, (tt, (tt, (tt, five (tt, (tt, tt)))))))))))),
+                      (c.args.rest, five (five (five (five (five (five (five (five (five (five (tt, (tt, tt)))))))))))),
                     ),
                   ),
                 ),
@@ -369,7 +380,13 @@ first_left_2 g c place =
               c.args.table,
               (
                 c.args.scope,
-                (c.args.name, (c.args.op_token, (place, (c.args.rest, (c.args.is_ref_mut, (c.args.is_method_call, (c.args.position, tt))))))),
+                (
+                  c.args.name,
+                  (
+                    c.args.op_token,
+                    (place, (c.args.rest, (c.args.is_ref_mut, (c.args.is_method_call, (c.args.position, tt))))),
+                  ),
+                ),
               ),
             ),
           ),
@@ -394,7 +411,7 @@ first_left_2 g c place =
                     c.args.op_token,
                     (
                       Some (record c.in-Some.first { now = c.call_with-outcome.new.first }),
-                      (c.args.rest, five (five (five (five (five (five (tt, (tt, (tt, (tt, five (tt, (tt, tt)))))))))))),
+                      (c.args.rest, five (five (five (five (five (five (five (five (five (five (tt, (tt, tt)))))))))))),
                     ),
                   ),
                 ),
@@ -414,7 +431,8 @@ returns-in-None-scope-clause-lent g c variables this lent =
     let operation : Operation = record { name = c.args.name.now; token = option_copied c.args.op_token; at = c.args.position } in
     lent_told rules operation c.args.rest.now (g.T.NativeTable.state c.args.table.now) (g.T.NativeTable.state c.finish_fresh.new.table)
     c.args.global.now c.finish_fresh.new.global c.finish_fresh.result variables
-    (loan_start c.args.scope) (scope_left_2 g c c.args.scope) None None (ap loan_start c.in-None-scope.is) (scope_is_2 g c) c.args.is_method_call
+    (loan_start c.args.scope) (scope_left_2 g c c.args.scope) None None (ap loan_start c.in-None-scope.is)
+    (scope_is_2 g c) c.args.is_method_call
     this (lent_value c.args.first) (first_left_2 g c c.args.first) (Some c.in-Some.first.now) (Some c.call_with-outcome.new.first)
     (ap lent_value c.in-Some.is) (first_is_2 g c)
     (call_ends rules (by_name c.args.is_method_call false) (on_place operation true (Some c.in-Some.first.now) c.args.rest.now)
@@ -561,10 +579,7 @@ scope_left_3 g c place =
                       c.args.first,
                       (
                         c.args.rest,
-                        five (five (five (five (five (five (
-                          tt,
-                          (tt, (tt, (tt, five (tt, (tt, tt))))),
-                        )))))),
+                        five (five (five (five (five (five (five (five (five (five (tt, (tt, tt))))))))))),
                       ),
                     ),
                   ),
@@ -587,7 +602,8 @@ returns-in-Some-scope-2-clause-by_value g c variables held none =
     value_told rules operation c.args.rest.now (g.T.NativeTable.state c.args.table.now)
     (g.T.NativeTable.state c.finish_on_scope-in-Some-scope-2.new.table) c.args.global.now c.finish_on_scope-in-Some-scope-2.new.global
     c.finish_on_scope-in-Some-scope-2.result variables
-    (loan_start c.args.scope) (scope_left_3 g c c.args.scope) (Some c.in-Some-scope-2.scope.now) (Some c.finish_on_scope-in-Some-scope-2.new.scope)
+    (loan_start c.args.scope) (scope_left_3 g c c.args.scope) (Some c.in-Some-scope-2.scope.now)
+    (Some c.finish_on_scope-in-Some-scope-2.new.scope)
     (ap loan_start c.in-Some-scope-2.is) (scope_is_3 g c) held (lent_value c.args.first) None (ap lent_value c.in-None.is)
     (call_ends rules (by_name false true) (by_value operation None [])
     (state_of (g.T.NativeTable.state c.args.table.now) c.args.global.now c.in-Some-scope-2.scope.now held)
@@ -597,7 +613,8 @@ returns-in-Some-scope-2-clause-by_value g c variables held none =
     (out_runs rules false c.args.position c.begin_bare_call-outcome.result
     (dispatch_core rules.setting (by_name false true) (by_value operation None []))
     (state_of (g.T.NativeTable.state c.args.table.now) c.args.global.now c.in-Some-scope-2.scope.now held)
-    (state_of (g.T.NativeTable.state c.begin_bare_call-outcome.new.table) c.begin_bare_call-outcome.new.global c.in-Some-scope-2.scope.now held)
+    (state_of (g.T.NativeTable.state c.begin_bare_call-outcome.new.table) c.begin_bare_call-outcome.new.global c.in-Some-scope-2.scope.now
+    held)
     (state_of (g.T.NativeTable.state c.finish_on_scope-in-Some-scope-2.new.table) c.finish_on_scope-in-Some-scope-2.new.global
     c.finish_on_scope-in-Some-scope-2.new.scope held)
     c.finish_on_scope-in-Some-scope-2.result (rw c.copied-token.ensures at
@@ -610,7 +627,8 @@ returns-in-Some-scope-2-clause-kept g c variables held =
     kept_told rules operation c.args.rest.now (g.T.NativeTable.state c.args.table.now)
     (g.T.NativeTable.state c.finish_on_scope-in-Some-scope-2.new.table) c.args.global.now c.finish_on_scope-in-Some-scope-2.new.global
     c.finish_on_scope-in-Some-scope-2.result variables
-    (loan_start c.args.scope) (scope_left_3 g c c.args.scope) (Some c.in-Some-scope-2.scope.now) (Some c.finish_on_scope-in-Some-scope-2.new.scope)
+    (loan_start c.args.scope) (scope_left_3 g c c.args.scope) (Some c.in-Some-scope-2.scope.now)
+    (Some c.finish_on_scope-in-Some-scope-2.new.scope)
     (ap loan_start c.in-Some-scope-2.is) (scope_is_3 g c) held
     (call_kept rules (by_name false true) (by_value operation None [])
     (state_of (g.T.NativeTable.state c.args.table.now) c.args.global.now c.in-Some-scope-2.scope.now held)
@@ -620,7 +638,8 @@ returns-in-Some-scope-2-clause-kept g c variables held =
     (out_runs rules false c.args.position c.begin_bare_call-outcome.result
     (dispatch_core rules.setting (by_name false true) (by_value operation None []))
     (state_of (g.T.NativeTable.state c.args.table.now) c.args.global.now c.in-Some-scope-2.scope.now held)
-    (state_of (g.T.NativeTable.state c.begin_bare_call-outcome.new.table) c.begin_bare_call-outcome.new.global c.in-Some-scope-2.scope.now held)
+    (state_of (g.T.NativeTable.state c.begin_bare_call-outcome.new.table) c.begin_bare_call-outcome.new.global c.in-Some-scope-2.scope.now
+    held)
     (state_of (g.T.NativeTable.state c.finish_on_scope-in-Some-scope-2.new.table) c.finish_on_scope-in-Some-scope-2.new.global
     c.finish_on_scope-in-Some-scope-2.new.scope held)
     c.finish_on_scope-in-Some-scope-2.result (rw c.copied-token.ensures at
@@ -641,7 +660,8 @@ returns-in-Some-scope-2-clause-names g c variables =
     (out_runs rules false c.args.position c.begin_bare_call-outcome.result
     (dispatch_core rules.setting (by_name false true) (by_value operation None []))
     (state_of (g.T.NativeTable.state c.args.table.now) c.args.global.now c.in-Some-scope-2.scope.now held)
-    (state_of (g.T.NativeTable.state c.begin_bare_call-outcome.new.table) c.begin_bare_call-outcome.new.global c.in-Some-scope-2.scope.now held)
+    (state_of (g.T.NativeTable.state c.begin_bare_call-outcome.new.table) c.begin_bare_call-outcome.new.global c.in-Some-scope-2.scope.now
+    held)
     (state_of (g.T.NativeTable.state c.finish_on_scope-in-Some-scope-2.new.table) c.finish_on_scope-in-Some-scope-2.new.global
     c.finish_on_scope-in-Some-scope-2.new.scope held)
     c.finish_on_scope-in-Some-scope-2.result (rw c.copied-token.ensures at
@@ -708,8 +728,7 @@ scope_left_4 g c place =
                       c.args.first,
                       (
                         c.args.rest,
-                        five (five (five (five (five
-                            (five (tt, (tt, (tt, (tt, five (tt, (tt, tt))))))))))),
+                        five (five (five (five (five (five (five (five (five (five (tt, (tt, tt))))))))))),
                       ),
                     ),
                   ),
@@ -774,11 +793,13 @@ returns-in-None-scope-2-clause-names g c variables =
 
 pub returns-in-Some-scope-clause-taken : goal.returns-in-Some-scope-clause-taken
 returns-in-Some-scope-clause-taken g c none =
-    first_is_1 g c ∙ ap Some (c.call_on-outcome.ensures.taken none) ∙ sym (ap (λ place. option_map (λ v. unit) (lent_value place)) c.in-Some.is)
+    first_is_1 g c ∙ ap Some (c.call_on-outcome.ensures.taken none)
+    ∙ sym (ap (λ place. option_map (λ v. unit) (lent_value place)) c.in-Some.is)
 
 pub returns-in-None-scope-clause-taken : goal.returns-in-None-scope-clause-taken
 returns-in-None-scope-clause-taken g c none =
-    first_is_2 g c ∙ ap Some (c.call_with-outcome.ensures.taken none) ∙ sym (ap (λ place. option_map (λ v. unit) (lent_value place)) c.in-Some.is)
+    first_is_2 g c ∙ ap Some (c.call_with-outcome.ensures.taken none)
+    ∙ sym (ap (λ place. option_map (λ v. unit) (lent_value place)) c.in-Some.is)
 
 -- what stands in the place of `first` as its loan ends, were this the place
 abbrev first_left_3 : (g : Over) → goal.After-finish_on_scope-in-Some-scope-2 g → Option (MutBor (Dynamic g.row.H.Denot)) → Option
@@ -799,7 +820,13 @@ first_left_3 g c place =
               c.args.table,
               (
                 c.args.scope,
-                (c.args.name, (c.args.op_token, (place, (c.args.rest, (c.args.is_ref_mut, (c.args.is_method_call, (c.args.position, tt))))))),
+                (
+                  c.args.name,
+                  (
+                    c.args.op_token,
+                    (place, (c.args.rest, (c.args.is_ref_mut, (c.args.is_method_call, (c.args.position, tt))))),
+                  ),
+                ),
               ),
             ),
           ),
@@ -829,13 +856,7 @@ first_left_3 g c place =
                       place,
                       (
                         c.args.rest,
-                        five (five (five (five (five (five (
-                          tt,
-                          (
-                            tt,
-                            (tt, (tt, five (tt, (tt, tt)))),
-                          ),
-                        )))))),
+                        five (five (five (five (five (five (five (five (five (five (tt, (tt, tt))))))))))),
                       ),
                     ),
                   ),
@@ -872,7 +893,13 @@ first_left_4 g c place =
               c.args.table,
               (
                 c.args.scope,
-                (c.args.name, (c.args.op_token, (place, (c.args.rest, (c.args.is_ref_mut, (c.args.is_method_call, (c.args.position, tt))))))),
+                (
+                  c.args.name,
+                  (
+                    c.args.op_token,
+                    (place, (c.args.rest, (c.args.is_ref_mut, (c.args.is_method_call, (c.args.position, tt))))),
+                  ),
+                ),
               ),
             ),
           ),
@@ -899,8 +926,7 @@ first_left_4 g c place =
                       place,
                       (
                         c.args.rest,
-                        five (five (five (five
-                            (five (five (tt, (tt, (tt, (tt, five (tt, (tt, tt))))))))))),
+                        five (five (five (five (five (five (five (five (five (five (tt, (tt, tt))))))))))),
                       ),
                     ),
                   ),

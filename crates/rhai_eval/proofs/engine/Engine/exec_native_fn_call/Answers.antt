@@ -6,8 +6,9 @@ use Rattle.rhai_machine.specs.language.Frames.{Operation, FromFocus}
 use Rattle.rhai_machine.specs.language.Setting.{Rules}
 use Rattle.rhai_machine.specs.language.State.{State}
 use Rattle.rhai_steps.specs.States.{state_of}
-use Rattle.rhai_eval.specs.States.{offer_of, under}
+use Rattle.rhai_eval.specs.States.{under}
 use Rattle.rhai_eval.specs.Places.{on_place, with_place}
+use Rattle.rhai_eval.proofs.Public.{five, session_rules}
 use Rattle.rhai_eval.proofs.ChangedCalls.{native_ends, native_in_place, native_alone, native_kept}
 use Rattle.rhai_eval.proofs.engine.Engine.exec_native_fn_call.Given.{Over}
 use Rattle.rhai_eval.proofs.engine.Engine.exec_native_fn_call.Lts.{ps, r, xs}
@@ -80,7 +81,7 @@ after g c place =
                                         tt,
                                         (
                                           tt,
-                                          (tt, (tt, (tt, (tt, (tt, (tt, (tt, (tt, (tt, (tt, tt)))))))))),
+                                          five (five (five (tt, (tt, tt)))),
                                         ),
                                       ),
                                     ),
@@ -109,16 +110,22 @@ returns-in-Some-clause-ends g c scope this =
     let rules : Rules _ _ = under g.H.Host.name_of c.args.self.now g.T.NativeTable.natives in
     let operation : Operation = record { name = c.args.name.now; token = option_copied c.args.op_token; at = c.args.position } in
     let call = on_place operation c.args.is_ref_mut (lent_value c.args.first) c.args.rest.now in
-    let old : State _ _ = state_of (g.T.NativeTable.state c.args.table.now) c.args.global.now scope (with_place this (lent_value c.args.first)) in
+    let old : State _ _ =
+    state_of (g.T.NativeTable.state c.args.table.now) c.args.global.now scope (with_place this (lent_value c.args.first)) in
     let new : State _ _ = state_of (g.T.NativeTable.state c.pass_native-result.new.table) c.pass_native-result.new.global scope
     (with_place this (after g c c.args.first)) in
     native_ends rules old new c.pass_native-result.result call
     (native_in_place rules operation c.args.is_ref_mut c.args.rest.now (g.T.NativeTable.state c.args.table.now)
     (g.T.NativeTable.state c.pass_native-result.new.table) c.args.global.now c.pass_native-result.new.global scope this
-    c.pass_native-result.result (lent_value c.args.first) (after g c c.args.first) c.in-Some.first.now c.pass_native-result.new.first (ap lent_value
+    c.pass_native-result.result (lent_value c.args.first) (after g c c.args.first) c.in-Some.first.now c.pass_native-result.new.first
+    (ap lent_value
     c.in-Some.is) (first_is g c)
-    (rw (c.copied-token.ensures, c.limits.ensures) at
-    (c.pass_native-result.ensures.runs (offer_of c.args.self.now) scope (with_place this (Some c.in-Some.first.now)) (Some
+    (rw (
+      c.copied-token.ensures,
+      (session_rules g.H.Host.name_of g.T.NativeTable.natives c.args.self.now c.session-session.result
+          c.session-session.ensures.limits c.session-session.ensures.offer),
+    ) at
+    (c.pass_native-result.ensures.runs scope (with_place this (Some c.in-Some.first.now)) (Some
     FromFocus) refl)))
 
 pub returns-in-Some-clause-kept : goal.returns-in-Some-clause-kept
@@ -126,16 +133,22 @@ returns-in-Some-clause-kept g c scope this =
     let rules : Rules _ _ = under g.H.Host.name_of c.args.self.now g.T.NativeTable.natives in
     let operation : Operation = record { name = c.args.name.now; token = option_copied c.args.op_token; at = c.args.position } in
     let call = on_place operation c.args.is_ref_mut (lent_value c.args.first) c.args.rest.now in
-    let old : State _ _ = state_of (g.T.NativeTable.state c.args.table.now) c.args.global.now scope (with_place this (lent_value c.args.first)) in
+    let old : State _ _ =
+    state_of (g.T.NativeTable.state c.args.table.now) c.args.global.now scope (with_place this (lent_value c.args.first)) in
     let new : State _ _ = state_of (g.T.NativeTable.state c.pass_native-result.new.table) c.pass_native-result.new.global scope
     (with_place this (after g c c.args.first)) in
     native_kept rules old new c.pass_native-result.result call
     (native_in_place rules operation c.args.is_ref_mut c.args.rest.now (g.T.NativeTable.state c.args.table.now)
     (g.T.NativeTable.state c.pass_native-result.new.table) c.args.global.now c.pass_native-result.new.global scope this
-    c.pass_native-result.result (lent_value c.args.first) (after g c c.args.first) c.in-Some.first.now c.pass_native-result.new.first (ap lent_value
+    c.pass_native-result.result (lent_value c.args.first) (after g c c.args.first) c.in-Some.first.now c.pass_native-result.new.first
+    (ap lent_value
     c.in-Some.is) (first_is g c)
-    (rw (c.copied-token.ensures, c.limits.ensures) at
-    (c.pass_native-result.ensures.runs (offer_of c.args.self.now) scope (with_place this (Some c.in-Some.first.now)) (Some
+    (rw (
+      c.copied-token.ensures,
+      (session_rules g.H.Host.name_of g.T.NativeTable.natives c.args.self.now c.session-session.result
+          c.session-session.ensures.limits c.session-session.ensures.offer),
+    ) at
+    (c.pass_native-result.ensures.runs scope (with_place this (Some c.in-Some.first.now)) (Some
     FromFocus) refl)))
 
 -- what stands in the place of the first argument as its loan ends, were this the place
@@ -201,7 +214,7 @@ after_none g c place =
                                         tt,
                                         (
                                           tt,
-                                          (tt, (tt, (tt, (tt, (tt, (tt, (tt, (tt, (tt, (tt, tt)))))))))),
+                                          five (five (five (tt, (tt, tt)))),
                                         ),
                                       ),
                                     ),
@@ -230,14 +243,19 @@ returns-in-None-clause-ends g c scope this =
     let rules : Rules _ _ = under g.H.Host.name_of c.args.self.now g.T.NativeTable.natives in
     let operation : Operation = record { name = c.args.name.now; token = option_copied c.args.op_token; at = c.args.position } in
     let call = on_place operation c.args.is_ref_mut (lent_value c.args.first) c.args.rest.now in
-    let old : State _ _ = state_of (g.T.NativeTable.state c.args.table.now) c.args.global.now scope (with_place this (lent_value c.args.first)) in
+    let old : State _ _ =
+    state_of (g.T.NativeTable.state c.args.table.now) c.args.global.now scope (with_place this (lent_value c.args.first)) in
     let new : State _ _ = state_of (g.T.NativeTable.state c.pass_native_alone-result.new.table) c.pass_native_alone-result.new.global scope
     (with_place this (after_none g c c.args.first)) in
     native_ends rules old new c.pass_native_alone-result.result call
     (native_alone rules operation c.args.is_ref_mut c.args.rest.now (g.T.NativeTable.state c.args.table.now)
     (g.T.NativeTable.state c.pass_native_alone-result.new.table) c.args.global.now c.pass_native_alone-result.new.global scope this
     c.pass_native_alone-result.result (lent_value c.args.first) (after_none g c c.args.first) (ap lent_value c.in-None.is) (none_is g c)
-    (rw (c.copied-token.ensures, c.limits.ensures) at (c.pass_native_alone-result.ensures.runs (offer_of c.args.self.now) scope
+    (rw (
+      c.copied-token.ensures,
+      (session_rules g.H.Host.name_of g.T.NativeTable.natives c.args.self.now c.session-session.result
+          c.session-session.ensures.limits c.session-session.ensures.offer),
+    ) at (c.pass_native_alone-result.ensures.runs scope
     (with_place this None))))
 
 pub returns-in-None-clause-kept : goal.returns-in-None-clause-kept
@@ -245,12 +263,17 @@ returns-in-None-clause-kept g c scope this =
     let rules : Rules _ _ = under g.H.Host.name_of c.args.self.now g.T.NativeTable.natives in
     let operation : Operation = record { name = c.args.name.now; token = option_copied c.args.op_token; at = c.args.position } in
     let call = on_place operation c.args.is_ref_mut (lent_value c.args.first) c.args.rest.now in
-    let old : State _ _ = state_of (g.T.NativeTable.state c.args.table.now) c.args.global.now scope (with_place this (lent_value c.args.first)) in
+    let old : State _ _ =
+    state_of (g.T.NativeTable.state c.args.table.now) c.args.global.now scope (with_place this (lent_value c.args.first)) in
     let new : State _ _ = state_of (g.T.NativeTable.state c.pass_native_alone-result.new.table) c.pass_native_alone-result.new.global scope
     (with_place this (after_none g c c.args.first)) in
     native_kept rules old new c.pass_native_alone-result.result call
     (native_alone rules operation c.args.is_ref_mut c.args.rest.now (g.T.NativeTable.state c.args.table.now)
     (g.T.NativeTable.state c.pass_native_alone-result.new.table) c.args.global.now c.pass_native_alone-result.new.global scope this
     c.pass_native_alone-result.result (lent_value c.args.first) (after_none g c c.args.first) (ap lent_value c.in-None.is) (none_is g c)
-    (rw (c.copied-token.ensures, c.limits.ensures) at (c.pass_native_alone-result.ensures.runs (offer_of c.args.self.now) scope
+    (rw (
+      c.copied-token.ensures,
+      (session_rules g.H.Host.name_of g.T.NativeTable.natives c.args.self.now c.session-session.result
+          c.session-session.ensures.limits c.session-session.ensures.offer),
+    ) at (c.pass_native_alone-result.ensures.runs scope
     (with_place this None))))

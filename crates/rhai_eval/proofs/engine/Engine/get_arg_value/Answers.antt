@@ -42,7 +42,7 @@ left_on g c place =
                 c.args.scope,
                 (
                   Some (record c.in-Some.place { now = c.give_back_with_this.new.this }),
-                  (c.args.arg_expr, five (five (five (five (five (five (five (five (tt, (tt, (tt, tt))))))))))),
+                  (c.args.arg_expr, five (five (five (five (five (five (five (five (tt))))))))),
                 ),
               ),
             ),
@@ -108,7 +108,7 @@ left_free g c place =
               c.args.table,
               (
                 c.args.scope,
-                (place, (c.args.arg_expr, five (five (five (five (five (five (five (five (tt, (tt, (tt, tt)))))))))))),
+                (place, (c.args.arg_expr, five (five (five (five (five (five (five (five (tt)))))))))),
               ),
             ),
           ),

@@ -5,8 +5,10 @@ use Rattle.rhai_steps.specs.States.{holding, state_of}
 use Rattle.rhai_eval_core.specs.Agreement.{SuitsNames}
 use Rattle.rhai_eval.specs.States.{under}
 use Rattle.std.specs.Option.{option_copied}
+use Rattle.rhai_machine.specs.language.Runs.{Goes}
+use Rattle.rhai_machine.specs.language.Frames.{core, ended}
 use Rattle.rhai_call_forms.specs.Leading.{all_args}
-use Rattle.rhai_eval_core.specs.Calls.{StartsAs, called}
+use Rattle.rhai_eval_core.specs.Calls.{called}
 use Rattle.rhai_eval.proofs.Begun.{call_kept, call_names, ends_from}
 use Rattle.rhai_eval.proofs.Public.{five, handed_free, handed_on, same_rules}
 use Rattle.rhai_eval.proofs.engine.Engine.make_function_call.Given.{Over}
@@ -80,7 +82,7 @@ left_on g c place =
                         c.args.first_arg,
                         (
                           c.args.args_expr,
-                          five (five (five (five (five (five (five (five (five (tt, tt))))))))),
+                          five (five (five (five (five (five (five (five (five (tt, (tt, (tt, (tt, tt)))))))))))),
                         ),
                       ),
                     ),
@@ -97,24 +99,26 @@ this_on : (g : Over) (c : goal.After-give_back_with_this g) → left_on g c c.ar
 this_on g c = subst (λ place. left_on g c place ≡ Some c.give_back_with_this.new.this) (sym c.in-Some.is) refl
 
 -- the run, where the caller has a `this`
-runs_on : (g : Over) (c : goal.After-give_back_with_this g) → StartsAs (under g.H.Host.name_of c.args.self.now g.T.NativeTable.natives)
+runs_on : (g : Over) (c : goal.After-give_back_with_this g) →
+    Goes (under g.H.Host.name_of c.args.self.now g.T.NativeTable.natives)
     (called (record { name = c.args.fn_name.now; token = option_copied c.args.op_token; at = c.args.pos })
     (all_args (option_copied c.args.first_arg) c.args.args_expr.now) c.args.capture_parent_scope)
     (state_of (g.T.NativeTable.state c.args.table.now) c.args.global.now c.args.scope.now (holding (lent_value c.args.this)))
-    c.finish-result.result (state_of (g.T.NativeTable.state c.run_call-done.new.table) c.give_back_with_this.new.global
+    (core (ended c.finish-result.result)) (state_of (g.T.NativeTable.state c.run_call-done.new.table) c.give_back_with_this.new.global
     c.give_back_with_this.new.scope (holding (left_on g c c.args.this)))
 runs_on g c =
     let reads = same_rules g.H.Host.name_of g.T.NativeTable.natives c.args.self.now c.evaluator-evaluator.result
     c.evaluator-evaluator.ensures.limits c.evaluator-evaluator.ensures.offer in
     let runs = (rw c.copied-token.ensures at (rw (← c.finish-result.ensures.came) at c.run_call-done.ensures.runs)) in
-    handed_on reads (λ r old new. StartsAs r (called (record {
+    handed_on reads (λ r old new. Goes r (called (record {
       name = c.args.fn_name.now;
       token = option_copied c.args.op_token;
       at =
           c.args.pos;
     }) (all_args (option_copied c.args.first_arg) c.args.args_expr.now) c.args.capture_parent_scope) old
-    c.finish-result.result new) (g.T.NativeTable.state c.args.table.now) (g.T.NativeTable.state c.run_call-done.new.table)
-    c.take_with_this-run.result c.run_call-done.new.run c.args.global.now c.give_back_with_this.new.global c.give_back_with_this.ensures.global
+    (core (ended c.finish-result.result)) new) (g.T.NativeTable.state c.args.table.now) (g.T.NativeTable.state c.run_call-done.new.table)
+    c.take_with_this-run.result c.run_call-done.new.run c.args.global.now c.give_back_with_this.new.global
+    c.give_back_with_this.ensures.global
     c.args.scope.now c.give_back_with_this.new.scope c.give_back_with_this.ensures.scope
     (call_kept (under_what_is_read g.H.Host.name_of c.evaluator-evaluator.result g.T.NativeTable.natives)
     (record { name = c.args.fn_name.now; token = option_copied c.args.op_token; at = c.args.pos })
@@ -122,7 +126,8 @@ runs_on g c =
     (rw c.copied-token.ensures at
     (rw (← c.finish-result.ensures.came) at c.run_call-done.ensures.runs))).bound (lent_value c.args.this) (left_on g c c.args.this)
     c.in-Some.place.now
-    c.give_back_with_this.new.this (ap lent_value c.in-Some.is) (this_on g c) c.take_with_this-run.ensures.run c.give_back_with_this.ensures.this runs
+    c.give_back_with_this.new.this (ap lent_value c.in-Some.is)
+    (this_on g c) c.take_with_this-run.ensures.run c.give_back_with_this.ensures.this runs
 
 pub returns-in-Some-clause-ends : goal.returns-in-Some-clause-ends
 returns-in-Some-clause-ends g c = ends_from (under g.H.Host.name_of c.args.self.now g.T.NativeTable.natives)
@@ -204,7 +209,7 @@ left_free g c place =
                         c.args.first_arg,
                         (
                           c.args.args_expr,
-                          five (five (five (five (five (five (five (five (five (tt, tt))))))))),
+                          five (five (five (five (five (five (five (five (five (tt, (tt, (tt, (tt, tt)))))))))))),
                         ),
                       ),
                     ),
@@ -221,20 +226,22 @@ this_free : (g : Over) (c : goal.After-give_back g) → left_free g c c.args.thi
 this_free g c = subst (λ place. left_free g c place ≡ None) (sym c.in-None.is) refl
 
 -- and where he has none
-runs_free : (g : Over) (c : goal.After-give_back g) → StartsAs (under g.H.Host.name_of c.args.self.now g.T.NativeTable.natives)
+runs_free : (g : Over) (c : goal.After-give_back g) →
+    Goes (under g.H.Host.name_of c.args.self.now g.T.NativeTable.natives)
     (called (record { name = c.args.fn_name.now; token = option_copied c.args.op_token; at = c.args.pos })
     (all_args (option_copied c.args.first_arg) c.args.args_expr.now) c.args.capture_parent_scope)
     (state_of (g.T.NativeTable.state c.args.table.now) c.args.global.now c.args.scope.now (holding (lent_value c.args.this)))
-    c.finish-result-in-None.result (state_of (g.T.NativeTable.state c.run_call-done-in-None.new.table) c.give_back.new.global
+    (core (ended c.finish-result-in-None.result)) (state_of (g.T.NativeTable.state c.run_call-done-in-None.new.table) c.give_back.new.global
     c.give_back.new.scope (holding (left_free g c c.args.this)))
 runs_free g c =
     let reads = same_rules g.H.Host.name_of g.T.NativeTable.natives c.args.self.now c.evaluator-evaluator.result
     c.evaluator-evaluator.ensures.limits c.evaluator-evaluator.ensures.offer in
     let runs = (rw c.copied-token.ensures at (rw (← c.finish-result-in-None.ensures.came) at c.run_call-done-in-None.ensures.runs)) in
-    handed_free reads (λ r old new. StartsAs r (called (record
+    handed_free reads (λ r old new. Goes r (called (record
     { name = c.args.fn_name.now; token = option_copied c.args.op_token; at = c.args.pos })
-    (all_args (option_copied c.args.first_arg) c.args.args_expr.now) c.args.capture_parent_scope) old c.finish-result-in-None.result
-    new) (g.T.NativeTable.state c.args.table.now) (g.T.NativeTable.state c.run_call-done-in-None.new.table) c.take-run.result
+    (all_args (option_copied c.args.first_arg) c.args.args_expr.now) c.args.capture_parent_scope) old
+    (core (ended c.finish-result-in-None.result)) new) (g.T.NativeTable.state c.args.table.now)
+    (g.T.NativeTable.state c.run_call-done-in-None.new.table) c.take-run.result
     c.run_call-done-in-None.new.run c.args.global.now c.give_back.new.global c.give_back.ensures.global c.args.scope.now
     c.give_back.new.scope c.give_back.ensures.scope (call_kept
     (under_what_is_read g.H.Host.name_of c.evaluator-evaluator.result g.T.NativeTable.natives)

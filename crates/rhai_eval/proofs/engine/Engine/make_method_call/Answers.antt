@@ -4,7 +4,8 @@ use Rattle.rhai_state.specs.declared.scope.Scope.{Scope}
 use Rattle.rhai_state.specs.declared.state.GlobalRuntimeState.{GlobalRuntimeState}
 use Rattle.rhai_places.specs.Targets.{is_shared, shown}
 use Rattle.rhai_machine.specs.language.Methods.{Method, method_core}
-use Rattle.rhai_steps.specs.OnFocus.{RunsFrom}
+use Rattle.rhai_machine.specs.language.Runs.{Goes}
+use Rattle.rhai_machine.specs.language.Frames.{core, ended_or_changed}
 use Rattle.rhai_methods.specs.Targets.{on_target, value_walked_on}
 use Rattle.rhai_steps.specs.States.{state_of}
 use Rattle.rhai_context.specs.declared.Context.{Context}
@@ -27,19 +28,20 @@ method g c = record {
 
 -- its run, over what the caller handed in
 method_runs : (g : Over) (c : goal.After-call_args-2-1 g) (scope : Scope g.row.H.Denot) (this : Option (Dynamic g.row.H.Denot)) →
-    RunsFrom (under g.H.Host.name_of c.args.self.now g.T.NativeTable.natives)
+    Goes (under g.H.Host.name_of c.args.self.now g.T.NativeTable.natives)
     (on_target (under g.H.Host.name_of c.args.self.now g.T.NativeTable.natives).setting (method g c) c.args.call_args.now
-    c.args.target.now.part c.args.target.now.at.now)
-    (state_of (g.T.NativeTable.state c.args.table.now) c.args.global.now scope
+    c.args.target.now.part c.args.target.now.at.now) (state_of (g.T.NativeTable.state c.args.table.now) c.args.global.now scope
     (with_place this (Some (shown c.args.target.now.part c.args.target.now.at.now))))
-    c.call_on_target-result.result
+    (core (ended_or_changed c.call_on_target-result.result))
     (state_of (g.T.NativeTable.state c.call_on_target-result.new.table) c.give_back.new.global scope
     (with_place this (Some (value_walked_on c.call_on_target-result.new.target.part c.call_on_target-result.new.target.at.now))))
 method_runs g c scope this =
     let reads = same_rules g.H.Host.name_of g.T.NativeTable.natives c.args.self.now c.evaluator-evaluator.result
     c.evaluator-evaluator.ensures.limits c.evaluator-evaluator.ensures.offer in
-    handed_apart reads (λ rules old new. RunsFrom rules (on_target rules.setting (method g c) c.args.call_args.now c.args.target.now.part
-    c.args.target.now.at.now) old c.call_on_target-result.result new) _ _ c.take-run.result c.call_on_target-result.new.run c.args.global.now
+    handed_apart reads (λ rules old new. Goes rules (on_target rules.setting (method g c) c.args.call_args.now c.args.target.now.part
+    c.args.target.now.at.now) old (core (ended_or_changed c.call_on_target-result.result)) new) _ _ c.take-run.result
+    c.call_on_target-result.new.run
+    c.args.global.now
     c.give_back.new.global c.give_back.ensures.global scope scope
     (with_place this (Some (shown c.args.target.now.part c.args.target.now.at.now)))
     (with_place this (Some (value_walked_on c.call_on_target-result.new.target.part c.call_on_target-result.new.target.at.now)))
@@ -58,11 +60,13 @@ returns-clause-shows g c scope this memory =
     let reads = same_rules g.H.Host.name_of g.T.NativeTable.natives c.args.self.now c.evaluator-evaluator.result
     c.evaluator-evaluator.ensures.limits c.evaluator-evaluator.ensures.offer in
     handed_apart reads (λ rules old new. EndsAlone rules (method_core rules.setting (method g c) c.args.call_args.now
-    (shown c.args.target.now.part c.args.target.now.at.now)) old new) _ _ c.take-run.result c.call_on_target-result.new.run c.args.global.now
+    (shown c.args.target.now.part c.args.target.now.at.now)) old new) _ _ c.take-run.result c.call_on_target-result.new.run
+    c.args.global.now
     c.give_back.new.global c.give_back.ensures.global scope scope
     (with_place this (Some (shown c.args.target.now.part c.args.target.now.at.now)))
     (with_place this (Some (shown c.call_on_target-result.new.target.part c.call_on_target-result.new.target.at.now)))
-    (ap (λ (run : Context _). run.global) c.take-run.ensures.run) (c.call_on_target-result.ensures.shows scope (with_place this None) memory)
+    (ap (λ (run : Context _). run.global) c.take-run.ensures.run)
+    (c.call_on_target-result.ensures.shows scope (with_place this None) memory)
 
 pub returns-clause-search : goal.returns-clause-search
 returns-clause-search g c = ap (λ (global : GlobalRuntimeState _). global.always_search_scope) c.give_back.ensures.global

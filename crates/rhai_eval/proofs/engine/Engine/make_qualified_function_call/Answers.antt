@@ -77,8 +77,7 @@ left_on g c place =
                       c.args.fn_name,
                       (
                         c.args.args_expr,
-                        five (five (five
-                            (five (five (five (five (five (tt)))))))),
+                        five (five (five (five (five (five (five (tt, (tt, tt)))))))),
                       ),
                     ),
                   ),
@@ -103,18 +102,20 @@ runs_on g c =
     let reads = same_rules g.H.Host.name_of g.T.NativeTable.natives c.args.self.now c.evaluator-evaluator.result
     c.evaluator-evaluator.ensures.limits c.evaluator-evaluator.ensures.offer in
     let runs = (rw (← c.finish-result.ensures.came) at (c.run_qualified_call-done.ensures.runs None false (no_operator
-    c.evaluator-evaluator.result.fast_operators c.args.args_expr.now))) in
+    c.evaluator-evaluator.result.session.fast_operators c.args.args_expr.now))) in
     handed_on reads (λ r old new. Runs r (behind c.args.namespace.now c.args.fn_name.now c.args.args_expr.now c.args.pos) old
     c.finish-result.result
     new) (g.T.NativeTable.state c.args.table.now) (g.T.NativeTable.state c.run_qualified_call-done.new.table) c.take_with_this-run.result
-    c.run_qualified_call-done.new.run c.args.global.now c.give_back_with_this.new.global c.give_back_with_this.ensures.global c.args.scope.now
+    c.run_qualified_call-done.new.run c.args.global.now c.give_back_with_this.new.global c.give_back_with_this.ensures.global
+    c.args.scope.now
     c.give_back_with_this.new.scope c.give_back_with_this.ensures.scope
     (kept (under_what_is_read g.H.Host.name_of c.evaluator-evaluator.result g.T.NativeTable.natives)
     (behind c.args.namespace.now c.args.fn_name.now c.args.args_expr.now c.args.pos) (ended c.finish-result.result) _ _ tt
     (rw (← c.finish-result.ensures.came) at (c.run_qualified_call-done.ensures.runs None false (no_operator
-    c.evaluator-evaluator.result.fast_operators c.args.args_expr.now)))).bound (lent_value c.args.this) (left_on g c c.args.this)
+    c.evaluator-evaluator.result.session.fast_operators c.args.args_expr.now)))).bound (lent_value c.args.this) (left_on g c c.args.this)
     c.in-Some.place.now
-    c.give_back_with_this.new.this (ap lent_value c.in-Some.is) (this_on g c) c.take_with_this-run.ensures.run c.give_back_with_this.ensures.this runs
+    c.give_back_with_this.new.this (ap lent_value c.in-Some.is)
+    (this_on g c) c.take_with_this-run.ensures.run c.give_back_with_this.ensures.this runs
 
 pub returns-in-Some-clause-ends : goal.returns-in-Some-clause-ends
 returns-in-Some-clause-ends g c = ends_as (under g.H.Host.name_of c.args.self.now g.T.NativeTable.natives)
@@ -173,8 +174,7 @@ left_free g c place =
                       c.args.fn_name,
                       (
                         c.args.args_expr,
-                        five (five
-                            (five (five (five (five (five (five (tt)))))))),
+                        five (five (five (five (five (five (five (tt, (tt, tt)))))))),
                       ),
                     ),
                   ),
@@ -199,7 +199,7 @@ runs_free g c =
     let reads = same_rules g.H.Host.name_of g.T.NativeTable.natives c.args.self.now c.evaluator-evaluator.result
     c.evaluator-evaluator.ensures.limits c.evaluator-evaluator.ensures.offer in
     let runs = (rw (← c.finish-result-in-None.ensures.came) at (c.run_qualified_call-done-in-None.ensures.runs None false (no_operator
-    c.evaluator-evaluator.result.fast_operators c.args.args_expr.now))) in
+    c.evaluator-evaluator.result.session.fast_operators c.args.args_expr.now))) in
     handed_free reads (λ r old new. Runs r (behind c.args.namespace.now c.args.fn_name.now c.args.args_expr.now c.args.pos) old
     c.finish-result-in-None.result new) (g.T.NativeTable.state c.args.table.now)
     (g.T.NativeTable.state c.run_qualified_call-done-in-None.new.table) c.take-run.result c.run_qualified_call-done-in-None.new.run
@@ -207,7 +207,8 @@ runs_free g c =
     (kept (under_what_is_read g.H.Host.name_of c.evaluator-evaluator.result g.T.NativeTable.natives)
     (behind c.args.namespace.now c.args.fn_name.now c.args.args_expr.now c.args.pos) (ended c.finish-result-in-None.result) _ _ tt
     (rw (← c.finish-result-in-None.ensures.came) at (c.run_qualified_call-done-in-None.ensures.runs None false (no_operator
-    c.evaluator-evaluator.result.fast_operators c.args.args_expr.now)))).bound (lent_value c.args.this) (left_free g c c.args.this) (ap lent_value
+    c.evaluator-evaluator.result.session.fast_operators c.args.args_expr.now)))).bound (lent_value c.args.this) (left_free g c c.args.this)
+    (ap lent_value
     c.in-None.is)
     (this_free g c) c.take-run.ensures.run runs
 

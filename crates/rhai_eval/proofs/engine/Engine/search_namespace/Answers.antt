@@ -1,3 +1,4 @@
+use Rattle.std.proofs.Common.{ap}
 use Rattle.rhai_tree.specs.declared.expr.Expr.{out-Expr}
 use Rattle.rhai_machine.specs.language.Setting.{globals_of}
 use Rattle.rhai_state.specs.Scope.{entries_of}
@@ -13,7 +14,7 @@ returns-then-is_behind_path-clause-found g c =
     rw c.spare_mut.ensures.value (found_in_module global.always_search_scope (globals_of (offer_of c.args.self.now))
     (surroundings_of global)
     (entries_of c.args.scope.now) (out-Expr c.args.expr.now) _ (c.is_behind_path.ensures.behind c.if-is_behind_path.true)
-    (rw c.offered.ensures at c.in_ok-value.ensures))
+    (rw (ap globals_of c.session.ensures.offer) at c.in_ok-value.ensures))
 
 pub returns-in_err-value-clause-missed : goal.returns-in_err-value-clause-missed
 returns-in_err-value-clause-missed g c =
@@ -21,7 +22,7 @@ returns-in_err-value-clause-missed g c =
     missed_in_module global.always_search_scope (globals_of (offer_of c.args.self.now)) (surroundings_of global) (entries_of
     c.args.scope.now)
     (out-Expr c.args.expr.now) c.from_residual.result _ (c.is_behind_path.ensures.behind c.if-is_behind_path.true)
-    (passed c.from_residual.result c.from_residual.ensures) (rw c.offered.ensures at c.in_err-value.ensures)
+    (passed c.from_residual.result c.from_residual.ensures) (rw (ap globals_of c.session.ensures.offer) at c.in_err-value.ensures)
 
 pub search_scope_only-requires : goal.search_scope_only-requires
 search_scope_only-requires g c = record {

@@ -1,4 +1,4 @@
-use Rattle.std.proofs.Common.{Ok, ◌∙◌}
+use Rattle.std.proofs.Common.{Ok, ap, ◌∙◌}
 use Rattle.rhai_tree.specs.declared.expr.Expr.{out-Expr}
 use Rattle.rhai_machine.specs.language.Setting.{globals_of}
 use Rattle.rhai_state.specs.Scope.{entries_of}
@@ -34,7 +34,7 @@ returns-clause-found g c =
     (entries_of c.args.scope.now)) c.is_some-is_there.result c.seen_variable.ensures c.is_some-is_there.ensures ∙ c.if-is_there.false in
     rw c.spare_mut.ensures.value (found_beside global.always_search_scope (globals_of (offer_of c.args.self.now)) (surroundings_of global)
     (entries_of c.args.scope.now)
-    (out-Expr c.args.expr.now) _ none (rw c.offered.ensures at c.in_ok-value.ensures))
+    (out-Expr c.args.expr.now) _ none (rw (ap globals_of c.session.ensures.offer) at c.in_ok-value.ensures))
 
 pub returns-in_err-value-clause-missed : goal.returns-in_err-value-clause-missed
 returns-in_err-value-clause-missed g c =
@@ -44,4 +44,5 @@ returns-in_err-value-clause-missed g c =
     missed_beside global.always_search_scope (globals_of (offer_of c.args.self.now)) (surroundings_of global) (entries_of c.args.scope.now)
     (out-Expr c.args.expr.now)
     c.from_residual-in_err-value.result _ none
-    (passed c.from_residual-in_err-value.result c.from_residual-in_err-value.ensures) (rw c.offered.ensures at c.in_err-value.ensures)
+    (passed c.from_residual-in_err-value.result c.from_residual-in_err-value.ensures)
+    (rw (ap globals_of c.session.ensures.offer) at c.in_err-value.ensures)

@@ -1,19 +1,20 @@
 use Rattle.std.proofs.Common.{Some, refl, ◌∙◌}
 use Rattle.rhai_machine.specs.language.Frames.{FromFocus}
 use Rattle.rhai_machine.specs.language.Members.{set_item}
-use Rattle.rhai_machine.specs.language.Setting.{Rules, rules_of}
+use Rattle.rhai_machine.specs.language.Setting.{Rules}
+use Rattle.rhai_steps.specs.Sessions.{under}
 use Rattle.rhai_steps.specs.States.{state_of}
 use Rattle.rhai_steps.specs.OnFocus.{lending}
 use Rattle.rhai_eval.proofs.Indexed.{both_are, asking_runs_out}
 use Rattle.rhai_eval.proofs.eval.indexing.ask_set.Goals as goal
 
 pub returns-in-Ok-clause-runs : goal.returns-in-Ok-clause-runs
-returns-in-Ok-clause-runs g c offer scope held =
+returns-in-Ok-clause-runs g c scope held =
     let lent = c.as_slice-rest.ensures ∙ both_are _ _ _ _ _ c.in-Ok.ensures.ok c.replace.ensures.value c.replace-2.ensures.value in
-    rw lent at (c.pass_native-result.ensures.runs offer scope (lending held c.args.object.now) (Some FromFocus) refl)
+    rw lent at (c.pass_native-result.ensures.runs scope (lending held c.args.object.now) (Some FromFocus) refl)
 
 pub returns-in-Err-clause-runs : goal.returns-in-Err-clause-runs
-returns-in-Err-clause-runs g c offer scope held =
-    let rules : Rules _ _ = rules_of c.args.limits.now g.H.Host.name_of offer g.T.NativeTable.natives in
+returns-in-Err-clause-runs g c scope held =
+    let rules : Rules _ _ = under g.H.Host.name_of c.args.session.now g.T.NativeTable.natives in
     asking_runs_out rules (set_item c.args.pos c.args.guarded c.args.object.now c.args.index.now c.args.new.now)
     (state_of (g.T.NativeTable.state c.args.table.now) c.args.global.now scope (lending held c.args.object.now)) c.args.pos

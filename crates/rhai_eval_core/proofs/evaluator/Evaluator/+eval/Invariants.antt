@@ -12,10 +12,13 @@ use Rattle.rhai_machine.specs.language.Values.{unit_value}
 use Rattle.rhai_machine.specs.language.Cases.{default_of, results_of}
 use Rattle.rhai_machine.specs.language.Walks.{counters}
 use Rattle.rhai_machine.specs.language.Frames.{Choose, DoTurn, ForTurn, Frame, OpenStmt, Purpose, RestoreScope, Run, WhileTurn}
-use Rattle.rhai_machine.specs.language.Runs.{at, with_core, Goes, Steps}
+use Rattle.rhai_machine.specs.language.Runs.{at, with_core, Steps}
 use Rattle.rhai_machine.specs.language.Arguments.{arguments_core, flattens}
 use Rattle.rhai_machine.specs.language.Data.{entries_core, items_core, parts_core}
 use Rattle.rhai_machine.specs.language.Expressions.{coalesce_core}
+use Rattle.rhai_machine.specs.machine.Memory.{Leads}
+use Rattle.rhai_machine.specs.language.Language.{machine}
+use Rattle.rhai_machine.specs.language.Setting.{cut}
 use Rattle.rhai_tree.specs.declared.expr.Expr.TheOpen as layer
 use Rattle.rhai_tree.specs.declared.position.Position.{Position}
 use Rattle.rhai_choices.specs.Candidates.{numbers_left}
@@ -39,7 +42,7 @@ behind_of link = option_map out-Expr (option_copied link.behind)
 
 -- how many operations may still be charged
 abbrev left : {H : Type 0} → Evaluator H → Context H → ℕ
-left evaluator run = evaluator.limits.now.max_operations - run.global.num_operations
+left evaluator run = evaluator.session.limits.max_operations - run.global.num_operations
 
 -- an operation counts more than all links of a chain, and a link more than any rank
 abbrev measured : {H : Type 0} → Evaluator H → Context H → (links rank : ℕ) → ℕ
@@ -250,7 +253,8 @@ abbrev pub invariant-run_until-each_part : goal.invariant-run_until-each_part
 invariant-run_until-each_part g l = record {
   counts : l.fn.run.global.num_operations ≤ l.run.global.num_operations;
   names : KeepsNames l.fn.run l.run;
-  steps : (k : List (Frame g.row.H.Denot)) → Goes (under g.H.Host.name_of l.self g.T.NativeTable.natives)
+  steps : (k : List (Frame g.row.H.Denot)) →
+      Leads (machine (under g.H.Host.name_of l.self g.T.NativeTable.natives)) (cut (under g.H.Host.name_of l.self g.T.NativeTable.natives))
       (with_core (until_core l.stop l.parts k (state_in (g.T.NativeTable.state l.fn.table) l.fn.run).local)
       (state_in (g.T.NativeTable.state l.fn.table) l.fn.run))
       (with_core (until_core l.stop (drop l.part-index l.parts) k (state_in (g.T.NativeTable.state l.table) l.run).local)
@@ -261,7 +265,8 @@ abbrev pub invariant-run_coalesce-each_part : goal.invariant-run_coalesce-each_p
 invariant-run_coalesce-each_part g l = record {
   counts : l.fn.run.global.num_operations ≤ l.run.global.num_operations;
   names : KeepsNames l.fn.run l.run;
-  steps : (k : List (Frame g.row.H.Denot)) → Goes (under g.H.Host.name_of l.self g.T.NativeTable.natives)
+  steps : (k : List (Frame g.row.H.Denot)) →
+      Leads (machine (under g.H.Host.name_of l.self g.T.NativeTable.natives)) (cut (under g.H.Host.name_of l.self g.T.NativeTable.natives))
       (with_core (coalesce_core unit_value l.parts k (state_in (g.T.NativeTable.state l.fn.table) l.fn.run).local)
       (state_in (g.T.NativeTable.state l.fn.table) l.fn.run))
       (with_core (coalesce_core l.run.value (drop l.part-index l.parts) k (state_in (g.T.NativeTable.state l.table) l.run).local)
@@ -274,7 +279,7 @@ invariant-run_more_args-each_arg g l = record {
   names : KeepsNames l.fn.run l.run;
   more : length l.values + length (drop l.arg-index l.args) ≡ length l.fn.values + length l.args;
   steps : (purpose : Purpose g.row.H.Denot) → flattens purpose ≡ l.flattened → (k : List (Frame g.row.H.Denot)) →
-      Goes (under g.H.Host.name_of l.self g.T.NativeTable.natives)
+      Leads (machine (under g.H.Host.name_of l.self g.T.NativeTable.natives)) (cut (under g.H.Host.name_of l.self g.T.NativeTable.natives))
       (with_core (arguments_core (under g.H.Host.name_of l.self g.T.NativeTable.natives).setting purpose l.fn.values l.args k
       (state_in (g.T.NativeTable.state l.fn.table) l.fn.run).local)
       (state_in (g.T.NativeTable.state l.fn.table) l.fn.run))
@@ -297,7 +302,8 @@ invariant-run_array-each_item g l = record {
   counts : l.fn.run.global.num_operations ≤ l.run.global.num_operations;
   names : KeepsNames l.fn.run l.run;
   measured : IsMeasured l.made;
-  steps : (k : List (Frame g.row.H.Denot)) → Goes (under g.H.Host.name_of l.self g.T.NativeTable.natives)
+  steps : (k : List (Frame g.row.H.Denot)) →
+      Leads (machine (under g.H.Host.name_of l.self g.T.NativeTable.natives)) (cut (under g.H.Host.name_of l.self g.T.NativeTable.natives))
       (with_core (items_core [] l.items k (state_in (g.T.NativeTable.state l.fn.table) l.fn.run).local)
       (state_in (g.T.NativeTable.state l.fn.table) l.fn.run))
       (with_core (items_core l.made.items (drop l.item-index l.items) k (state_in (g.T.NativeTable.state l.table) l.run).local)
@@ -309,7 +315,8 @@ invariant-run_map-each_entry g l = record {
   counts : l.fn.run.global.num_operations ≤ l.run.global.num_operations;
   names : KeepsNames l.fn.run l.run;
   counted : IsCounted l.made;
-  steps : (k : List (Frame g.row.H.Denot)) → Goes (under g.H.Host.name_of l.self g.T.NativeTable.natives)
+  steps : (k : List (Frame g.row.H.Denot)) →
+      Leads (machine (under g.H.Host.name_of l.self g.T.NativeTable.natives)) (cut (under g.H.Host.name_of l.self g.T.NativeTable.natives))
       (with_core (entries_core (map key_of l.entries) [] l.entries k (state_in (g.T.NativeTable.state l.fn.table) l.fn.run).local)
       (state_in (g.T.NativeTable.state l.fn.table) l.fn.run))
       (with_core (entries_core (map key_of l.entries) l.made.values (drop l.entry-index l.entries) k
@@ -321,7 +328,8 @@ abbrev pub invariant-run_interpolated-each_part : goal.invariant-run_interpolate
 invariant-run_interpolated-each_part g l = record {
   counts : l.fn.run.global.num_operations ≤ l.run.global.num_operations;
   names : KeepsNames l.fn.run l.run;
-  steps : (k : List (Frame g.row.H.Denot)) → Goes (under g.H.Host.name_of l.self g.T.NativeTable.natives)
+  steps : (k : List (Frame g.row.H.Denot)) →
+      Leads (machine (under g.H.Host.name_of l.self g.T.NativeTable.natives)) (cut (under g.H.Host.name_of l.self g.T.NativeTable.natives))
       (with_core (parts_core [] l.parts k (state_in (g.T.NativeTable.state l.fn.table) l.fn.run).local)
       (state_in (g.T.NativeTable.state l.fn.table) l.fn.run))
       (with_core (parts_core (string_bytes l.text) (drop l.part-index l.parts) k (state_in (g.T.NativeTable.state l.table) l.run).local)
@@ -378,7 +386,7 @@ invariant-run_for-turns g l = record {
   base : l.base + counters l.parts.counter.now + 1 ≡ length (names l.run);
   names : ChangesNames l.fn.run (naming (turn_names l.parts.variable.now l.parts.counter.now)) l.run;
   steps : (pos : Position) (restoring : Bool) (k : List (Frame g.row.H.Denot)) →
-      Goes (under g.H.Host.name_of l.self g.T.NativeTable.natives)
+      Leads (machine (under g.H.Host.name_of l.self g.T.NativeTable.natives)) (cut (under g.H.Host.name_of l.self g.T.NativeTable.natives))
       (at (OpenStmt (layer.For l.parts.variable.now l.parts.counter.now l.parts.items.now l.parts.body.now pos) restoring) k
       (state_in (g.T.NativeTable.state l.fn.table) l.fn.run))
       (at (ForTurn (loop_in l.parts) (turns_in l.turns) l.turn l.base) (RestoreScope l.base ∷ k)

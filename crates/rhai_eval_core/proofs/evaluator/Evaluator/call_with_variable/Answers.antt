@@ -1,9 +1,8 @@
-use Rattle.std.proofs.Common.{arith, false, refl}
+use Rattle.std.proofs.Common.{arith, false}
+use Rattle.rhai_machine.specs.language.Runs.{Goes}
 use Rattle.rhai_steps.specs.States.{holding}
 use Rattle.rhai_steps.proofs.Agreeing.{stays}
-use Rattle.rhai_callees.specs.Going.{GoesOut}
 use Rattle.rhai_eval_core.specs.Agreement.{KeepsNames, SuitsNames}
-use Rattle.rhai_eval_core.specs.States.{offer_of}
 use Rattle.rhai_eval_core.proofs.evaluator.Evaluator.call_with_variable.Goals as goal
 
 pub call_on_variable-requires : goal.call_on_variable-requires
@@ -15,6 +14,6 @@ unfolding KeepsNames
 returns-clause-names g c = stays c.call_on_variable.ensures.sight c.call_on_variable.ensures.names
 
 pub returns-clause-runs : goal.returns-clause-runs
-unfolding GoesOut
+unfolding Goes
 returns-clause-runs g c k =
-    (c.call_on_variable.ensures.runs (offer_of c.args.self.now) (holding c.args.run.now.this) false (refl, refl) k)
+    (c.call_on_variable.ensures.runs (holding c.args.run.now.this) false k)

@@ -1,8 +1,5 @@
-use Rattle.std.proofs.Common.{refl}
 use Rattle.rhai_steps.specs.States.{holding}
-use Rattle.rhai_eval_core.specs.States.{offer_of}
 use Rattle.rhai_eval_core.proofs.evaluator.Evaluator.operate_on_two.Goals as goal
 
 pub returns-clause-runs : goal.returns-clause-runs
-returns-clause-runs g c k =
-    c.operate_two.ensures.runs (offer_of c.args.self.now) c.args.run.now.scope (holding c.args.run.now.this) (refl, refl) k
+returns-clause-runs g c = c.operate_two.ensures.runs c.args.run.now.scope (holding c.args.run.now.this)

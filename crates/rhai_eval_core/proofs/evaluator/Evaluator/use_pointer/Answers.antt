@@ -1,20 +1,20 @@
 use Rattle.std.proofs.Common.{◌++◌}
+use Rattle.rhai_machine.specs.language.Runs.{Goes}
 use Rattle.rhai_steps.specs.States.{holding}
 use Rattle.rhai_steps.proofs.Pieces.{told}
 use Rattle.rhai_calls.specs.Called.{with_args}
-use Rattle.rhai_callees.specs.Going.{GoesOn, GoesOut}
-use Rattle.rhai_eval_core.specs.States.{offer_of, under}
+use Rattle.rhai_eval_core.specs.States.{under}
 use Rattle.rhai_eval_core.proofs.CallSteps.{linked_goes}
 use Rattle.rhai_eval_core.proofs.evaluator.Evaluator.use_pointer.Goals as goal
 
 pub returns-in-Curry-clause-runs : goal.returns-in-Curry-clause-runs
-unfolding GoesOut
+unfolding Goes
 returns-in-Curry-clause-runs g c k =
     let rules = under g.H.Host.name_of c.args.self.now g.T.NativeTable.natives in
     rw c.in-Curry.is (told rules _ _ c.with_curried.ensures k _)
 
 pub returns-in-Linked-clause-runs : goal.returns-in-Linked-clause-runs
-unfolding GoesOut
+unfolding Goes
 returns-in-Linked-clause-runs g c k =
     let rules = under g.H.Host.name_of c.args.self.now g.T.NativeTable.natives in
     rw c.in-Linked.is
@@ -22,7 +22,7 @@ returns-in-Linked-clause-runs g c k =
     (with_args c.call_function.result c.call_function.new.args) c.call_function.ensures)
 
 pub returns-in-Number-clause-runs : goal.returns-in-Number-clause-runs
-unfolding GoesOn GoesOut
+unfolding Goes
 returns-in-Number-clause-runs g c k =
     rw c.in-Number.is
-    (c.call_number.ensures.runs (offer_of c.args.self.now) c.args.run.now.scope (holding c.args.run.now.this) k)
+    (c.call_number.ensures.runs c.args.run.now.scope (holding c.args.run.now.this) k)

@@ -7,19 +7,17 @@ use Rattle.rhai_machine.specs.language.Activations.{NoThis, OwnThis, TheFocus}
 use Rattle.rhai_values.specs.Cells.{cells_of}
 use Rattle.rhai_machine.specs.language.Calls.{entry_of, is_held}
 use Rattle.rhai_machine.specs.language.Frames.{Enter, EnterFunction, EnterOnFocus, ended}
-use Rattle.rhai_machine.specs.language.Runs.{Runs, Steps}
+use Rattle.rhai_machine.specs.language.Runs.{Runs, Goes}
 use Rattle.rhai_machine.specs.language.State.{Held, deeper}
 use Rattle.rhai_steps.specs.States.{holding, local_of, state_of}
 use Rattle.rhai_bodies.specs.Closing.{taken_back}
 use Rattle.rhai_bodies.specs.declared.callers.Captured.{Captured}
 use Rattle.rhai_context.specs.declared.Context.{Context}
 use Rattle.rhai_laws.proofs.KeptLaws.{counted, kept, names_stay}
-use Rattle.rhai_steps.specs.OnFocus.{lending, RunsFrom}
-use Rattle.rhai_methods.specs.Methods.{CallsFrom}
+use Rattle.rhai_steps.specs.OnFocus.{lending}
 use Rattle.rhai_eval_core.specs.Agreement.{ChangesNames, KeepsNames, RestoresNames, SuitsNames, sight_in}
 use Rattle.rhai_eval_core.specs.Bodies.{entered}
-use Rattle.rhai_eval_core.specs.Calls.{StartsAs}
-use Rattle.rhai_eval_core.specs.States.{offer_of, under}
+use Rattle.rhai_eval_core.specs.States.{under}
 use Rattle.rhai_eval_core.proofs.BodyLemmas.{body_resolves, brings_no_charge, captured_ends, failed_ends, fresh_ends, passed_ends}
 use Rattle.rhai_eval_core.proofs.BodyLemmas.{refused_ends, whole_ends}
 use Rattle.rhai_steps.proofs.Agreeing.{stays}
@@ -123,26 +121,26 @@ run_body-returns-in-Ok-Some-clause-runs g t c scope held object is_fresh scope_i
 
 pub run_body-returns-then-not-charge-clause-args : goal.run_body-returns-then-not-charge-clause-args
 run_body-returns-then-not-charge-clause-args g t c memory =
-    rw (entered_never c.args.self.now.limits.now c.args.run.now.global.num_operations c.args.level
+    rw (entered_never c.args.self.now.session.limits c.args.run.now.global.num_operations c.args.level
     (length (entries_of c.args.run.now.scope)) c.args.def.now (c.if-not-charge.ensures.full refl)) refl
 
 pub run_body-returns-in-Err-clause-args : goal.run_body-returns-in-Err-clause-args
 run_body-returns-in-Err-clause-args g t c memory =
     let has = rw (c.stop.ensures.stopped, c.stop.ensures.told) at memory in
-    rw (entered_not c.args.self.now.limits.now c.args.run.now.global.num_operations c.args.level
+    rw (entered_not c.args.self.now.session.limits c.args.run.now.global.num_operations c.args.level
     (length (entries_of c.args.run.now.scope)) c.args.def.now c.args.pos _
     (rw c.def-def.ensures.value at (c.in-Err.ensures.refused has))) (c.in-Err.ensures.untaken has)
 
 pub run_body-returns-in-Ok-None-clause-args : goal.run_body-returns-in-Ok-None-clause-args
 run_body-returns-in-Ok-None-clause-args g t c memory =
-    rw (entered_nothing c.args.self.now.limits.now c.args.run.now.global.num_operations c.args.level
+    rw (entered_nothing c.args.self.now.session.limits c.args.run.now.global.num_operations c.args.level
     (length (entries_of c.args.run.now.scope)) c.args.def.now
     (rw (c.in-Ok-None.field-0-is, c.def-def.ensures.value) at c.in-Ok-None.ensures.no_body))
     (rw c.in-Ok-None.field-0-is at c.in-Ok-None.ensures.same_args)
 
 pub run_body-returns-in-Ok-Some-clause-args : goal.run_body-returns-in-Ok-Some-clause-args
 run_body-returns-in-Ok-Some-clause-args g t c memory =
-    rw (entered_so c.args.self.now.limits.now c.args.run.now.global.num_operations c.args.level
+    rw (entered_so c.args.self.now.session.limits c.args.run.now.global.num_operations c.args.level
     (length (entries_of c.args.run.now.scope)) c.args.def.now (c.if-not-charge.ensures.room refl)
     c.in-Ok-Some.ensures.not_deep (rw c.def-def.ensures.value at c.in-Ok-Some.ensures.not_full)
     (rw (c.in-Ok-Some.field-0-is, c.def-def.ensures.value) at c.in-Ok-Some.ensures.body))
@@ -215,18 +213,18 @@ enter_fresh-returns-clause-counts g t c =
     (enter_fresh-returns-clause-runs g t c c.args.run.now.scope (holding None))
 
 pub finish_call-returns-in-Ended-clause-runs : goal.finish_call-returns-in-Ended-clause-runs
-unfolding StartsAs
+unfolding Goes
 finish_call-returns-in-Ended-clause-runs g t c k =
     rw (c.in-Ended.is, c.settle.ensures) here
 
 pub finish_call-returns-then-is_fresh-clause-runs : goal.finish_call-returns-then-is_fresh-clause-runs
-unfolding StartsAs Steps
+unfolding Goes
 finish_call-returns-then-is_fresh-clause-runs g t c k =
     rw (c.in-Enters.is, c.if-is_fresh.true, c.enter_fresh.ensures.scope, c.enter_fresh.ensures.this)
     ((rw c.as_mut_slice-values.ensures.value at c.enter_fresh.ensures.runs) c.args.run.now.scope (holding c.args.run.now.this) k)
 
 pub finish_call-returns-else-is_fresh-clause-runs : goal.finish_call-returns-else-is_fresh-clause-runs
-unfolding StartsAs Steps
+unfolding Goes
 finish_call-returns-else-is_fresh-clause-runs g t c k =
     rw (c.in-Enters.is, c.if-is_fresh.false, c.enter_captured.ensures.this)
     ((rw c.as_mut_slice-values.ensures.value at c.enter_captured.ensures.runs) (holding c.args.run.now.this) k)
@@ -297,30 +295,30 @@ enter_on_focus-returns-clause-counts g t c =
     (enter_on_focus-returns-clause-runs g t c c.args.run.now.scope (holding None))
 
 pub run_method-returns-in-Ended-clause-runs : goal.run_method-returns-in-Ended-clause-runs
-unfolding CallsFrom RunsFrom
+unfolding Goes
 run_method-returns-in-Ended-clause-runs g t c scope held k =
-    rw c.settle_changed.ensures ((rw c.in-Ended.is at (c.call_method.ensures.runs (offer_of c.args.self.now) scope held (refl, refl))) k)
+    rw c.settle_changed.ensures ((rw c.in-Ended.is at (c.call_method.ensures.runs scope held)) k)
 
 pub run_method-returns-in-OnTarget-clause-runs : goal.run_method-returns-in-OnTarget-clause-runs
-unfolding CallsFrom RunsFrom Steps
+unfolding Goes
 run_method-returns-in-OnTarget-clause-runs g t c scope held k =
     rw (
       c.unchanged.ensures,
       unchanged_walk_ends c.enter_on_focus-done.result c.enter_on_focus-done.new.run.value
           c.enter_on_focus-done.new.run.error,
     )
-    ((rw c.in-OnTarget.is at (c.call_method.ensures.runs (offer_of c.args.self.now) scope held (refl, refl))) k
+    ((rw (c.in-Enters.is, c.in-OnTarget.is) at (c.call_method.ensures.runs scope held)) k
     ⨾ (rw c.as_mut_slice-values.ensures.value at c.enter_on_focus-done.ensures.runs) scope held k)
 
 pub run_method-returns-in-Alone-clause-runs : goal.run_method-returns-in-Alone-clause-runs
-unfolding CallsFrom RunsFrom Steps
+unfolding Goes
 run_method-returns-in-Alone-clause-runs g t c scope held k =
     rw (
       c.unchanged-in-Alone.ensures,
       unchanged_walk_ends c.enter_fresh-done.result c.enter_fresh-done.new.run.value
           c.enter_fresh-done.new.run.error,
     )
-    ((rw c.in-Alone.is at (c.call_method.ensures.runs (offer_of c.args.self.now) scope held (refl, refl))) k
+    ((rw (c.in-Enters.is, c.in-Alone.is) at (c.call_method.ensures.runs scope held)) k
     ⨾ (rw c.as_mut_slice-values-in-Alone.ensures.value at c.enter_fresh-done.ensures.runs) scope
     (lending held c.call_method.new.target) k)
 

@@ -6,12 +6,11 @@ use Rattle.rhai_machine.specs.machine.Machine.{Go}
 use Rattle.rhai_machine.specs.machine.Point.{after}
 use Rattle.rhai_machine.specs.machine.Memory.{here, next, ◌⨾◌}
 use Rattle.rhai_machine.specs.language.Frames.{core, Eval, UnaryOperand, LeftOperand, RightOperand}
-use Rattle.rhai_machine.specs.language.Runs.{Steps}
+use Rattle.rhai_machine.specs.language.Runs.{Goes}
 use Rattle.rhai_steps.proofs.Agreeing.{brings, leads_then, same, stays, still}
 use Rattle.rhai_steps.proofs.Pieces.{step_by}
 use Rattle.rhai_eval_core.specs.Agreement.{ChangesNames, KeepsNames, RestoresNames, SuitsNames}
-use Rattle.rhai_eval_core.specs.Calls.{StartsAs}
-use Rattle.rhai_eval_core.specs.States.{offer_of, state_in, under}
+use Rattle.rhai_eval_core.specs.States.{state_in, under}
 use Rattle.rhai_operands.proofs.Names.{operands_of_call, operands_resolve}
 use Rattle.rhai_operands.proofs.InPlace.{opens_binary}
 use Rattle.rhai_eval_core.proofs.NameLemmas.{first_resolves}
@@ -82,7 +81,7 @@ run_operation-run_operator-requires g t c =
 pub run_operation-returns-in-Some-clause-runs : goal.run_operation-returns-in-Some-clause-runs
 run_operation-returns-in-Some-clause-runs g t c =
     let form = rw c.in-Binary.is at c.form_of.ensures in
-    c.in-Some.ensures.runs (offer_of c.args.self.now) (holding c.args.run.now.this) form.0
+    c.in-Some.ensures.runs (holding c.args.run.now.this) form.0
 
 pub run_operation-returns-in_default-clause-runs : goal.run_operation-returns-in_default-clause-runs
 run_operation-returns-in_default-clause-runs g t c =
@@ -98,14 +97,14 @@ unfolding ChangesNames KeepsNames RestoresNames SuitsNames
 run_unary-operate_on_one-called-requires g t c = (omega arith, c.new-operands.ensures)
 
 pub run_unary-returns-then-not-run_arg-clause-runs : goal.run_unary-returns-then-not-run_arg-clause-runs
-unfolding after Steps
+unfolding after Goes
 run_unary-returns-then-not-run_arg-clause-runs g t c k =
     let rules = under g.H.Host.name_of c.args.self.now g.T.NativeTable.natives in
     opens_unary rules c.args.call.now c.args.token c.args.operand.now c.args.pos k _ c.requires.fast c.requires.token c.requires.args
     ⨾ c.if-not-run_arg.ensures.runs (UnaryOperand _ _ ∷ k) ⨾ next here
 
 pub run_unary-returns-then-not-flatten_at-clause-runs : goal.run_unary-returns-then-not-flatten_at-clause-runs
-unfolding after Steps
+unfolding after Goes
 run_unary-returns-then-not-flatten_at-clause-runs g t c k =
     let rules = under g.H.Host.name_of c.args.self.now g.T.NativeTable.natives in
     opens_unary rules c.args.call.now c.args.token c.args.operand.now c.args.pos k _ c.requires.fast c.requires.token c.requires.args
@@ -113,7 +112,7 @@ run_unary-returns-then-not-flatten_at-clause-runs g t c k =
     ⨾ flat_fails rules _ _ k _ _ (UnaryOperand _ _) refl c.if-not-flatten_at.ensures.exact
 
 pub run_unary-returns-clause-runs : goal.run_unary-returns-clause-runs
-unfolding after Steps StartsAs
+unfolding after Goes
 run_unary-returns-clause-runs g t c k =
     let rules = under g.H.Host.name_of c.args.self.now g.T.NativeTable.natives in
     opens_unary rules c.args.call.now c.args.token c.args.operand.now c.args.pos k _ c.requires.fast c.requires.token c.requires.args
@@ -130,7 +129,7 @@ run_function-run_plain_call-requires g t c =
     )
 
 pub run_function-returns-in-Some-clause-runs : goal.run_function-returns-in-Some-clause-runs
-unfolding Steps StartsAs
+unfolding Goes
 run_function-returns-in-Some-clause-runs g t c k =
     let rules = under g.H.Host.name_of c.args.self.now g.T.NativeTable.natives in
     plain_begins rules c.args.call.now c.args.run.now.global.lib c.in-Some.function
@@ -161,7 +160,7 @@ run_function-returns-then-not-is_plain-clause-runs g t c =
 
 pub run_function-returns-in-Some-at_once-clause-runs : goal.run_function-returns-in-Some-at_once-clause-runs
 run_function-returns-in-Some-at_once-clause-runs g t c =
-    c.in-Some-at_once.ensures.runs (offer_of c.args.self.now) (holding c.args.run.now.this) (refl, refl)
+    c.in-Some-at_once.ensures.runs (holding c.args.run.now.this)
 
 pub run_function-run_call-requires : goal.run_function-run_call-requires
 unfolding ChangesNames KeepsNames RestoresNames SuitsNames
@@ -180,7 +179,7 @@ run_function-run_call-requires g t c =
     )
 
 pub run_function-returns-clause-runs : goal.run_function-returns-clause-runs
-unfolding Steps StartsAs
+unfolding Goes
 run_function-returns-clause-runs g t c k =
     let rules = under g.H.Host.name_of c.args.self.now g.T.NativeTable.natives in
     begins_call rules c.args.call.now c.args.pos k _ (sym c.is_plain.ensures ∙ c.if-not-is_plain.false) c.requires.form
@@ -210,7 +209,7 @@ unfolding ChangesNames KeepsNames RestoresNames SuitsNames
 run_operator-operate_on_two-called-requires g t c = (omega arith, c.new-operands.ensures)
 
 pub run_operator-returns-then-not-run_arg-clause-runs : goal.run_operator-returns-then-not-run_arg-clause-runs
-unfolding after Steps
+unfolding after Goes
 run_operator-returns-then-not-run_arg-clause-runs g t c k =
     let rules = under g.H.Host.name_of c.args.self.now g.T.NativeTable.natives in
     opens_binary rules c.args.call.now c.args.token c.args.left.now c.args.right.now c.args.pos k _ c.requires.fast c.requires.token
@@ -219,7 +218,7 @@ run_operator-returns-then-not-run_arg-clause-runs g t c k =
     ⨾ next here
 
 pub run_operator-returns-then-not-flatten_at-clause-runs : goal.run_operator-returns-then-not-flatten_at-clause-runs
-unfolding after Steps
+unfolding after Goes
 run_operator-returns-then-not-flatten_at-clause-runs g t c k =
     let rules = under g.H.Host.name_of c.args.self.now g.T.NativeTable.natives in
     opens_binary rules c.args.call.now c.args.token c.args.left.now c.args.right.now c.args.pos k _ c.requires.fast c.requires.token
@@ -228,7 +227,7 @@ run_operator-returns-then-not-flatten_at-clause-runs g t c k =
     ⨾ flat_fails rules _ _ k _ _ (LeftOperand _ _ _) refl c.if-not-flatten_at.ensures.exact
 
 pub run_operator-returns-then-not-run_arg-2-clause-runs : goal.run_operator-returns-then-not-run_arg-2-clause-runs
-unfolding after Steps
+unfolding after Goes
 run_operator-returns-then-not-run_arg-2-clause-runs g t c k =
     let rules = under g.H.Host.name_of c.args.self.now g.T.NativeTable.natives in
     opens_binary rules c.args.call.now c.args.token c.args.left.now c.args.right.now c.args.pos k _ c.requires.fast c.requires.token
@@ -238,7 +237,7 @@ run_operator-returns-then-not-run_arg-2-clause-runs g t c k =
     (RightOperand _ _ _ ∷ k) ⨾ next here))
 
 pub run_operator-returns-then-not-flatten_at-2-clause-runs : goal.run_operator-returns-then-not-flatten_at-2-clause-runs
-unfolding after Steps
+unfolding after Goes
 run_operator-returns-then-not-flatten_at-2-clause-runs g t c k =
     let rules = under g.H.Host.name_of c.args.self.now g.T.NativeTable.natives in
     opens_binary rules c.args.call.now c.args.token c.args.left.now c.args.right.now c.args.pos k _ c.requires.fast c.requires.token
@@ -249,7 +248,7 @@ run_operator-returns-then-not-flatten_at-2-clause-runs g t c k =
     ⨾ flat_fails rules _ _ k _ _ (RightOperand _ _ _) refl c.if-not-flatten_at-2.ensures.exact))
 
 pub run_operator-returns-then-operate_known-clause-runs : goal.run_operator-returns-then-operate_known-clause-runs
-unfolding after Steps
+unfolding after Goes
 run_operator-returns-then-operate_known-clause-runs g t c k =
     let rules = under g.H.Host.name_of c.args.self.now g.T.NativeTable.natives in
     let known = sym (rw c.take_value-first.ensures.taken at c.if-operate_known.ensures.known refl) in
@@ -263,7 +262,7 @@ run_operator-returns-then-operate_known-clause-runs g t c k =
     c.operate_known.new.out k _ known))))
 
 pub run_operator-returns-clause-runs : goal.run_operator-returns-clause-runs
-unfolding after Steps StartsAs
+unfolding after Goes
 run_operator-returns-clause-runs g t c k =
     let rules = under g.H.Host.name_of c.args.self.now g.T.NativeTable.natives in
     opens_binary rules c.args.call.now c.args.token c.args.left.now c.args.right.now c.args.pos k _ c.requires.fast c.requires.token
@@ -277,10 +276,10 @@ run_operator-returns-clause-runs g t c k =
 
 pub run_arg-returns-in-Some-clause-runs : goal.run_arg-returns-in-Some-clause-runs
 run_arg-returns-in-Some-clause-runs g t c =
-    c.in-Some.ensures.runs (offer_of c.args.self.now) c.args.run.now.scope (holding c.args.run.now.this)
+    c.in-Some.ensures.runs c.args.run.now.scope (holding c.args.run.now.this)
 
 pub run_arg-returns-in-None-clause-runs : goal.run_arg-returns-in-None-clause-runs
-unfolding Steps
+unfolding Goes
 run_arg-returns-in-None-clause-runs g t c k =
     let rules = under g.H.Host.name_of c.args.self.now g.T.NativeTable.natives in
     let none = still_none _ (sym c.read_literal-in_place.ensures.found ∙ ap is_some c.in-None.is) in
@@ -292,7 +291,11 @@ pub run_arg-run_expr-requires : goal.run_arg-run_expr-requires
 unfolding ChangesNames KeepsNames RestoresNames SuitsNames
 run_arg-run_expr-requires g t c =
     λ κs lives. (
-      omega (arith, ap (λ (global : GlobalRuntimeState _). global.num_operations) (c.read_literal-in_place.ensures.left_alone c.in-None.is)),
+      omega (
+        arith,
+        ap (λ (global : GlobalRuntimeState _). global.num_operations)
+            (c.read_literal-in_place.ensures.left_alone c.in-None.is),
+      ),
       (lives.0, (lives.1, same c.read_literal-in_place.ensures.sight refl c.requires)),
     )
 

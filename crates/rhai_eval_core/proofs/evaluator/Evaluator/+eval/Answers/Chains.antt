@@ -15,15 +15,14 @@ use Rattle.rhai_machine.specs.language.Arguments.{arguments_core}
 use Rattle.rhai_machine.specs.language.Chains.{this_root_core}
 use Rattle.rhai_machine.specs.language.Links.{asked_by, first_in}
 use Rattle.rhai_machine.specs.language.Variables.{variable_named}
-use Rattle.rhai_machine.specs.language.Runs.{Steps}
+use Rattle.rhai_machine.specs.language.Runs.{Goes}
 use Rattle.rhai_steps.proofs.Agreeing.{brings, leads_then, same, stays, still}
 use Rattle.rhai_steps.proofs.Pieces.{charged, refused}
 use Rattle.rhai_operands.proofs.Names.{good_name}
 use Rattle.rhai_chains.specs.Chains.{chain_at, link_seen, new_of}
 use Rattle.rhai_context.specs.Ends.{error_in}
 use Rattle.rhai_eval_core.specs.Agreement.{ChangesNames, KeepsNames, RestoresNames, SuitsNames}
-use Rattle.rhai_eval_core.specs.Calls.{Collects, RunsUnder, StartsAs}
-use Rattle.rhai_eval_core.specs.Chains.{Gathers}
+use Rattle.rhai_eval_core.specs.Calls.{Collects}
 use Rattle.rhai_eval_core.specs.States.{state_in, under}
 use Rattle.rhai_tree.proofs.Links.{few_links}
 use Rattle.rhai_eval_core.proofs.Chain.{begins, flat_fails}
@@ -31,7 +30,8 @@ use Rattle.rhai_eval_core.proofs.CallSteps.{charged_on, refused_on}
 use Rattle.rhai_eval_core.proofs.ChainLemmas.{has_link, left_chain, link_resolves, may_walk, no_name, RestResolves, root_resolves}
 use Rattle.rhai_eval_core.proofs.ChainLemmas.{target_parts}
 use Rattle.rhai_eval_core.proofs.ChainSteps.{arrives_last, arrives_on, asks_further, asks_last, asks_link, begins_chain, evaluates_root}
-use Rattle.rhai_eval_core.proofs.ChainSteps.{asked_at_once, not_assigned, nothing_there, opens_asking, opens_at_once, opens_running_out, this_root}
+use Rattle.rhai_eval_core.proofs.ChainSteps.{asked_at_once, not_assigned, nothing_there, opens_asking, opens_at_once, opens_running_out}
+use Rattle.rhai_eval_core.proofs.ChainSteps.{this_root}
 use Rattle.rhai_eval_core.proofs.ChainSteps.{variable_root, walks_given}
 use Rattle.rhai_eval_core.proofs.NameLemmas.{at_known}
 use Rattle.rhai_eval_core.proofs.evaluator.Evaluator.+eval.Goals as goal
@@ -42,7 +42,7 @@ pub run_chain-take_ready_args-requires : goal.run_chain-take_ready_args-requires
 run_chain-take_ready_args-requires g t c = (omega arith, c.new-values.ensures)
 
 pub run_chain-returns-in_default-clause-runs : goal.run_chain-returns-in_default-clause-runs
-unfolding Steps
+unfolding Goes
 run_chain-returns-in_default-clause-runs g t c k =
     let rules = under g.H.Host.name_of c.args.self.now g.T.NativeTable.natives in
     let chain = chain_on c.args.root.now (out-Expr c.args.chain.now) (new_of c.args.new) in
@@ -106,7 +106,7 @@ run_chain-run_root-done-requires-else-asks g t c =
     )
 
 pub run_chain-returns-then-not-run_link_args-clause-runs : goal.run_chain-returns-then-not-run_link_args-clause-runs
-unfolding Steps Gathers ChangesNames KeepsNames RestoresNames SuitsNames
+unfolding Goes ChangesNames KeepsNames RestoresNames SuitsNames
 run_chain-returns-then-not-run_link_args-clause-runs g t c k =
     let rules = under g.H.Host.name_of c.args.self.now g.T.NativeTable.natives in
     let chain = chain_on c.args.root.now (out-Expr c.args.chain.now) (new_of c.args.new) in
@@ -116,7 +116,7 @@ run_chain-returns-then-not-run_link_args-clause-runs g t c k =
     ⨾ (rw asks.0 at c.if-not-run_link_args.ensures.gathers) chain k)
 
 pub run_chain-returns-else-not-run_link_args-clause-runs : goal.run_chain-returns-else-not-run_link_args-clause-runs
-unfolding Steps Gathers ChangesNames KeepsNames RestoresNames SuitsNames
+unfolding Goes ChangesNames KeepsNames RestoresNames SuitsNames
 run_chain-returns-else-not-run_link_args-clause-runs g t c k =
     let rules = under g.H.Host.name_of c.args.self.now g.T.NativeTable.natives in
     let chain = chain_on c.args.root.now (out-Expr c.args.chain.now) (new_of c.args.new) in
@@ -127,7 +127,7 @@ run_chain-returns-else-not-run_link_args-clause-runs g t c k =
     ⨾ (rw c.as_mut_slice-args.ensures.value at c.run_root-done.ensures.runs false) k)
 
 pub run_chain-returns-else-not-run_link_args-clause-asks : goal.run_chain-returns-else-not-run_link_args-clause-asks
-unfolding Gathers ChangesNames KeepsNames RestoresNames SuitsNames
+unfolding ChangesNames KeepsNames RestoresNames SuitsNames Goes
 run_chain-returns-else-not-run_link_args-clause-asks g t c =
     let rules = under g.H.Host.name_of c.args.self.now g.T.NativeTable.natives in
     let chain = chain_on c.args.root.now (out-Expr c.args.chain.now) (new_of c.args.new) in
@@ -141,7 +141,7 @@ run_chain-returns-else-not-run_link_args-clause-asks g t c =
     )
 
 pub run_chain-returns-else-asks-clause-runs : goal.run_chain-returns-else-asks-clause-runs
-unfolding Steps
+unfolding Goes
 run_chain-returns-else-asks-clause-runs g t c k =
     let rules = under g.H.Host.name_of c.args.self.now g.T.NativeTable.natives in
     let chain = chain_on c.args.root.now (out-Expr c.args.chain.now) (new_of c.args.new) in
@@ -207,7 +207,7 @@ run_link_args-run_link_args-requires g t c =
     )
 
 pub run_link_args-returns-then-not-charge-clause-gathers : goal.run_link_args-returns-then-not-charge-clause-gathers
-unfolding Gathers
+unfolding Goes
 run_link_args-returns-then-not-charge-clause-gathers g t c chain k =
     let rules = under g.H.Host.name_of c.args.self.now g.T.NativeTable.natives in
     let link = link_seen c.in-Some.link in
@@ -218,7 +218,7 @@ run_link_args-returns-then-not-charge-clause-gathers g t c chain k =
     (c.if-not-charge.ensures.full refl) (c.if-not-charge.ensures.refused refl) (c.if-not-charge.ensures.same refl)
 
 pub run_link_args-returns-then-not-run_more_args-clause-gathers : goal.run_link_args-returns-then-not-run_more_args-clause-gathers
-unfolding Gathers Collects
+unfolding Collects Goes
 run_link_args-returns-then-not-run_more_args-clause-gathers g t c chain k =
     let rules = under g.H.Host.name_of c.args.self.now g.T.NativeTable.natives in
     let link = link_seen c.in-Some.link in
@@ -230,7 +230,7 @@ run_link_args-returns-then-not-run_more_args-clause-gathers g t c chain k =
     ⨾ (rw c.asked.ensures at c.if-not-run_more_args.ensures.collects) (ToChain chain link.behind) refl k
 
 pub run_link_args-returns-in-Some-behind-clause-gathers : goal.run_link_args-returns-in-Some-behind-clause-gathers
-unfolding Gathers Collects
+unfolding Collects Goes
 run_link_args-returns-in-Some-behind-clause-gathers g t c chain k =
     let rules = under g.H.Host.name_of c.args.self.now g.T.NativeTable.natives in
     let link = link_seen c.in-Some.link in
@@ -256,7 +256,7 @@ run_link_args-returns-in-Some-behind-clause-asked g t c =
     c.run_link_args.ensures.asked
 
 pub run_link_args-returns-in-None-clause-gathers : goal.run_link_args-returns-in-None-clause-gathers
-unfolding Gathers Collects
+unfolding Collects Goes
 run_link_args-returns-in-None-clause-gathers g t c chain k =
     let rules = under g.H.Host.name_of c.args.self.now g.T.NativeTable.natives in
     let link = link_seen c.in-Some.link in
@@ -287,7 +287,7 @@ run_root-walk_value-requires g t c =
     λ κs lives. (omega (arith, c.if-not-run_expr.ensures.charges refl), (lives.0, (lives.1, rw none at c.requires.walks)))
 
 pub run_root-returns-then-not-run_expr-clause-runs : goal.run_root-returns-then-not-run_expr-clause-runs
-unfolding after Steps ChangesNames KeepsNames RestoresNames SuitsNames
+unfolding after Goes ChangesNames KeepsNames RestoresNames SuitsNames
 run_root-returns-then-not-run_expr-clause-runs g t c in_place k =
     let rules = under g.H.Host.name_of c.args.self.now g.T.NativeTable.natives in
     let other = no_name c.args.root.now c.in_default.not-Variable c.in_default.not-ThisPtr in
@@ -298,7 +298,7 @@ run_root-returns-then-not-run_expr-clause-runs g t c in_place k =
     ⨾ c.if-not-run_expr.ensures.runs (RootValue chain ∷ k) ⨾ next here
 
 pub run_root-returns-else-not-run_expr-clause-runs : goal.run_root-returns-else-not-run_expr-clause-runs
-unfolding Steps RunsUnder ChangesNames KeepsNames RestoresNames SuitsNames
+unfolding Goes ChangesNames KeepsNames RestoresNames SuitsNames
 run_root-returns-else-not-run_expr-clause-runs g t c in_place k =
     let rules = under g.H.Host.name_of c.args.self.now g.T.NativeTable.natives in
     let other = no_name c.args.root.now c.in_default.not-Variable c.in_default.not-ThisPtr in
@@ -311,7 +311,7 @@ run_root-returns-else-not-run_expr-clause-runs g t c in_place k =
     (holding c.run_expr.new.run.this) in_place k)
 
 pub run_root-returns-then-not-charge-clause-runs : goal.run_root-returns-then-not-charge-clause-runs
-unfolding Steps
+unfolding Goes
 run_root-returns-then-not-charge-clause-runs g t c in_place k =
     let rules = under g.H.Host.name_of c.args.self.now g.T.NativeTable.natives in
     let chain = chain_at c.args.root.now (out-Expr c.args.chain.now) c.args.args.now c.args.new in_place in
@@ -344,7 +344,7 @@ run_root-walk_variable-requires g t c =
     )
 
 pub run_root-returns-else-not-charge-clause-runs : goal.run_root-returns-else-not-charge-clause-runs
-unfolding Steps
+unfolding Goes
 run_root-returns-else-not-charge-clause-runs g t c in_place k =
     let rules = under g.H.Host.name_of c.args.self.now g.T.NativeTable.natives in
     let chain = chain_at c.args.root.now (out-Expr c.args.chain.now) c.args.args.now c.args.new in_place in
@@ -358,7 +358,7 @@ run_root-returns-else-not-charge-clause-runs g t c in_place k =
     ⨾ c.walk_variable.ensures.runs (holding c.args.run.now.this) in_place k)
 
 pub run_root-returns-then-not-charge-2-clause-runs : goal.run_root-returns-then-not-charge-2-clause-runs
-unfolding Steps
+unfolding Goes
 run_root-returns-then-not-charge-2-clause-runs g t c in_place k =
     let rules = under g.H.Host.name_of c.args.self.now g.T.NativeTable.natives in
     let chain = chain_at c.args.root.now (out-Expr c.args.chain.now) c.args.args.now c.args.new in_place in
@@ -380,7 +380,7 @@ run_root-walk_this-requires g t c =
     )
 
 pub run_root-returns-else-not-charge-2-clause-runs : goal.run_root-returns-else-not-charge-2-clause-runs
-unfolding Steps StartsAs
+unfolding Goes
 run_root-returns-else-not-charge-2-clause-runs g t c in_place k =
     let rules = under g.H.Host.name_of c.args.self.now g.T.NativeTable.natives in
     let chain = chain_at c.args.root.now (out-Expr c.args.chain.now) c.args.args.now c.args.new in_place in
@@ -423,7 +423,7 @@ assign_chain-run_chain-requires g t c =
     )
 
 pub assign_chain-returns-then-not-run_expr-clause-runs : goal.assign_chain-returns-then-not-run_expr-clause-runs
-unfolding after Steps
+unfolding after Goes
 assign_chain-returns-then-not-run_expr-clause-runs g t c restoring k =
     let rules = under g.H.Host.name_of c.args.self.now g.T.NativeTable.natives in
     let found = sym c.first_of.ensures ∙ ap option_copied c.in-Some.is in
@@ -431,7 +431,7 @@ assign_chain-returns-then-not-run_expr-clause-runs g t c restoring k =
     ⨾ c.if-not-run_expr.ensures.runs (AssignChain _ _ _ _ ∷ k) ⨾ next here
 
 pub assign_chain-returns-in_default-take_flat-clause-runs : goal.assign_chain-returns-in_default-take_flat-clause-runs
-unfolding Steps
+unfolding Goes
 assign_chain-returns-in_default-take_flat-clause-runs g t c restoring k =
     let rules = under g.H.Host.name_of c.args.self.now g.T.NativeTable.natives in
     let found = sym c.first_of.ensures ∙ ap option_copied c.in-Some.is in
@@ -440,7 +440,7 @@ assign_chain-returns-in_default-take_flat-clause-runs g t c restoring k =
     ⨾ flat_fails rules _ _ k _ _ (AssignChain _ _ _ _) refl c.in_default-take_flat.ensures
 
 pub assign_chain-returns-then-not-run_chain-clause-runs : goal.assign_chain-returns-then-not-run_chain-clause-runs
-unfolding after Steps
+unfolding after Goes
 assign_chain-returns-then-not-run_chain-clause-runs g t c restoring k =
     let rules = under g.H.Host.name_of c.args.self.now g.T.NativeTable.natives in
     let found = sym c.first_of.ensures ∙ ap option_copied c.in-Some.is in
@@ -450,7 +450,7 @@ assign_chain-returns-then-not-run_chain-clause-runs g t c restoring k =
     (c.if-not-run_chain.ensures.runs (AssignedChain ∷ k) ⨾ next here))
 
 pub assign_chain-returns-clause-runs : goal.assign_chain-returns-clause-runs
-unfolding after Steps
+unfolding after Goes
 assign_chain-returns-clause-runs g t c restoring k =
     let rules = under g.H.Host.name_of c.args.self.now g.T.NativeTable.natives in
     let found = sym c.first_of.ensures ∙ ap option_copied c.in-Some.is in
@@ -513,7 +513,7 @@ run_expr-read_chain-requires-in-Index g t c =
     )
 
 pub run_expr-returns-in-Dot-clause-runs : goal.run_expr-returns-in-Dot-clause-runs
-unfolding after Steps
+unfolding after Goes
 run_expr-returns-in-Dot-clause-runs g t c k =
     let rules = under g.H.Host.name_of c.args.self.now g.T.NativeTable.natives in
     begins rules _ c.args.run.now.global c.charge_expr.new.global _ _ (c.if-not-charge_expr.ensures.room refl)
@@ -522,7 +522,7 @@ run_expr-returns-in-Dot-clause-runs g t c k =
     ⨾ next ((rw (c.get.ensures, c.in-Dot.is, exprs.outs-Dot) at c.read_chain.ensures.runs) k)
 
 pub run_expr-returns-in-Index-clause-runs : goal.run_expr-returns-in-Index-clause-runs
-unfolding after Steps
+unfolding after Goes
 run_expr-returns-in-Index-clause-runs g t c k =
     let rules = under g.H.Host.name_of c.args.self.now g.T.NativeTable.natives in
     begins rules _ c.args.run.now.global c.charge_expr.new.global _ _ (c.if-not-charge_expr.ensures.room refl)

@@ -2,7 +2,7 @@ use Rattle.std.proofs.Common.{◌∷◌, refl, arith}
 use Rattle.rhai_machine.specs.machine.Point.{after}
 use Rattle.rhai_machine.specs.machine.Memory.{here, next, ◌⨾◌}
 use Rattle.rhai_machine.specs.language.Frames.{CoalescePart}
-use Rattle.rhai_machine.specs.language.Runs.{Steps}
+use Rattle.rhai_machine.specs.language.Runs.{Goes}
 use Rattle.rhai_steps.proofs.Agreeing.{brings, leads_then, stays, still}
 use Rattle.rhai_eval_core.specs.Agreement.{ChangesNames, KeepsNames, RestoresNames, SuitsNames}
 use Rattle.rhai_eval_core.specs.States.{under}
@@ -29,12 +29,12 @@ run_until-run_condition-requires g t c =
     )
 
 pub run_until-each_part-init : goal.run_until-each_part-init
-unfolding after Steps ChangesNames KeepsNames RestoresNames SuitsNames
+unfolding after Goes ChangesNames KeepsNames RestoresNames SuitsNames
 run_until-each_part-init g t c =
     record { counts = omega arith; names = stays refl refl; steps = λ k. here }
 
 pub run_until-each_part-preserved : goal.run_until-each_part-preserved
-unfolding after Steps ChangesNames KeepsNames RestoresNames SuitsNames
+unfolding after Goes ChangesNames KeepsNames RestoresNames SuitsNames
 run_until-each_part-preserved g t c =
     let rules = under g.H.Host.name_of c.args.self.now g.T.NativeTable.natives in
     record {
@@ -45,14 +45,14 @@ run_until-each_part-preserved g t c =
     }
 
 pub run_until-returns-in_default-clause-runs : goal.run_until-returns-in_default-clause-runs
-unfolding after Steps
+unfolding after Goes
 run_until-returns-in_default-clause-runs g t c pos k =
     let rules = under g.H.Host.name_of c.args.self.now g.T.NativeTable.natives in
     until_opens rules c.args.stop _ pos k _ ⨾ c.each_part.invariant.steps k ⨾ rw (drop_item _ _ _ c.each_part-test.true c.part-item.is)
     (until_fails rules c.args.stop _ _ k _ _ (error_in c.run_condition.new.run.error) c.in_default.ensures.runs)
 
 pub run_until-returns-then-is_same-clause-runs : goal.run_until-returns-then-is_same-clause-runs
-unfolding after Steps
+unfolding after Goes
 run_until-returns-then-is_same-clause-runs g t c pos k =
     let rules = under g.H.Host.name_of c.args.self.now g.T.NativeTable.natives in
     until_opens rules c.args.stop _ pos k _ ⨾ c.each_part.invariant.steps k ⨾ rw (drop_item _ _ _ c.each_part-test.true c.part-item.is)
@@ -60,7 +60,7 @@ run_until-returns-then-is_same-clause-runs g t c pos k =
     ⨾ rw c.put_truth.ensures here)
 
 pub run_until-returns-clause-runs : goal.run_until-returns-clause-runs
-unfolding after Steps
+unfolding after Goes
 run_until-returns-clause-runs g t c pos k =
     let rules = under g.H.Host.name_of c.args.self.now g.T.NativeTable.natives in
     until_opens rules c.args.stop _ pos k _ ⨾ c.each_part.invariant.steps k
@@ -82,12 +82,12 @@ run_coalesce-run_expr-requires g t c =
     )
 
 pub run_coalesce-each_part-init : goal.run_coalesce-each_part-init
-unfolding after Steps ChangesNames KeepsNames RestoresNames SuitsNames
+unfolding after Goes ChangesNames KeepsNames RestoresNames SuitsNames
 run_coalesce-each_part-init g t c =
     record { counts = omega arith; names = stays refl refl; steps = λ k. rw c.put_unit.ensures here }
 
 pub run_coalesce-each_part-preserved : goal.run_coalesce-each_part-preserved
-unfolding after Steps ChangesNames KeepsNames RestoresNames SuitsNames
+unfolding after Goes ChangesNames KeepsNames RestoresNames SuitsNames
 run_coalesce-each_part-preserved g t c =
     let rules = under g.H.Host.name_of c.args.self.now g.T.NativeTable.natives in
     record {
@@ -99,20 +99,20 @@ run_coalesce-each_part-preserved g t c =
     }
 
 pub run_coalesce-returns-then-not-run_expr-clause-runs : goal.run_coalesce-returns-then-not-run_expr-clause-runs
-unfolding after Steps
+unfolding after Goes
 run_coalesce-returns-then-not-run_expr-clause-runs g t c pos k =
     next (c.each_part.invariant.steps k ⨾ rw (drop_item _ _ _ c.each_part-test.true c.part-item.is) (c.if-not-run_expr.ensures.runs
     (CoalescePart _ _ ∷ k) ⨾ next here))
 
 pub run_coalesce-returns-in-None-clause-runs : goal.run_coalesce-returns-in-None-clause-runs
-unfolding after Steps
+unfolding after Goes
 run_coalesce-returns-in-None-clause-runs g t c pos k =
     let rules = under g.H.Host.name_of c.args.self.now g.T.NativeTable.natives in
     next (c.each_part.invariant.steps k ⨾ rw (drop_item _ _ _ c.each_part-test.true c.part-item.is) (c.if-not-run_expr.ensures.runs
     (CoalescePart _ _ ∷ k) ⨾ (coalesce_fails rules _ _ _ k _ _ c.in-None.ensures)))
 
 pub run_coalesce-returns-in-Some-false-clause-runs : goal.run_coalesce-returns-in-Some-false-clause-runs
-unfolding after Steps
+unfolding after Goes
 run_coalesce-returns-in-Some-false-clause-runs g t c pos k =
     let rules = under g.H.Host.name_of c.args.self.now g.T.NativeTable.natives in
     next (c.each_part.invariant.steps k ⨾ rw (drop_item _ _ _ c.each_part-test.true c.part-item.is)
@@ -120,7 +120,7 @@ run_coalesce-returns-in-Some-false-clause-runs g t c pos k =
     c.in-Some-false.field-0-test at c.in-Some-false.ensures tt))))
 
 pub run_coalesce-returns-clause-runs : goal.run_coalesce-returns-clause-runs
-unfolding after Steps
+unfolding after Goes
 run_coalesce-returns-clause-runs g t c pos k = next (c.each_part.invariant.steps k ⨾ rw (drop_all _ _ c.each_part-test.false) here)
 
 pub run_until-returns-then-is_same-clause-names : goal.run_until-returns-then-is_same-clause-names

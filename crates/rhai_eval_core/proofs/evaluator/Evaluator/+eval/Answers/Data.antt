@@ -4,13 +4,12 @@ use Rattle.rhai_tree.specs.Keys.{key_of}
 use Rattle.rhai_machine.specs.machine.Point.{after}
 use Rattle.rhai_machine.specs.machine.Memory.{here, next, ◌⨾◌}
 use Rattle.rhai_machine.specs.language.Frames.{ArrayItem, EntryValue, TextPart}
-use Rattle.rhai_machine.specs.language.Runs.{Steps}
+use Rattle.rhai_machine.specs.language.Runs.{Goes}
 use Rattle.rhai_steps.proofs.Agreeing.{brings, leads_then, stays, still}
 use Rattle.rhai_steps.proofs.Pieces.{told}
 use Rattle.rhai_context.specs.Ends.{error_in}
-use Rattle.rhai_data.specs.Texts.{Joins}
 use Rattle.rhai_eval_core.specs.Agreement.{ChangesNames, KeepsNames, RestoresNames, SuitsNames}
-use Rattle.rhai_eval_core.specs.States.{offer_of, under}
+use Rattle.rhai_eval_core.specs.States.{under}
 use Rattle.rhai_eval_core.proofs.NameLemmas.{part_resolves, value_resolves}
 use Rattle.rhai_eval_core.proofs.DataSteps.{item_on, item_fails, value_on, value_fails}
 use Rattle.rhai_eval_core.proofs.Chain.{drop_item, drop_all}
@@ -32,7 +31,7 @@ run_array-run_expr-requires g t c =
     )
 
 pub run_array-each_item-init : goal.run_array-each_item-init
-unfolding after Steps ChangesNames KeepsNames RestoresNames SuitsNames
+unfolding after Goes ChangesNames KeepsNames RestoresNames SuitsNames
 run_array-each_item-init g t c =
     record {
       counts = omega arith;
@@ -42,7 +41,7 @@ run_array-each_item-init g t c =
     }
 
 pub run_array-each_item-preserved : goal.run_array-each_item-preserved
-unfolding after Steps ChangesNames KeepsNames RestoresNames SuitsNames
+unfolding after Goes ChangesNames KeepsNames RestoresNames SuitsNames
 run_array-each_item-preserved g t c =
     let rules = under g.H.Host.name_of c.args.self.now g.T.NativeTable.natives in
     record {
@@ -55,7 +54,7 @@ run_array-each_item-preserved g t c =
     }
 
 pub run_array-returns-then-not-add-clause-runs : goal.run_array-returns-then-not-add-clause-runs
-unfolding after Steps
+unfolding after Goes
 run_array-returns-then-not-add-clause-runs g t c k =
     let rules = under g.H.Host.name_of c.args.self.now g.T.NativeTable.natives in
     next (c.each_item.invariant.steps k ⨾ rw (drop_item _ _ _ c.each_item-test.true c.item-item.is)
@@ -63,13 +62,13 @@ run_array-returns-then-not-add-clause-runs g t c k =
     c.run_expr.new.run.value _ _ k _ (error_in c.add.new.place) (c.if-not-add.ensures.refused refl)))
 
 pub run_array-returns-then-not-run_expr-clause-runs : goal.run_array-returns-then-not-run_expr-clause-runs
-unfolding after Steps
+unfolding after Goes
 run_array-returns-then-not-run_expr-clause-runs g t c k =
     next (c.each_item.invariant.steps k ⨾ rw (drop_item _ _ _ c.each_item-test.true c.item-item.is)
     (c.if-not-run_expr.ensures.runs (ArrayItem _ _ _ ∷ k) ⨾ next here))
 
 pub run_array-returns-clause-runs : goal.run_array-returns-clause-runs
-unfolding after Steps
+unfolding after Goes
 run_array-returns-clause-runs g t c k =
     let rules = under g.H.Host.name_of c.args.self.now g.T.NativeTable.natives in
     next (c.each_item.invariant.steps k ⨾ rw (drop_all _ _ c.each_item-test.false) (told rules _ _ c.finish.ensures k _))
@@ -90,7 +89,7 @@ run_map-run_expr-requires g t c =
     )
 
 pub run_map-each_entry-init : goal.run_map-each_entry-init
-unfolding after Steps ChangesNames KeepsNames RestoresNames SuitsNames
+unfolding after Goes ChangesNames KeepsNames RestoresNames SuitsNames
 run_map-each_entry-init g t c =
     record {
       counts = omega arith;
@@ -100,7 +99,7 @@ run_map-each_entry-init g t c =
     }
 
 pub run_map-each_entry-preserved : goal.run_map-each_entry-preserved
-unfolding after Steps ChangesNames KeepsNames RestoresNames SuitsNames
+unfolding after Goes ChangesNames KeepsNames RestoresNames SuitsNames
 run_map-each_entry-preserved g t c =
     let rules = under g.H.Host.name_of c.args.self.now g.T.NativeTable.natives in
     record {
@@ -113,7 +112,7 @@ run_map-each_entry-preserved g t c =
     }
 
 pub run_map-returns-then-not-add-clause-runs : goal.run_map-returns-then-not-add-clause-runs
-unfolding after Steps
+unfolding after Goes
 run_map-returns-then-not-add-clause-runs g t c template k =
     let rules = under g.H.Host.name_of c.args.self.now g.T.NativeTable.natives in
     next (c.each_entry.invariant.steps k ⨾ rw (drop_item _ _ _ c.each_entry-test.true c.entry-item.is)
@@ -121,13 +120,13 @@ run_map-returns-then-not-add-clause-runs g t c template k =
     c.each_entry.made.values c.run_expr.new.run.value _ _ k _ (error_in c.add.new.place) (c.if-not-add.ensures.refused refl)))
 
 pub run_map-returns-then-not-run_expr-clause-runs : goal.run_map-returns-then-not-run_expr-clause-runs
-unfolding after Steps
+unfolding after Goes
 run_map-returns-then-not-run_expr-clause-runs g t c template k =
     next (c.each_entry.invariant.steps k ⨾ rw (drop_item _ _ _ c.each_entry-test.true c.entry-item.is)
     (c.if-not-run_expr.ensures.runs (EntryValue _ _ _ _ ∷ k) ⨾ next here))
 
 pub run_map-returns-clause-runs : goal.run_map-returns-clause-runs
-unfolding after Steps
+unfolding after Goes
 run_map-returns-clause-runs g t c template k =
     let rules = under g.H.Host.name_of c.args.self.now g.T.NativeTable.natives in
     next (c.each_entry.invariant.steps k ⨾ rw (drop_all _ _ c.each_entry-test.false) (told rules _ _ c.finish.ensures k _))
@@ -148,37 +147,37 @@ run_interpolated-run_expr-requires g t c =
     )
 
 pub run_interpolated-each_part-init : goal.run_interpolated-each_part-init
-unfolding after Steps ChangesNames KeepsNames RestoresNames SuitsNames
+unfolding after Goes ChangesNames KeepsNames RestoresNames SuitsNames
 run_interpolated-each_part-init g t c =
     record { counts = omega arith; names = stays refl refl; steps = λ k. rw c.new-text.ensures.bytes here }
 
 pub run_interpolated-each_part-preserved : goal.run_interpolated-each_part-preserved
-unfolding after Steps Joins ChangesNames KeepsNames RestoresNames SuitsNames
+unfolding after Goes ChangesNames KeepsNames RestoresNames SuitsNames
 run_interpolated-each_part-preserved g t c =
     record {
       counts = omega (arith, c.each_part.invariant.counts, c.if-not-run_expr.ensures.charges refl, c.if-not-join.ensures.counts);
       names = leads_then c.each_part.invariant.names
           (leads_then (c.if-not-run_expr.ensures.names refl) (stays c.if-not-join.ensures.sight refl));
       steps = λ k. c.each_part.invariant.steps k ⨾ rw (drop_item _ _ _ c.each_part-test.true c.part-item.is)
-          (c.if-not-run_expr.ensures.runs (TextPart _ _ _ ∷ k) ⨾ c.if-not-join.ensures.runs (offer_of c.args.self.now)
+          (c.if-not-run_expr.ensures.runs (TextPart _ _ _ ∷ k) ⨾ c.if-not-join.ensures.runs
           c.run_expr.new.run.scope (holding c.run_expr.new.run.this) _ k);
     }
 
 pub run_interpolated-returns-then-not-run_expr-clause-runs : goal.run_interpolated-returns-then-not-run_expr-clause-runs
-unfolding after Steps
+unfolding after Goes
 run_interpolated-returns-then-not-run_expr-clause-runs g t c k =
     next (c.each_part.invariant.steps k ⨾ rw (drop_item _ _ _ c.each_part-test.true c.part-item.is) (c.if-not-run_expr.ensures.runs
     (TextPart _ _ _ ∷ k) ⨾ next here))
 
 pub run_interpolated-returns-then-not-join-clause-runs : goal.run_interpolated-returns-then-not-join-clause-runs
-unfolding after Steps Joins
+unfolding after Goes
 run_interpolated-returns-then-not-join-clause-runs g t c k =
     next (c.each_part.invariant.steps k ⨾ rw (drop_item _ _ _ c.each_part-test.true c.part-item.is)
-    (c.if-not-run_expr.ensures.runs (TextPart _ _ _ ∷ k) ⨾ c.if-not-join.ensures.runs (offer_of c.args.self.now)
+    (c.if-not-run_expr.ensures.runs (TextPart _ _ _ ∷ k) ⨾ c.if-not-join.ensures.runs
     c.run_expr.new.run.scope (holding c.run_expr.new.run.this) _ k))
 
 pub run_interpolated-returns-clause-runs : goal.run_interpolated-returns-clause-runs
-unfolding after Steps
+unfolding after Goes
 run_interpolated-returns-clause-runs g t c k =
     let rules = under g.H.Host.name_of c.args.self.now g.T.NativeTable.natives in
     next (c.each_part.invariant.steps k ⨾ rw (drop_all _ _ c.each_part-test.false) (told rules _ _ c.finish.ensures k _))

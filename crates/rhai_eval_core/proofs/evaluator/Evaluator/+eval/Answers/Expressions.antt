@@ -10,8 +10,8 @@ use Rattle.rhai_tree.specs.declared.expr.Expr.TheOpen as layer
 use Rattle.rhai_tree.specs.declared.expr.Expr.TheVariants as exprs
 use Rattle.rhai_machine.specs.machine.Point.{after}
 use Rattle.rhai_machine.specs.machine.Memory.{next, ◌⨾◌}
-use Rattle.rhai_machine.specs.language.Runs.{Steps}
-use Rattle.rhai_eval_core.specs.States.{offer_of, under}
+use Rattle.rhai_machine.specs.language.Runs.{Goes}
+use Rattle.rhai_eval_core.specs.States.{under}
 use Rattle.rhai_eval_core.proofs.Chain.{begins, opens, refuses}
 use Rattle.rhai_eval_core.proofs.Conditions.{tests_by, tests_fail}
 use Rattle.rhai_eval_core.proofs.evaluator.Evaluator.+eval.Goals as goal
@@ -34,7 +34,7 @@ run_expr-returns-in_default-clause-runs g t c =
     opens rules _ c.args.run.now.global c.charge_expr.new.global _ _ (c.if-not-charge_expr.ensures.room refl)
     (c.if-not-charge_expr.ensures.charged refl) _ _ _ (out-Expr c.args.expr.now)
     (read_runs rules _ c.charge_expr.new.global c.args.run.now.scope (holding c.args.run.now.this) c.args.expr.now _
-    c.args.self.now.offered (refl, refl) (c.read_expr.ensures.exact None)) refl
+    c.args.self.now.session.offered (refl, refl) (c.read_expr.ensures.exact None)) refl
 
 pub run_expr-returns-in_default-clause-memory : goal.run_expr-returns-in_default-clause-memory
 run_expr-returns-in_default-clause-memory g t c = rw (asks_as_read c.args.expr.now) c.read_expr.ensures.memory
@@ -100,7 +100,7 @@ run_expr-returns-in-Coalesce-clause-runs g t c =
     ) refl)
 
 pub run_expr-returns-in-Stmt-clause-runs : goal.run_expr-returns-in-Stmt-clause-runs
-unfolding after Steps
+unfolding after Goes
 run_expr-returns-in-Stmt-clause-runs g t c k =
     let rules = under g.H.Host.name_of c.args.self.now g.T.NativeTable.natives in
     begins rules _ c.args.run.now.global c.charge_expr.new.global _ _ (c.if-not-charge_expr.ensures.room refl)
@@ -117,7 +117,7 @@ run_expr-returns-in-Stmt-clause-charges g t c done = omega (
 
 pub run_condition-returns-in-Some-clause-runs : goal.run_condition-returns-in-Some-clause-runs
 run_condition-returns-in-Some-clause-runs g t c =
-    c.in-Some.ensures.runs (offer_of c.args.self.now) (holding c.args.run.now.this) refl
+    c.in-Some.ensures.runs (holding c.args.run.now.this)
 
 pub run_condition-returns-then-not-run_expr-clause-runs : goal.run_condition-returns-then-not-run_expr-clause-runs
 run_condition-returns-then-not-run_expr-clause-runs g t c =

@@ -8,16 +8,17 @@ use Rattle.rhai_machine.specs.language.Frames as machine
 use Rattle.rhai_machine.specs.language.Frames.{KeywordArgument, CallArgument, ToCall, ToCallOn, ToCallOnThis}
 use Rattle.rhai_machine.specs.language.Calls.{plainly}
 use Rattle.rhai_machine.specs.language.Arguments.{arguments_core, is_captured, keyword_of}
-use Rattle.rhai_machine.specs.language.Runs.{Steps}
+use Rattle.rhai_machine.specs.language.Runs.{Goes}
+use Rattle.rhai_machine.specs.language.Language.{machine}
+use Rattle.rhai_steps.specs.Operations.{operation_of}
 use Rattle.rhai_steps.proofs.Agreeing.{brings, leads_then, same, stays, still}
 use Rattle.rhai_steps.proofs.Pieces.{told, step_by}
 use Rattle.rhai_operands.proofs.Names.{good_name}
 use Rattle.rhai_call_forms.specs.Keywords.{word_of}
 use Rattle.rhai_call_forms.specs.Leading.{all_args, leading_seen, variable_read}
 use Rattle.rhai_call_forms.proofs.LeadingLemmas.{lent_leads, this_goes, values_go, variable_goes}
-use Rattle.rhai_callees.specs.Going.{GoesOut}
 use Rattle.rhai_eval_core.specs.Agreement.{ChangesNames, KeepsNames, RestoresNames, SuitsNames}
-use Rattle.rhai_eval_core.specs.Calls.{Collects, RunsUnder, StartsAs, purpose_of}
+use Rattle.rhai_eval_core.specs.Calls.{Collects, purpose_of}
 use Rattle.rhai_eval_core.specs.States.{under}
 use Rattle.rhai_eval_core.proofs.NameLemmas.{first_resolves, part_resolves, this_resolves}
 use Rattle.rhai_eval_core.proofs.Chain.{drop_item, drop_all}
@@ -31,7 +32,7 @@ use Rattle.rhai_context.specs.Ends.{error_in}
 
 pub run_call-run_named-requires : goal.run_call-run_named-requires
 unfolding ChangesNames KeepsNames RestoresNames SuitsNames
-run_call-run_named-requires g t c = λ κs lives. (omega arith, (lives.0, (lives.1, c.requires.1.1.1.1)))
+run_call-run_named-requires g t c = λ κs lives. (omega arith, (lives.0, (lives.1, c.requires)))
 
 pub run_call-run_keyword-requires : goal.run_call-run_keyword-requires
 unfolding ChangesNames KeepsNames RestoresNames SuitsNames
@@ -45,8 +46,8 @@ run_call-run_keyword-requires g t c =
         (
           lives.1,
           (
-            brings (λ frame h. (first_resolves args c.in-Some.arg.now c.args.rest.now frame leads h).0) c.requires.1.1.1.1,
-            brings (λ frame h. (first_resolves args c.in-Some.arg.now c.args.rest.now frame leads h).1) c.requires.1.1.1.1,
+            brings (λ frame h. (first_resolves args c.in-Some.arg.now c.args.rest.now frame leads h).0) c.requires,
+            brings (λ frame h. (first_resolves args c.in-Some.arg.now c.args.rest.now frame leads h).1) c.requires,
           ),
         ),
       ),
@@ -54,42 +55,43 @@ run_call-run_keyword-requires g t c =
 
 pub run_call-run_named-requires-in-None-keyword_of : goal.run_call-run_named-requires-in-None-keyword_of
 unfolding ChangesNames KeepsNames RestoresNames SuitsNames
-run_call-run_named-requires-in-None-keyword_of g t c = λ κs lives. (omega arith, (lives.0, (lives.1, c.requires.1.1.1.1)))
+run_call-run_named-requires-in-None-keyword_of g t c = λ κs lives. (omega arith, (lives.0, (lives.1, c.requires)))
 
 pub run_call-returns-in-None-clause-runs : goal.run_call-returns-in-None-clause-runs
-unfolding Steps StartsAs
+unfolding Goes
 run_call-returns-in-None-clause-runs g t c k =
     let rules = under g.H.Host.name_of c.args.self.now g.T.NativeTable.natives in
-    let operation : machine.Operation = record { name = c.args.name.now; token = c.args.token; at = c.args.pos } in
+    let operation : machine.Operation = operation_of c.args.operation.now in
     rw (c.in-None.is, named_alone rules operation c.args.captures k _ _)
     ((rw (c.in-None.is, c.new-curried.ensures) at c.run_named.ensures.runs) k)
 
 pub run_call-returns-in-Some-keyword_of-clause-runs : goal.run_call-returns-in-Some-keyword_of-clause-runs
-unfolding StartsAs RunsUnder
+unfolding Goes
 run_call-returns-in-Some-keyword_of-clause-runs g t c k =
     let rules = under g.H.Host.name_of c.args.self.now g.T.NativeTable.natives in
-    let operation : machine.Operation = record { name = c.args.name.now; token = c.args.token; at = c.args.pos } in
+    let operation : machine.Operation = operation_of c.args.operation.now in
     let arg = c.in-Some.arg.now in
     rw (
       c.in-Some.is,
       worded rules operation c.args.captures k _
-          (keyword_of c.args.token c.args.name.now (length (arg ∷ c.args.rest.now))) (word_of c.in-Some-keyword_of.word) arg c.args.rest.now
-          (counted c.args.token c.args.name.now c.args.rest.now ∙ sym c.keyword_of.ensures
+          (keyword_of c.args.operation.now.token c.args.operation.now.name.now (length (arg ∷ c.args.rest.now)))
+          (word_of c.in-Some-keyword_of.word) arg c.args.rest.now
+          (counted c.args.operation.now.token c.args.operation.now.name.now c.args.rest.now ∙ sym c.keyword_of.ensures
           ∙ ap (option_map word_of) c.in-Some-keyword_of.is),
     )
     (c.run_keyword.ensures.runs k)
 
 pub run_call-returns-in-None-keyword_of-clause-runs : goal.run_call-returns-in-None-keyword_of-clause-runs
-unfolding Steps StartsAs
+unfolding Goes
 run_call-returns-in-None-keyword_of-clause-runs g t c k =
     let rules = under g.H.Host.name_of c.args.self.now g.T.NativeTable.natives in
-    let operation : machine.Operation = record { name = c.args.name.now; token = c.args.token; at = c.args.pos } in
+    let operation : machine.Operation = operation_of c.args.operation.now in
     let arg = c.in-Some.arg.now in
     rw (
       c.in-Some.is,
       named_so rules operation c.args.captures k _
-          (keyword_of c.args.token c.args.name.now (length (arg ∷ c.args.rest.now))) (arg ∷ c.args.rest.now)
-          (counted c.args.token c.args.name.now c.args.rest.now ∙ sym c.keyword_of.ensures
+          (keyword_of c.args.operation.now.token c.args.operation.now.name.now (length (arg ∷ c.args.rest.now))) (arg ∷ c.args.rest.now)
+          (counted c.args.operation.now.token c.args.operation.now.name.now c.args.rest.now ∙ sym c.keyword_of.ensures
           ∙ ap (option_map word_of) c.in-None-keyword_of.is),
     )
     ((rw (c.in-Some.is, c.new-curried-in-None-keyword_of.ensures) at c.run_named-in-None-keyword_of.ensures.runs) k)
@@ -129,18 +131,18 @@ run_keyword-run_named-requires g t c =
     )
 
 pub run_keyword-returns-then-not-run_arg-clause-runs : goal.run_keyword-returns-then-not-run_arg-clause-runs
-unfolding after Steps RunsUnder
+unfolding after Goes
 run_keyword-returns-then-not-run_arg-clause-runs g t c k =
     c.if-not-run_arg.ensures.runs (KeywordArgument _ _ _ _ _ ∷ k) ⨾ next here
 
 pub run_keyword-returns-in-IsShared-clause-runs : goal.run_keyword-returns-in-IsShared-clause-runs
-unfolding after Steps RunsUnder
+unfolding after Goes
 run_keyword-returns-in-IsShared-clause-runs g t c k =
     rw (c.in-IsShared.is, c.put.ensures, c.is_shared.ensures, c.take_value-value.ensures.taken)
     (c.if-not-run_arg.ensures.runs (KeywordArgument _ _ _ _ _ ∷ k) ⨾ next here)
 
 pub run_keyword-returns-in-Err-clause-runs : goal.run_keyword-returns-in-Err-clause-runs
-unfolding Steps RunsUnder
+unfolding Goes
 run_keyword-returns-in-Err-clause-runs g t c k =
     let rules = under g.H.Host.name_of c.args.self.now g.T.NativeTable.natives in
     rw (c.in-IsDefinedVariable.is, c.stop.ensures.stopped, c.stop.ensures.told)
@@ -149,7 +151,7 @@ run_keyword-returns-in-Err-clause-runs g t c k =
     (rw (c.take_value-value.ensures.taken, c.start_position-start.ensures) at c.in-Err.ensures))
 
 pub run_keyword-returns-in-Ok-clause-runs : goal.run_keyword-returns-in-Ok-clause-runs
-unfolding Steps RunsUnder
+unfolding Goes
 run_keyword-returns-in-Ok-clause-runs g t c k =
     let rules = under g.H.Host.name_of c.args.self.now g.T.NativeTable.natives in
     rw (c.in-IsDefinedVariable.is, c.put-in-Ok.ensures, c.is_defined.ensures)
@@ -158,7 +160,7 @@ run_keyword-returns-in-Ok-clause-runs g t c k =
     ((rw (c.take_value-value.ensures.taken, c.start_position-start.ensures) at c.in-Ok.ensures) tt) here)
 
 pub run_keyword-returns-in-Err-text_of-clause-runs : goal.run_keyword-returns-in-Err-text_of-clause-runs
-unfolding Steps RunsUnder
+unfolding Goes
 run_keyword-returns-in-Err-text_of-clause-runs g t c k =
     let rules = under g.H.Host.name_of c.args.self.now g.T.NativeTable.natives in
     rw (c.in-MakePointer.is, c.stop-in-Err-text_of.ensures.stopped, c.stop-in-Err-text_of.ensures.told)
@@ -167,7 +169,7 @@ run_keyword-returns-in-Err-text_of-clause-runs g t c k =
     (rw (c.take_value-value.ensures.taken, c.start_position-start.ensures) at c.in-Err-text_of.ensures))
 
 pub run_keyword-returns-in-Ok-text_of-clause-runs : goal.run_keyword-returns-in-Ok-text_of-clause-runs
-unfolding Steps RunsUnder
+unfolding Goes
 run_keyword-returns-in-Ok-text_of-clause-runs g t c k =
     let rules = under g.H.Host.name_of c.args.self.now g.T.NativeTable.natives in
     rw (c.in-MakePointer.is, c.settle.ensures)
@@ -177,7 +179,7 @@ run_keyword-returns-in-Ok-text_of-clause-runs g t c k =
     (told rules _ _ (rw c.start_position-start.ensures at c.make_pointer-made.ensures) k _))
 
 pub run_keyword-returns-in-Err-pointer_of-clause-runs : goal.run_keyword-returns-in-Err-pointer_of-clause-runs
-unfolding Steps RunsUnder
+unfolding Goes
 run_keyword-returns-in-Err-pointer_of-clause-runs g t c k =
     let rules = under g.H.Host.name_of c.args.self.now g.T.NativeTable.natives in
     rw (c.in-Curry.is, c.stop-in-Err-pointer_of.ensures.stopped, c.stop-in-Err-pointer_of.ensures.told)
@@ -186,7 +188,7 @@ run_keyword-returns-in-Err-pointer_of-clause-runs g t c k =
     (rw (c.take_value-value.ensures.taken, c.start_position-start.ensures) at c.in-Err-pointer_of.ensures))
 
 pub run_keyword-returns-in-Ok-pointer_of-clause-runs : goal.run_keyword-returns-in-Ok-pointer_of-clause-runs
-unfolding Steps RunsUnder StartsAs
+unfolding Goes
 run_keyword-returns-in-Ok-pointer_of-clause-runs g t c k =
     let rules = under g.H.Host.name_of c.args.self.now g.T.NativeTable.natives in
     rw c.in-Curry.is
@@ -196,7 +198,7 @@ run_keyword-returns-in-Ok-pointer_of-clause-runs g t c k =
     (c.run_pointer.ensures.runs k))
 
 pub run_keyword-returns-in-Err-pointer_of-2-clause-runs : goal.run_keyword-returns-in-Err-pointer_of-2-clause-runs
-unfolding Steps RunsUnder
+unfolding Goes
 run_keyword-returns-in-Err-pointer_of-2-clause-runs g t c k =
     let rules = under g.H.Host.name_of c.args.self.now g.T.NativeTable.natives in
     rw (c.in-CallPointer.is, c.stop-in-Err-pointer_of-2.ensures.stopped, c.stop-in-Err-pointer_of-2.ensures.told)
@@ -205,7 +207,7 @@ run_keyword-returns-in-Err-pointer_of-2-clause-runs g t c k =
     (rw (c.take_value-value.ensures.taken, c.start_position-start.ensures) at c.in-Err-pointer_of-2.ensures))
 
 pub run_keyword-returns-in-Ok-Some-clause-runs : goal.run_keyword-returns-in-Ok-Some-clause-runs
-unfolding Steps RunsUnder StartsAs
+unfolding Goes
 run_keyword-returns-in-Ok-Some-clause-runs g t c k =
     let rules = under g.H.Host.name_of c.args.self.now g.T.NativeTable.natives in
     let pointer = c.in-Ok-pointer_of-2.pointer in
@@ -218,7 +220,7 @@ run_keyword-returns-in-Ok-Some-clause-runs g t c k =
     ((rw c.parts_of-name.ensures.curried at c.run_pointer-in-Ok-Some.ensures.runs) k)))
 
 pub run_keyword-returns-in-Some-clause-runs : goal.run_keyword-returns-in-Some-clause-runs
-unfolding Steps RunsUnder StartsAs
+unfolding Goes
 run_keyword-returns-in-Some-clause-runs g t c k =
     let rules = under g.H.Host.name_of c.args.self.now g.T.NativeTable.natives in
     let pointer = c.in-Ok-pointer_of-2.pointer in
@@ -233,7 +235,7 @@ run_keyword-returns-in-Some-clause-runs g t c k =
     ((rw c.parts_of-name-in-Ok-None.ensures.curried at c.run_pointer-in-Some.ensures.runs) k))))
 
 pub run_keyword-returns-in-None-clause-runs : goal.run_keyword-returns-in-None-clause-runs
-unfolding Steps RunsUnder StartsAs
+unfolding Goes
 run_keyword-returns-in-None-clause-runs g t c k =
     let rules = under g.H.Host.name_of c.args.self.now g.T.NativeTable.natives in
     let pointer = c.in-Ok-pointer_of-2.pointer in
@@ -256,7 +258,7 @@ run_keyword-returns-in-None-clause-runs g t c k =
 
 -- memory runs out at the keyword's own frame
 pub run_keyword-returns-in-Err-linked_function-clause-runs : goal.run_keyword-returns-in-Err-linked_function-clause-runs
-unfolding after Steps RunsUnder
+unfolding after Goes
 run_keyword-returns-in-Err-linked_function-clause-runs g t c k =
     rw (c.stop-in-Err-linked_function.ensures.stopped, c.stop-in-Err-linked_function.ensures.told)
     (c.if-not-run_arg.ensures.runs (KeywordArgument _ _ _ _ _ ∷ k) ⨾ out_before_step {at = c.args.pos} (next here))
@@ -274,13 +276,13 @@ run_pointer-run_more_args-requires g t c =
     )
 
 pub run_pointer-returns-then-not-run_more_args-clause-runs : goal.run_pointer-returns-then-not-run_more_args-clause-runs
-unfolding StartsAs Collects
+unfolding Goes Collects
 run_pointer-returns-then-not-run_more_args-clause-runs g t c k =
     ((rw c.new-values.ensures at c.if-not-run_more_args.ensures.collects)
     (purpose_of c.args.pointer c.args.pos) (kept_as_they_are c.args.pointer c.args.pos) k)
 
 pub run_pointer-returns-clause-runs : goal.run_pointer-returns-clause-runs
-unfolding StartsAs Collects GoesOut
+unfolding Goes Collects
 run_pointer-returns-clause-runs g t c k =
     (rw c.new-values.ensures at c.if-not-run_more_args.ensures.collects)
     (purpose_of c.args.pointer c.args.pos) (kept_as_they_are c.args.pointer c.args.pos) k
@@ -304,7 +306,7 @@ run_named-run_more_args-requires g t c =
           (
             omega arith,
             same c.if-not-charge.ensures.sight refl (brings (λ frame h. this_resolves _ (option_copied c.args.first) c.args.rest.now
-                c.args.run.now.this c.in-Some.this_at frame found h) c.requires.1.1.1.1),
+                c.args.run.now.this c.in-Some.this_at frame found h) c.requires),
           ),
         ),
       ),
@@ -329,7 +331,7 @@ run_named-run_more_args-requires-in-Some-first_variable g t c =
           (
             omega arith,
             same c.if-not-charge-2.ensures.sight refl (brings (λ frame h. (first_resolves args first.arg leading.rest frame
-                first.comes_first h).1) c.requires.1.1.1.1),
+                first.comes_first h).1) c.requires),
           ),
         ),
       ),
@@ -346,14 +348,14 @@ run_named-call_with_variable-called-requires g t c =
       still (c.if-not-run_more_args-2.ensures.names refl)
           (same c.if-not-charge-2.ensures.sight refl (brings (λ frame h. good_name first.arg
           leading.offset leading.name leading.namespace leading.at frame first.is_variable
-          (first_resolves args first.arg leading.rest frame first.comes_first h).0) c.requires.1.1.1.1)),
+          (first_resolves args first.arg leading.rest frame first.comes_first h).0) c.requires)),
     )
 
 pub run_named-returns-then-not-charge-clause-runs : goal.run_named-returns-then-not-charge-clause-runs
-unfolding Steps
+unfolding Goes
 run_named-returns-then-not-charge-clause-runs g t c k =
     let rules = under g.H.Host.name_of c.args.self.now g.T.NativeTable.natives in
-    let operation : machine.Operation = record { name = c.args.name.now; token = c.args.token; at = c.args.pos } in
+    let operation : machine.Operation = operation_of c.args.operation.now in
     let purpose : machine.Purpose g.row.H.Denot = ToCallOnThis operation c.in-Some.this_at (plainly c.args.natives_alone false) in
     let found = sym (rw c.as_slice.ensures at c.this_first.ensures) ∙ c.in-Some.is in
     let charges = this_goes rules.setting operation c.args.curried (option_copied c.args.first) c.args.rest.now c.args.captures
@@ -363,10 +365,10 @@ run_named-returns-then-not-charge-clause-runs g t c k =
     (c.if-not-charge.ensures.refused refl) (c.if-not-charge.ensures.same refl)
 
 pub run_named-returns-then-not-run_more_args-clause-runs : goal.run_named-returns-then-not-run_more_args-clause-runs
-unfolding Steps Collects
+unfolding Goes Collects
 run_named-returns-then-not-run_more_args-clause-runs g t c k =
     let rules = under g.H.Host.name_of c.args.self.now g.T.NativeTable.natives in
-    let operation : machine.Operation = record { name = c.args.name.now; token = c.args.token; at = c.args.pos } in
+    let operation : machine.Operation = operation_of c.args.operation.now in
     let purpose : machine.Purpose g.row.H.Denot = ToCallOnThis operation c.in-Some.this_at (plainly c.args.natives_alone false) in
     let found = sym (rw c.as_slice.ensures at c.this_first.ensures) ∙ c.in-Some.is in
     let charges = this_goes rules.setting operation c.args.curried (option_copied c.args.first) c.args.rest.now c.args.captures
@@ -377,10 +379,10 @@ run_named-returns-then-not-run_more_args-clause-runs g t c k =
     ⨾ (rw c.new-values.ensures at c.if-not-run_more_args.ensures.collects) purpose refl k)
 
 pub run_named-returns-in-Some-clause-runs : goal.run_named-returns-in-Some-clause-runs
-unfolding Steps Collects GoesOut StartsAs
+unfolding Goes Collects
 run_named-returns-in-Some-clause-runs g t c k =
     let rules = under g.H.Host.name_of c.args.self.now g.T.NativeTable.natives in
-    let operation : machine.Operation = record { name = c.args.name.now; token = c.args.token; at = c.args.pos } in
+    let operation : machine.Operation = operation_of c.args.operation.now in
     let purpose : machine.Purpose g.row.H.Denot = ToCallOnThis operation c.in-Some.this_at (plainly c.args.natives_alone false) in
     let found = sym (rw c.as_slice.ensures at c.this_first.ensures) ∙ c.in-Some.is in
     let charges = this_goes rules.setting operation c.args.curried (option_copied c.args.first) c.args.rest.now c.args.captures
@@ -393,10 +395,10 @@ run_named-returns-in-Some-clause-runs g t c k =
     ⨾ c.finish_call-done.ensures.runs k
 
 pub run_named-returns-then-not-charge-2-clause-runs : goal.run_named-returns-then-not-charge-2-clause-runs
-unfolding Steps
+unfolding Goes
 run_named-returns-then-not-charge-2-clause-runs g t c k =
     let rules = under g.H.Host.name_of c.args.self.now g.T.NativeTable.natives in
-    let operation : machine.Operation = record { name = c.args.name.now; token = c.args.token; at = c.args.pos } in
+    let operation : machine.Operation = operation_of c.args.operation.now in
     let variable = leading_seen c.in-Some-first_variable.variable in
     let purpose : machine.Purpose g.row.H.Denot =
     ToCallOn operation (variable_read variable) (plainly c.args.natives_alone false) in
@@ -408,10 +410,10 @@ run_named-returns-then-not-charge-2-clause-runs g t c k =
     (c.if-not-charge-2.ensures.refused refl) (c.if-not-charge-2.ensures.same refl)
 
 pub run_named-returns-then-not-run_more_args-2-clause-runs : goal.run_named-returns-then-not-run_more_args-2-clause-runs
-unfolding Steps Collects
+unfolding Goes Collects
 run_named-returns-then-not-run_more_args-2-clause-runs g t c k =
     let rules = under g.H.Host.name_of c.args.self.now g.T.NativeTable.natives in
-    let operation : machine.Operation = record { name = c.args.name.now; token = c.args.token; at = c.args.pos } in
+    let operation : machine.Operation = operation_of c.args.operation.now in
     let variable = leading_seen c.in-Some-first_variable.variable in
     let purpose : machine.Purpose g.row.H.Denot =
     ToCallOn operation (variable_read variable) (plainly c.args.natives_alone false) in
@@ -425,10 +427,10 @@ run_named-returns-then-not-run_more_args-2-clause-runs g t c k =
     at c.if-not-run_more_args-2.ensures.collects) purpose refl k)
 
 pub run_named-returns-else-not-run_more_args-2-clause-runs : goal.run_named-returns-else-not-run_more_args-2-clause-runs
-unfolding Steps Collects GoesOut StartsAs
+unfolding Goes Collects
 run_named-returns-else-not-run_more_args-2-clause-runs g t c k =
     let rules = under g.H.Host.name_of c.args.self.now g.T.NativeTable.natives in
-    let operation : machine.Operation = record { name = c.args.name.now; token = c.args.token; at = c.args.pos } in
+    let operation : machine.Operation = operation_of c.args.operation.now in
     let variable = leading_seen c.in-Some-first_variable.variable in
     let purpose : machine.Purpose g.row.H.Denot =
     ToCallOn operation (variable_read variable) (plainly c.args.natives_alone false) in
@@ -444,7 +446,7 @@ run_named-returns-else-not-run_more_args-2-clause-runs g t c k =
     ⨾ c.finish_call-done-in-Some-first_variable.ensures.runs k
 
 pub run_named-returns-in-None-clause-runs : goal.run_named-returns-in-None-clause-runs
-unfolding Steps StartsAs
+unfolding Goes
 run_named-returns-in-None-clause-runs g t c k =
     let rules = under g.H.Host.name_of c.args.self.now g.T.NativeTable.natives in
     let none = sym (rw c.as_slice-2.ensures at c.first_variable.ensures) ∙ ap (option_map leading_seen) c.in-None.is in
@@ -460,21 +462,21 @@ unfolding ChangesNames KeepsNames RestoresNames SuitsNames
 run_on_values-run_all_args-requires g t c =
     λ κs lives. (
       omega arith,
-      (lives.0, (lives.1, (omega arith, c.requires.1.1.1.1))),
+      (lives.0, (lives.1, (omega arith, c.requires))),
     )
 
 pub run_on_values-returns-then-not-run_all_args-clause-runs : goal.run_on_values-returns-then-not-run_all_args-clause-runs
-unfolding StartsAs Collects
+unfolding Goes Collects
 run_on_values-returns-then-not-run_all_args-clause-runs g t c k =
-    let operation : machine.Operation = record { name = c.args.name.now; token = c.args.token; at = c.args.pos } in
+    let operation : machine.Operation = operation_of c.args.operation.now in
     let on_scope = is_captured c.args.captures (entries_of c.args.run.now.scope) in
     let purpose : machine.Purpose g.row.H.Denot = ToCall operation c.args.curried (plainly c.args.natives_alone on_scope) in
     ((rw c.new-values.ensures at c.if-not-run_all_args.ensures.collects) purpose refl k)
 
 pub run_on_values-returns-clause-runs : goal.run_on_values-returns-clause-runs
-unfolding StartsAs Collects GoesOut
+unfolding Goes Collects
 run_on_values-returns-clause-runs g t c k =
-    let operation : machine.Operation = record { name = c.args.name.now; token = c.args.token; at = c.args.pos } in
+    let operation : machine.Operation = operation_of c.args.operation.now in
     let on_scope = is_captured c.args.captures (entries_of c.args.run.now.scope) in
     let purpose : machine.Purpose g.row.H.Denot = ToCall operation c.args.curried (plainly c.args.natives_alone on_scope) in
     (rw c.new-values.ensures at c.if-not-run_all_args.ensures.collects) purpose refl k
@@ -503,7 +505,7 @@ unfolding ChangesNames KeepsNames RestoresNames SuitsNames
 run_more_args-each_arg-init g t c = record { counts = omega arith; names = stays refl refl; more = refl; steps = λ purpose is k. here }
 
 pub run_more_args-each_arg-preserved : goal.run_more_args-each_arg-preserved
-unfolding Steps ChangesNames KeepsNames RestoresNames SuitsNames
+unfolding Goes ChangesNames KeepsNames RestoresNames SuitsNames
 run_more_args-each_arg-preserved g t c =
     let rules = under g.H.Host.name_of c.args.self.now g.T.NativeTable.natives in
     record {
@@ -522,13 +524,13 @@ run_more_args-each_arg-preserved g t c =
     }
 
 pub run_more_args-returns-then-not-run_arg-clause-collects : goal.run_more_args-returns-then-not-run_arg-clause-collects
-unfolding after Steps Collects
+unfolding after Goes Collects
 run_more_args-returns-then-not-run_arg-clause-collects g t c purpose is k =
     c.each_arg.invariant.steps purpose is k ⨾ rw (drop_item _ _ _ c.each_arg-test.true c.arg-item.is)
     (c.if-not-run_arg.ensures.runs (CallArgument _ _ _ _ ∷ k) ⨾ next here)
 
 pub run_more_args-returns-then-not-push_argument-clause-collects : goal.run_more_args-returns-then-not-push_argument-clause-collects
-unfolding Steps Collects
+unfolding Goes Collects
 run_more_args-returns-then-not-push_argument-clause-collects g t c purpose is k =
     let rules = under g.H.Host.name_of c.args.self.now g.T.NativeTable.natives in
     c.each_arg.invariant.steps purpose is k ⨾ rw (drop_item _ _ _ c.each_arg-test.true c.arg-item.is)
@@ -537,7 +539,7 @@ run_more_args-returns-then-not-push_argument-clause-collects g t c purpose is k 
     c.args.flattened (error_in c.push_argument.new.place) is (c.if-not-push_argument.ensures.refused refl))
 
 pub run_more_args-returns-clause-collects : goal.run_more_args-returns-clause-collects
-unfolding Collects
+unfolding Collects Goes
 run_more_args-returns-clause-collects g t c purpose is k =
     c.each_arg.invariant.steps purpose is k ⨾ rw (drop_all _ _ c.each_arg-test.false) here
 
@@ -562,12 +564,12 @@ run_all_args-run_arg-requires g t c =
     )
 
 pub run_all_args-returns-then-not-run_arg-clause-collects : goal.run_all_args-returns-then-not-run_arg-clause-collects
-unfolding after Steps Collects
+unfolding after Goes Collects
 run_all_args-returns-then-not-run_arg-clause-collects g t c purpose is k =
     rw c.in-Some.is (c.if-not-run_arg.ensures.runs (CallArgument _ _ _ _ ∷ k) ⨾ next here)
 
 pub run_all_args-returns-then-not-push_argument-clause-collects : goal.run_all_args-returns-then-not-push_argument-clause-collects
-unfolding Steps Collects
+unfolding Goes Collects
 run_all_args-returns-then-not-push_argument-clause-collects g t c purpose is k =
     let rules = under g.H.Host.name_of c.args.self.now g.T.NativeTable.natives in
     rw c.in-Some.is
@@ -596,7 +598,7 @@ run_all_args-run_more_args-requires g t c =
     )
 
 pub run_all_args-returns-in_default-clause-collects : goal.run_all_args-returns-in_default-clause-collects
-unfolding Collects
+unfolding Collects Goes
 run_all_args-returns-in_default-clause-collects g t c purpose is k = rw c.in_default.is here
 
 pub run_all_args-returns-clause-counts : goal.run_all_args-returns-clause-counts
@@ -608,7 +610,7 @@ unfolding ChangesNames KeepsNames RestoresNames SuitsNames
 run_all_args-returns-clause-names g t c done = leads_then (c.if-not-run_arg.ensures.names refl) (c.run_more_args.ensures.names done)
 
 pub run_all_args-returns-clause-collects : goal.run_all_args-returns-clause-collects
-unfolding Steps Collects
+unfolding Goes Collects
 run_all_args-returns-clause-collects g t c purpose is k =
     let rules = under g.H.Host.name_of c.args.self.now g.T.NativeTable.natives in
     rw c.in-Some.is

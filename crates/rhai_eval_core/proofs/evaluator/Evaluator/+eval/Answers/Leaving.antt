@@ -2,7 +2,7 @@ use Rattle.std.proofs.Common.{◌∷◌, refl}
 use Rattle.rhai_machine.specs.machine.Point.{after}
 use Rattle.rhai_machine.specs.machine.Memory.{here, next, ◌⨾◌}
 use Rattle.rhai_machine.specs.language.Frames.{BreakValue}
-use Rattle.rhai_machine.specs.language.Runs.{Steps}
+use Rattle.rhai_machine.specs.language.Runs.{Goes}
 use Rattle.rhai_machine.specs.language.Statements.{has_option}
 use Rattle.rhai_steps.proofs.Pieces.{faulted}
 use Rattle.rhai_eval_core.specs.States.{under}
@@ -12,20 +12,20 @@ use Rattle.rhai_eval_core.proofs.Chain.{flat_fails}
 use Rattle.rhai_eval_core.proofs.evaluator.Evaluator.+eval.Goals as goal
 
 pub run_break-returns-in-None-clause-runs : goal.run_break-returns-in-None-clause-runs
-unfolding Steps
+unfolding Goes
 run_break-returns-in-None-clause-runs g t c restoring k =
     let rules = under g.H.Host.name_of c.args.self.now g.T.NativeTable.natives in
     rw c.in-None.is (breaks_unit rules c.args.options _ _ _ c.args.pos restoring k _ refl c.put_unit.ensures c.break_with.ensures.told)
 
 pub run_break-returns-then-not-run_expr-clause-runs : goal.run_break-returns-then-not-run_expr-clause-runs
-unfolding after Steps
+unfolding after Goes
 run_break-returns-then-not-run_expr-clause-runs g t c restoring k =
     let rules = under g.H.Host.name_of c.args.self.now g.T.NativeTable.natives in
     rw c.in-Some.is (breaks_value rules _ _ _ restoring k _
     ⨾ c.if-not-run_expr.ensures.runs (BreakValue _ _ ∷ k) ⨾ next here)
 
 pub run_break-returns-else-not-run_expr-clause-runs : goal.run_break-returns-else-not-run_expr-clause-runs
-unfolding after Steps
+unfolding after Goes
 run_break-returns-else-not-run_expr-clause-runs g t c restoring k =
     let rules = under g.H.Host.name_of c.args.self.now g.T.NativeTable.natives in
     rw c.in-Some.is (breaks_value rules _ _ _ restoring k _
@@ -33,14 +33,14 @@ run_break-returns-else-not-run_expr-clause-runs g t c restoring k =
     ⨾ next (faulted rules _ _ c.break_with-in-Some.ensures.told k _))
 
 pub run_return-returns-in-None-clause-runs : goal.run_return-returns-in-None-clause-runs
-unfolding after Steps
+unfolding after Goes
 run_return-returns-in-None-clause-runs g t c restoring k =
     let rules = under g.H.Host.name_of c.args.self.now g.T.NativeTable.natives in
     rw c.in-None.is (returns_unit rules _ _ restoring k _
     ⨾ rw (← c.put_unit.ensures) (faulted rules _ _ c.leave_with.ensures.told k _))
 
 pub run_return-returns-then-not-run_expr-clause-runs : goal.run_return-returns-then-not-run_expr-clause-runs
-unfolding after Steps
+unfolding after Goes
 run_return-returns-then-not-run_expr-clause-runs g t c restoring k =
     let rules = under g.H.Host.name_of c.args.self.now g.T.NativeTable.natives in
     rw c.in-Some.is (returns_value rules _ _ _ restoring k _
@@ -48,7 +48,7 @@ run_return-returns-then-not-run_expr-clause-runs g t c restoring k =
     ⨾ leaving_passes rules (has_option 2 c.args.options) _ _ _ k _)
 
 pub run_return-returns-then-not-flatten_at-clause-runs : goal.run_return-returns-then-not-flatten_at-clause-runs
-unfolding after Steps
+unfolding after Goes
 run_return-returns-then-not-flatten_at-clause-runs g t c restoring k =
     let rules = under g.H.Host.name_of c.args.self.now g.T.NativeTable.natives in
     rw c.in-Some.is (returns_value rules _ _ _ restoring k _
@@ -57,7 +57,7 @@ run_return-returns-then-not-flatten_at-clause-runs g t c restoring k =
     c.if-not-flatten_at.ensures.exact)
 
 pub run_return-returns-else-not-flatten_at-clause-runs : goal.run_return-returns-else-not-flatten_at-clause-runs
-unfolding after Steps
+unfolding after Goes
 run_return-returns-else-not-flatten_at-clause-runs g t c restoring k =
     let rules = under g.H.Host.name_of c.args.self.now g.T.NativeTable.natives in
     rw c.in-Some.is (returns_value rules _ _ _ restoring k _

@@ -143,7 +143,8 @@ walk_entered-returns-in_default-key_for-clause-runs g t c scope held rest =
     c.step_out-in_default-key_for.new.focus
     (cells_of c.args.run.now.global.cells) (cells_of c.step_in-above.new.cells) (cells_of c.step_in-above.new.cells)
     (cells_of c.step_out-in_default-key_for.new.cells) c.step_in-above.ensures
-    (first_runs_out rules (inside_core rules.setting link was inner chain) taken (error_in c.key_for.new.place) _ c.in_default-key_for.ensures)
+    (first_runs_out rules (inside_core rules.setting link was inner chain) taken
+    (error_in c.key_for.new.place) _ c.in_default-key_for.ensures)
     c.step_out-in_default-key_for.ensures
 
 pub walk_entered-returns-in-Some-clause-runs : goal.walk_entered-returns-in-Some-clause-runs

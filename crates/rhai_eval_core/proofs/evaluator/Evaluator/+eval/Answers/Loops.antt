@@ -3,7 +3,7 @@ use Rattle.std.proofs.lemmas.Bool.{true≢false}
 use Rattle.rhai_machine.specs.machine.Point.{after}
 use Rattle.rhai_machine.specs.machine.Memory.{here, next, ◌⨾◌}
 use Rattle.rhai_machine.specs.language.Frames.{WhileCondition, WhileBody, DoCondition, DoBody}
-use Rattle.rhai_machine.specs.language.Runs.{Steps}
+use Rattle.rhai_machine.specs.language.Runs.{Goes}
 use Rattle.rhai_machine.specs.language.Statements.{has_option}
 use Rattle.rhai_laws.proofs.KeptLaws.{counted}
 use Rattle.rhai_context.specs.Ends.{came}
@@ -21,20 +21,20 @@ use Rattle.rhai_eval_core.proofs.Chain.{on_ok}
 use Rattle.rhai_eval_core.proofs.evaluator.Evaluator.+eval.Goals as goal
 
 pub run_while-turns-init : goal.run_while-turns-init
-unfolding after Steps ChangesNames KeepsNames RestoresNames SuitsNames
+unfolding after Goes ChangesNames KeepsNames RestoresNames SuitsNames
 run_while-turns-init g t c =
     record { counts = omega arith; names = stays refl refl; steps = λ k. here }
 
 pub run_while-turns-smaller : goal.run_while-turns-smaller
-unfolding after Steps
+unfolding after Goes
 run_while-turns-smaller g t c =
-    let full : c.args.self.now.limits.now.max_operations ≤ c.turns.run.global.num_operations →
+    let full : c.args.self.now.session.limits.max_operations ≤ c.turns.run.global.num_operations →
     c.while_turn.new.run.global.num_operations ≡ c.turns.run.global.num_operations = λ le. stays_full _ _ (c.while_turn.ensures.runs [])
     le in
     grind (arith, full, rw c.in_default.is at c.while_turn.ensures.charges)
 
 pub run_while-turns-preserved : goal.run_while-turns-preserved
-unfolding after Steps ChangesNames KeepsNames RestoresNames SuitsNames
+unfolding after Goes ChangesNames KeepsNames RestoresNames SuitsNames
 run_while-turns-preserved g t c =
     record {
       counts = omega (arith, rw c.in_default.is at c.while_turn.ensures.charges);
@@ -43,7 +43,7 @@ run_while-turns-preserved g t c =
     }
 
 pub run_while-returns-in-Some-clause-runs : goal.run_while-returns-in-Some-clause-runs
-unfolding after Steps
+unfolding after Goes
 run_while-returns-in-Some-clause-runs g t c k =
     c.turns.invariant.steps k ⨾ (rw (turn_ended c.in-Some.done _ _ _) at c.in-Some.ensures.runs) k
 
@@ -57,19 +57,19 @@ run_while-returns-in-Some-clause-names g t c done =
     leads_then c.turns.invariant.names (on_end c.in-Some.done _ _ c.in-Some.ensures.names done)
 
 pub run_do-turns-init : goal.run_do-turns-init
-unfolding after Steps ChangesNames KeepsNames RestoresNames SuitsNames
+unfolding after Goes ChangesNames KeepsNames RestoresNames SuitsNames
 run_do-turns-init g t c =
     record { counts = omega arith; names = stays refl refl; steps = λ k. here }
 
 pub run_do-turns-smaller : goal.run_do-turns-smaller
-unfolding after Steps
+unfolding after Goes
 run_do-turns-smaller g t c =
-    let full : c.args.self.now.limits.now.max_operations ≤ c.turns.run.global.num_operations →
+    let full : c.args.self.now.session.limits.max_operations ≤ c.turns.run.global.num_operations →
     c.do_turn.new.run.global.num_operations ≡ c.turns.run.global.num_operations = λ le. stays_full _ _ (c.do_turn.ensures.runs []) le in
     grind (arith, full, rw c.in_default.is at c.do_turn.ensures.charges)
 
 pub run_do-turns-preserved : goal.run_do-turns-preserved
-unfolding after Steps ChangesNames KeepsNames RestoresNames SuitsNames
+unfolding after Goes ChangesNames KeepsNames RestoresNames SuitsNames
 run_do-turns-preserved g t c =
     record {
       counts = omega (arith, rw c.in_default.is at c.do_turn.ensures.charges);
@@ -78,7 +78,7 @@ run_do-turns-preserved g t c =
     }
 
 pub run_do-returns-in-Some-clause-runs : goal.run_do-returns-in-Some-clause-runs
-unfolding after Steps
+unfolding after Goes
 run_do-returns-in-Some-clause-runs g t c k =
     c.turns.invariant.steps k ⨾ (rw (turn_ended c.in-Some.done _ _ _) at c.in-Some.ensures.runs) k
 
@@ -92,7 +92,7 @@ run_do-returns-in-Some-clause-names g t c done =
     leads_then c.turns.invariant.names (on_end c.in-Some.done _ _ c.in-Some.ensures.names done)
 
 pub do_turn-returns-in-Stopped-clause-runs : goal.do_turn-returns-in-Stopped-clause-runs
-unfolding after Steps
+unfolding after Goes
 do_turn-returns-in-Stopped-clause-runs g t c k =
     let rules = under g.H.Host.name_of c.args.self.now g.T.NativeTable.natives in
     next ((rw c.as_slice-statements.ensures at c.run_stmt_block-done.ensures.runs) (DoBody _ _ _ ∷ k) ⨾ do_leads rules
@@ -101,7 +101,7 @@ do_turn-returns-in-Stopped-clause-runs g t c k =
     (sym (rw c.in-Stopped.is at c.body_way.ensures)))
 
 pub do_turn-returns-in-Break-clause-runs : goal.do_turn-returns-in-Break-clause-runs
-unfolding after Steps
+unfolding after Goes
 do_turn-returns-in-Break-clause-runs g t c k =
     let rules = under g.H.Host.name_of c.args.self.now g.T.NativeTable.natives in
     next ((rw c.as_slice-statements.ensures at c.run_stmt_block-done.ensures.runs) (DoBody _ _ _ ∷ k) ⨾ do_leads rules
@@ -121,7 +121,7 @@ unfolding ChangesNames KeepsNames RestoresNames SuitsNames
 do_turn-returns-in-Break-clause-names g t c = put_back (c.run_stmt_block-done.ensures.restores refl)
 
 pub do_turn-returns-in-Continue-clause-runs : goal.do_turn-returns-in-Continue-clause-runs
-unfolding after Steps
+unfolding after Goes
 do_turn-returns-in-Continue-clause-runs g t c k =
     let rules = under g.H.Host.name_of c.args.self.now g.T.NativeTable.natives in
     next ((rw c.as_slice-statements.ensures at c.run_stmt_block-done.ensures.runs) (DoBody _ _ _ ∷ k) ⨾ do_leads rules
@@ -151,22 +151,22 @@ do_turn-run_condition-requires g t c =
     )
 
 pub do_turn-returns-in-None-clause-runs : goal.do_turn-returns-in-None-clause-runs
-unfolding after Steps Tests
+unfolding after Goes Tests
 do_turn-returns-in-None-clause-runs g t c k =
     let rules = under g.H.Host.name_of c.args.self.now g.T.NativeTable.natives in
     next ((rw c.as_slice-statements.ensures at c.run_stmt_block-done.ensures.runs) (DoBody _ _ _ ∷ k) ⨾ do_leads rules
     (came c.run_stmt_block-done.result c.run_stmt_block-done.new.run.value c.run_stmt_block-done.new.run.error) c.args.test.now
     c.args.body.now c.args.options k _ _
-    (sym (rw c.in-Done.is at c.body_way.ensures)) ⨾ c.in-None.ensures.runs (DoCondition _ _ _) k refl)
+    (sym (rw c.in-Done.is at c.body_way.ensures)) ⨾ c.in-None.ensures.runs (DoCondition _ _ _) refl k)
 
 pub do_turn-returns-in-Some-clause-runs : goal.do_turn-returns-in-Some-clause-runs
-unfolding after Steps Tests
+unfolding after Goes Tests
 do_turn-returns-in-Some-clause-runs g t c k =
     let rules = under g.H.Host.name_of c.args.self.now g.T.NativeTable.natives in
     next ((rw c.as_slice-statements.ensures at c.run_stmt_block-done.ensures.runs) (DoBody _ _ _ ∷ k) ⨾ do_leads rules
     (came c.run_stmt_block-done.result c.run_stmt_block-done.new.run.value c.run_stmt_block-done.new.run.error) c.args.test.now
     c.args.body.now c.args.options k _ _
-    (sym (rw c.in-Done.is at c.body_way.ensures)) ⨾ c.in-Some.ensures.runs (DoCondition _ _ _) k refl
+    (sym (rw c.in-Done.is at c.body_way.ensures)) ⨾ c.in-Some.ensures.runs (DoCondition _ _ _) refl k
     ⨾ rw c.settle_turn.ensures (do_tested rules _ (has_option 1 c.args.options) c.in-Some.holds _ k _ c.do_next-turn.ensures))
 
 pub do_turn-returns-in-Some-clause-charges : goal.do_turn-returns-in-Some-clause-charges
@@ -183,13 +183,13 @@ do_turn-returns-in-Some-clause-names g t c =
     on_ok _ (leads_then (put_back (c.run_stmt_block-done.ensures.restores refl)) c.in-Some.ensures.names)
 
 pub while_turn-returns-in-None-clause-runs : goal.while_turn-returns-in-None-clause-runs
-unfolding after Steps Tests
+unfolding after Goes Tests
 while_turn-returns-in-None-clause-runs g t c k =
     let rules = under g.H.Host.name_of c.args.self.now g.T.NativeTable.natives in
-    while_asks rules _ _ k _ (sym c.is_endless.ensures ∙ c.if-is_endless.false) ⨾ c.in-None.ensures.runs (WhileCondition _ _) k refl
+    while_asks rules _ _ k _ (sym c.is_endless.ensures ∙ c.if-is_endless.false) ⨾ c.in-None.ensures.runs (WhileCondition _ _) refl k
 
 pub while_turn-returns-then-is_empty-clause-runs : goal.while_turn-returns-then-is_empty-clause-runs
-unfolding after Steps
+unfolding after Goes
 while_turn-returns-then-is_empty-clause-runs g t c k =
     let rules = under g.H.Host.name_of c.args.self.now g.T.NativeTable.natives in
     endless_refused rules _ _ k _ c.args.run.now.global c.charge.new.global _ _ _ (c.if-charge.ensures.full refl)
@@ -197,14 +197,14 @@ while_turn-returns-then-is_empty-clause-runs g t c k =
     (sym c.is_endless.ensures ∙ c.if-is_endless.true) (c.is_empty.ensures.0 c.if-is_empty.true)
 
 pub while_turn-returns-then-charge-clause-runs : goal.while_turn-returns-then-charge-clause-runs
-unfolding after Steps
+unfolding after Goes
 while_turn-returns-then-charge-clause-runs g t c k =
     let rules = under g.H.Host.name_of c.args.self.now g.T.NativeTable.natives in
     endless_charged rules _ _ k _ c.args.run.now.global c.charge.new.global _ _ (c.if-charge.ensures.room refl)
     (c.if-charge.ensures.charged refl) (sym c.is_endless.ensures ∙ c.if-is_endless.true) (c.is_empty.ensures.0 c.if-is_empty.true)
 
 pub while_turn-returns-then-is_endless-clause-runs : goal.while_turn-returns-then-is_endless-clause-runs
-unfolding after Steps
+unfolding after Goes
 while_turn-returns-then-is_endless-clause-runs g t c k =
     let rules = under g.H.Host.name_of c.args.self.now g.T.NativeTable.natives in
     endless_enters rules _ _ k _ (sym c.is_endless.ensures ∙ c.if-is_endless.true) (λ empty. absurd
@@ -225,11 +225,11 @@ unfolding ChangesNames KeepsNames RestoresNames SuitsNames
 while_turn-returns-then-is_endless-clause-names g t c = on_ok _ (put_back (c.run_stmt_block-done.ensures.restores refl))
 
 pub while_turn-returns-then-holds-clause-runs : goal.while_turn-returns-then-holds-clause-runs
-unfolding after Steps Tests
+unfolding after Goes Tests
 while_turn-returns-then-holds-clause-runs g t c k =
     let rules = under g.H.Host.name_of c.args.self.now g.T.NativeTable.natives in
     while_asks rules _ _ k _ (sym c.is_endless.ensures ∙ c.if-is_endless.false)
-    ⨾ (rw c.if-holds.true at c.in-Some.ensures.runs) (WhileCondition _ _) k refl
+    ⨾ (rw c.if-holds.true at c.in-Some.ensures.runs) (WhileCondition _ _) refl k
     ⨾ rw c.turn_end-then-holds.ensures ((rw c.as_slice-statements.ensures at c.run_stmt_block-done-then-holds.ensures.runs)
     (WhileBody _ _ ∷ k)
     ⨾ while_ends rules (came c.run_stmt_block-done-then-holds.result c.run_stmt_block-done-then-holds.new.run.value
@@ -249,11 +249,11 @@ while_turn-returns-then-holds-clause-names g t c =
     on_ok _ (leads_then c.in-Some.ensures.names (put_back (c.run_stmt_block-done-then-holds.ensures.restores refl)))
 
 pub while_turn-returns-else-holds-clause-runs : goal.while_turn-returns-else-holds-clause-runs
-unfolding after Steps Tests
+unfolding after Goes Tests
 while_turn-returns-else-holds-clause-runs g t c k =
     let rules = under g.H.Host.name_of c.args.self.now g.T.NativeTable.natives in
     while_asks rules _ _ k _ (sym c.is_endless.ensures ∙ c.if-is_endless.false)
-    ⨾ (rw c.if-holds.false at c.in-Some.ensures.runs) (WhileCondition _ _) k refl ⨾ rw c.put_unit.ensures here
+    ⨾ (rw c.if-holds.false at c.in-Some.ensures.runs) (WhileCondition _ _) refl k ⨾ rw c.put_unit.ensures here
 
 pub run_while-while_turn-requires : goal.run_while-while_turn-requires
 unfolding ChangesNames KeepsNames RestoresNames SuitsNames

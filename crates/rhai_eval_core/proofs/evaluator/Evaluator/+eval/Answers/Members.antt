@@ -1,12 +1,13 @@
-use Rattle.std.proofs.Common.{ap, Err, Some, arith}
+use Rattle.std.proofs.Common.{ap, Err, Some, arith, refl}
 use Rattle.rhai_tree.specs.declared.expr.Expr.{out-Expr}
 use Rattle.std.specs.Option.{option_copied, option_map}
 use Rattle.rhai_machine.specs.language.Chains.{is_property, kept_access}
 use Rattle.rhai_eval_core.specs.Agreement.{ChangesNames, KeepsNames, RestoresNames, SuitsNames}
-use Rattle.rhai_eval_core.specs.States.{offer_of, under}
+use Rattle.rhai_eval_core.specs.States.{under}
 use Rattle.rhai_steps.specs.States.{state_of}
 use Rattle.rhai_steps.specs.OnFocus.{lending}
-use Rattle.rhai_chains.specs.Chains.{chain_at, link_seen, new_of, Does}
+use Rattle.rhai_steps.specs.Follows.{Does}
+use Rattle.rhai_chains.specs.Chains.{chain_at, link_seen, new_of}
 use Rattle.rhai_chains.specs.Members.{access_of}
 use Rattle.rhai_walk.proofs.Inside.{member_ends, member_goes}
 use Rattle.rhai_tree.specs.Links.{left_by}
@@ -22,11 +23,12 @@ walk_member-returns-in_default-clause-runs g t c scope held rest all in_place le
     (chain_at c.args.root.now rest all c.args.new in_place)
     (state_of (g.T.NativeTable.state c.args.table.now) c.args.run.now.global scope (lending held c.args.source.now))
     (state_of (g.T.NativeTable.state c.end_member.new.table) c.end_member.new.global scope (lending held c.end_member.new.focus))
-    (came_changed c.end_member.result c.end_member.new.out c.end_member.new.place) (ap (λ behind. option_map out-Expr (option_copied behind))
+    (came_changed c.end_member.result c.end_member.new.out c.end_member.new.place)
+    (ap (λ behind. option_map out-Expr (option_copied behind))
     c.in_default.is)
-    (rw (c.walker-walker.ensures.limits, c.walker-walker.ensures.root) at
-    (c.end_member.ensures.runs (offer_of c.args.self.now) scope held (link_seen c.args.link) rest all in_place
-    c.walker-walker.ensures.switches))
+    (rw (c.walker-walker.ensures.session, c.walker-walker.ensures.root) at
+    (c.end_member.ensures.runs scope held (link_seen c.args.link) rest all in_place
+    ))
 
 pub walk_member-walk_chain-mark-requires : goal.walk_member-walk_chain-mark-requires
 unfolding ChangesNames KeepsNames RestoresNames SuitsNames
@@ -43,21 +45,21 @@ walk_member-returns-in-Some-get_kept-clause-runs g t c scope held rest all in_pl
     let kept = kept_access access in
     let behind = out-Expr c.in-Some.rest.now in
     let chain = chain_at c.args.root.now behind c.args.args.now c.args.new (is_property access.member) in
-    let gets = rw c.walker-walker.ensures.limits at (c.in-Some-get_kept.ensures.runs (offer_of c.args.self.now) scope held) in
+    let gets = rw c.walker-walker.ensures.session at (c.in-Some-get_kept.ensures.gets scope held) in
     let got = c.get_kept.new.focus in
     let old = state_of (g.T.NativeTable.state c.args.table.now) c.args.run.now.global scope (lending held c.args.source.now) in
     let mid = state_of (g.T.NativeTable.state c.get_kept.new.table) c.get_kept.new.global scope (lending held got) in
     let walked = state_of (g.T.NativeTable.state c.walk_chain-mark.new.table) c.walk_chain-mark.new.run.global scope (lending held
     got) in
     let new = state_of (g.T.NativeTable.state c.come_back.new.table) c.come_back.new.global scope (lending held c.come_back.new.source) in
-    let comes = rw (gets.1, c.walker-walker.ensures.limits) at (c.come_back.ensures.runs (offer_of c.args.self.now) scope held) in
+    let comes = rw (c.in-Some-get_kept.ensures.kept, c.walker-walker.ensures.session) at (c.come_back.ensures.runs scope held) in
     let walks = rw c.is_property-in_place.ensures at (c.walk_chain-mark.ensures.runs scope held) in
     member_goes rules (link_seen c.args.link).behind (new_of c.args.new) (link_seen c.args.link) access
     (chain_at c.args.root.now rest all c.args.new in_place) old new (came_changed c.come_back.result c.walk_chain-mark.new.run.value
     c.come_back.new.place) behind c.args.args.now
     (ap (λ behind. option_map out-Expr (option_copied behind)) c.in-Some.is) left
     (Does (got_goes rules access kept chain c.in-Some-get_kept.value old mid new (came_changed c.come_back.result
-    c.walk_chain-mark.new.run.value c.come_back.new.place) gets.0
+    c.walk_chain-mark.new.run.value c.come_back.new.place) gets
     (goes_back rules chain (Some got) (Some kept) c.in-Some-get_kept.value c.walk_chain-mark.new.focus mid walked new (came_changed
     c.walk_chain-mark.result c.walk_chain-mark.new.run.value c.walk_chain-mark.new.run.error)
     (came_changed c.come_back.result c.walk_chain-mark.new.run.value c.come_back.new.place) walks comes)))
@@ -75,5 +77,5 @@ walk_member-returns-in-None-clause-runs g t c scope held rest all in_place left 
     behind c.args.args.now
     (ap (λ behind. option_map out-Expr (option_copied behind)) c.in-Some.is) left
     (got_fails rules access (kept_access access) (chain_at c.args.root.now behind c.args.args.now c.args.new (is_property access.member))
-    old new (error_in c.get_kept.new.place) (rw c.walker-walker.ensures.limits at (c.in-None.ensures.runs
-    (offer_of c.args.self.now) scope held)))
+    old new (error_in c.get_kept.new.place) (rw c.walker-walker.ensures.session at (c.in-None.ensures.fails
+    scope held refl)))

@@ -63,7 +63,7 @@ run_plain_call-returns-then-stops_by_race-clause-runs g t c =
     at c.if-not-run_parameters.ensures.fills in
     rw c.keep_variables-then-stops_by_race.ensures
     (plain_fails rules c.args.call.now c.args.run.now.global.lib _ c.requires.plain c.args.pos c.run_parameters.new.variables
-    _ _ _ c.run_parameters.new.run fills refl
+    _ c.run_parameters.new.run.error _ c.run_parameters.new.run fills refl
     (error_in c.stops_by_race.new.place) (rw c.as_slice.ensures at c.if-stops_by_race.ensures.races) (c.if-stops_by_race.ensures.told refl))
 
 pub run_plain_call-returns-in-Some-clause-runs : goal.run_plain_call-returns-in-Some-clause-runs
@@ -81,7 +81,7 @@ run_plain_call-returns-in-Some-clause-runs g t c =
     let place = c.ends_before.new.place in
     rw c.keep_variables-in-Some.ensures
     (plain_ends rules c.args.call.now c.args.run.now.global.lib _ c.requires.plain c.args.pos c.run_parameters.new.variables
-    _ _ table mid fills refl own level (came c.in-Some.done out place) table after (rw c.as_slice.ensures at
+    _ mid.error table mid fills refl own level (came c.in-Some.done out place) table after (rw c.as_slice.ensures at
     c.if-stops_by_race.ensures.races)
     c.definition_of-def.ensures.value refl
     (λ values are. early_ends rules (entered own None NoThis true true values level c.args.pos) table mid.global
@@ -93,7 +93,7 @@ run_plain_call-returns-in-Some-clause-runs g t c =
 
 pub run_plain_call-returns-in-Some-clause-counts : goal.run_plain_call-returns-in-Some-clause-counts
 run_plain_call-returns-in-Some-clause-counts g t c done =
-    let room = passed_charged c.run_parameters.new.run.global.num_operations c.args.self.now.limits.now.max_operations
+    let room = passed_charged c.run_parameters.new.run.global.num_operations c.args.self.now.session.limits.max_operations
     c.in-Some.done c.ends_before.result c.in-Some.is done (λ full. (c.ends_before.ensures.spent full).0) in
     omega (
       arith,
@@ -107,10 +107,10 @@ pub run_plain_call-run_stmt_block-done-requires : goal.run_plain_call-run_stmt_b
 unfolding ChangesNames KeepsNames RestoresNames SuitsNames
 run_plain_call-run_stmt_block-done-requires g t c =
     let rules = under g.H.Host.name_of c.args.self.now g.T.NativeTable.natives in
-    let resolved = entered_resolves rules c.as_slice-args.result.now c.run_parameters.new.variables _ _ _ c.definition_of-def.result.now
-    (imports_in c.ends_before.new.global.imports) (rw c.definition_of-def.ensures.value c.definition_of-def.ensures.resolves)
-    c.if-not-run_parameters.ensures.fills in
-    let room = was_charged c.run_parameters.new.run.global.num_operations c.args.self.now.limits.now.max_operations
+    let resolved = entered_resolves rules c.as_slice-args.result.now c.run_parameters.new.variables _ _ c.run_parameters.new.run.error
+    c.definition_of-def.result.now (imports_in c.ends_before.new.global.imports)
+    (rw c.definition_of-def.ensures.value c.definition_of-def.ensures.resolves) c.if-not-run_parameters.ensures.fills in
+    let room = was_charged c.run_parameters.new.run.global.num_operations c.args.self.now.session.limits.max_operations
     c.ends_before.result c.in_default.is (λ full. (c.ends_before.ensures.spent full).0) in
     λ κs lives. (
       omega (
@@ -131,7 +131,7 @@ pub run_plain_call-returns-clause-counts : goal.run_plain_call-returns-clause-co
 run_plain_call-returns-clause-counts g t c done =
     let rules = under g.H.Host.name_of c.args.self.now g.T.NativeTable.natives in
     let outcome = came c.run_stmt_block-done.result c.run_stmt_block-done.new.run.value c.run_stmt_block-done.new.run.error in
-    let room = was_charged c.run_parameters.new.run.global.num_operations c.args.self.now.limits.now.max_operations
+    let room = was_charged c.run_parameters.new.run.global.num_operations c.args.self.now.session.limits.max_operations
     c.ends_before.result c.in_default.is (λ full. (c.ends_before.ensures.spent full).0) in
     omega (
       arith,
@@ -183,14 +183,14 @@ run_plain_call-returns-clause-runs g t c =
     let run = c.run_stmt_block-done.new.run in
     let outcome = came c.run_stmt_block-done.result run.value run.error in
     let left = g.T.NativeTable.state c.run_stmt_block-done.new.table in
-    let room = was_charged c.run_parameters.new.run.global.num_operations c.args.self.now.limits.now.max_operations
+    let room = was_charged c.run_parameters.new.run.global.num_operations c.args.self.now.session.limits.max_operations
     c.ends_before.result c.in_default.is (λ full. (c.ends_before.ensures.spent full).0) in
     let passes = c.ends_before.ensures.enters c.in_default.is in
     let closed = c.leave_plain.new.run.global in
     let result = came c.leave_plain.result c.leave_plain.new.run.value c.leave_plain.new.run.error in
     rw (c.leave_plain.ensures.scope, c.leave_plain.ensures.this, c.enter_plain-entered.ensures.caller)
     (plain_ends rules c.args.call.now c.args.run.now.global.lib _ c.requires.plain c.args.pos c.run_parameters.new.variables
-    _ _ table mid fills refl own level result left (record run { global = closed }) (rw c.as_slice.ensures at
+    _ mid.error table mid fills refl own level result left (record run { global = closed }) (rw c.as_slice.ensures at
     c.if-stops_by_race.ensures.races) own_is refl
     (λ values are. whole_ends rules (entered own None NoThis true true values level c.args.pos) table mid.global
     c.ends_before.new.global mid.scope (holding mid.this) start c.lend_variables-variables.ensures.list refl room
@@ -270,5 +270,5 @@ run_parameters-returns-then-not-push_parameter-clause-fills g t c =
 pub run_parameters-returns-clause-fills : goal.run_parameters-returns-clause-fills
 run_parameters-returns-clause-fills g t c =
     let rules = under g.H.Host.name_of c.args.self.now g.T.NativeTable.natives in
-    filling_ends rules c.args.def.now.params c.args.args.now c.each_arg.variables _ _ _ c.requires.takes
+    filling_ends rules c.args.def.now.params c.args.args.now c.each_arg.variables _ _ c.each_arg.run.error c.requires.takes
     (rw (drop_all _ _ c.each_arg-test.false) at c.each_arg.invariant.fills)

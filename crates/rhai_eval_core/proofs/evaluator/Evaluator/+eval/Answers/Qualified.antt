@@ -2,17 +2,16 @@ use Rattle.std.proofs.Common.{refl, arith}
 use Rattle.rhai_machine.specs.machine.Memory.{◌⨾◌}
 use Rattle.rhai_machine.specs.language.Arguments.{operation_in}
 use Rattle.rhai_machine.specs.language.Calls.{behind_path}
-use Rattle.rhai_machine.specs.language.Runs.{Steps}
+use Rattle.rhai_machine.specs.language.Runs.{Goes}
 use Rattle.rhai_machine.specs.language.Variables.{path_of}
 use Rattle.rhai_operands.proofs.Names.{good_name}
 use Rattle.rhai_steps.specs.States.{holding}
 use Rattle.rhai_callees.specs.Behind.{last_of, purpose_of}
-use Rattle.rhai_callees.specs.Going.{GoesOut}
 use Rattle.rhai_callees.proofs.Behind.{before_resolves, behind_begins, behind_goes, behind_spent, good_last}
 use Rattle.rhai_calls.specs.Called.{with_args}
 use Rattle.rhai_context.specs.Ends.{error_in}
 use Rattle.rhai_eval_core.specs.Agreement.{ChangesNames, KeepsNames, RestoresNames, SuitsNames}
-use Rattle.rhai_eval_core.specs.Calls.{Collects, StartsAs, in_parts}
+use Rattle.rhai_eval_core.specs.Calls.{Collects, in_parts}
 use Rattle.rhai_steps.proofs.Agreeing.{brings, leads_then, same, stays, still}
 use Rattle.rhai_eval_core.specs.States.{state_in, under}
 use Rattle.rhai_eval_core.proofs.QualifiedLemmas.{flattened_behind}
@@ -49,7 +48,7 @@ run_qualified_call-call_behind-called-requires g t c = (
 )
 
 pub run_qualified_call-returns-then-not-charge_last-clause-runs : goal.run_qualified_call-returns-then-not-charge_last-clause-runs
-unfolding Steps
+unfolding Goes
 run_qualified_call-returns-then-not-charge_last-clause-runs g t c token captures other k =
     let rules = under g.H.Host.name_of c.args.self.now g.T.NativeTable.natives in
     let call = in_parts c.args.namespace.now c.args.name.now c.args.args.now token captures in
@@ -59,7 +58,7 @@ run_qualified_call-returns-then-not-charge_last-clause-runs g t c token captures
     (rw (c.split_last_read.ensures.last) at (c.if-not-charge_last.ensures.spent refl)))
 
 pub run_qualified_call-returns-then-not-run_more_args-clause-runs : goal.run_qualified_call-returns-then-not-run_more_args-clause-runs
-unfolding Steps Collects
+unfolding Goes Collects
 run_qualified_call-returns-then-not-run_more_args-clause-runs g t c token captures other k =
     let rules = under g.H.Host.name_of c.args.self.now g.T.NativeTable.natives in
     let call = in_parts c.args.namespace.now c.args.name.now c.args.args.now token captures in
@@ -73,7 +72,7 @@ run_qualified_call-returns-then-not-run_more_args-clause-runs g t c token captur
     (purpose_of last operation how) (flattened_behind g.row.H.Denot operation how last) k
 
 pub run_qualified_call-returns-clause-runs : goal.run_qualified_call-returns-clause-runs
-unfolding Steps Collects GoesOut StartsAs
+unfolding Goes Collects
 run_qualified_call-returns-clause-runs g t c token captures other k =
     let rules = under g.H.Host.name_of c.args.self.now g.T.NativeTable.natives in
     let call = in_parts c.args.namespace.now c.args.name.now c.args.args.now token captures in
@@ -85,7 +84,7 @@ run_qualified_call-returns-clause-runs g t c token captures other k =
     (rw (c.split_last_read.ensures.last) at (c.if-not-charge_last.ensures.charged refl))
     ⨾ (rw (c.new-values.ensures, c.split_last_read.ensures.others) at c.if-not-run_more_args.ensures.collects)
     (purpose_of last operation how) (flattened_behind g.row.H.Denot operation how last) k
-    ⨾ behind_goes rules c.args.self.now.offered (refl, refl) (path_of c.args.namespace.now) c.requires.1.1.1.1.1 operation last
+    ⨾ behind_goes rules c.args.self.now.session.offered (refl, refl) (path_of c.args.namespace.now) c.requires.1.1.1.1.1 operation last
     c.run_more_args.new.values (state_in (g.T.NativeTable.state c.run_more_args.new.table) c.run_more_args.new.run)
     (with_args c.call_behind-called.result c.call_behind-called.new.args)
     (rw (c.split_last_read.ensures.last) at c.call_behind-called.ensures) k

@@ -1,8 +1,8 @@
+use Rattle.rhai_steps.specs.Variables.{variable_told}
 use Rattle.std.proofs.Common.{false, None, Some, refl, ap}
 use Rattle.rhai_tree.specs.declared.expr.Expr.{out-Expr}
-use Rattle.rhai_machine.specs.language.Runs.{at}
+use Rattle.rhai_machine.specs.language.Runs.{at, Goes}
 use Rattle.rhai_tree.specs.Positions.{position_of}
-use Rattle.rhai_machine.specs.language.Variables.{variable_named}
 use Rattle.rhai_steps.specs.Offers.{globals_in}
 use Rattle.rhai_steps.specs.States.{state_of}
 use Rattle.rhai_state.specs.Scope.{names_in}
@@ -12,7 +12,6 @@ use Rattle.rhai_steps.specs.OnFocus.{lending}
 use Rattle.rhai_context.specs.Ends.{came, came_changed, error_in}
 use Rattle.rhai_eval_core.specs.Agreement.{ChangesNames, KeepsNames, RestoresNames, SuitsNames}
 use Rattle.rhai_eval_core.proofs.FocusSteps.{without_came}
-use Rattle.rhai_eval_core.specs.Calls.{StartsAs}
 use Rattle.rhai_eval_core.specs.States.{under}
 use Rattle.rhai_eval_core.proofs.RootLemmas.{begins, lent_back, variable_refused, variable_runs, this_begins, this_enters, this_refused}
 use Rattle.rhai_eval_core.proofs.RootLemmas.{value_begins, value_fails}
@@ -28,7 +27,7 @@ pub walk_variable-returns-in_default-clause-runs : goal.walk_variable-returns-in
 walk_variable-returns-in_default-clause-runs g t c held in_place =
     let rules = under g.H.Host.name_of c.args.self.now g.T.NativeTable.natives in
     rw (c.in_default.ensures.kept refl)
-    (variable_refused rules (variable_named c.args.name.now c.args.namespace.now c.args.pos)
+    (variable_refused rules (variable_told c.args.variable.now)
     (chain_at c.args.root.now (out-Expr c.args.rest.now) c.args.args.now c.args.new in_place)
     (g.T.NativeTable.state c.args.table.now) c.args.run.now.global c.args.run.now.scope held
     (error_in c.lend_variable-lent.new.place) c.in_default.ensures.lends)
@@ -39,8 +38,8 @@ walk_variable-give_variable-requires g t c = rw c.walk_chain-mark.ensures.scope 
 pub walk_variable-returns-clause-names : goal.walk_variable-returns-clause-names
 unfolding ChangesNames KeepsNames RestoresNames SuitsNames
 walk_variable-returns-clause-names g t c =
-    stays c.walk_chain-mark.ensures.sight (lent_back (globals_in c.args.self.now.offered) c.args.run.now.global
-    (variable_named c.args.name.now c.args.namespace.now c.args.pos)
+    stays c.walk_chain-mark.ensures.sight (lent_back (globals_in c.args.self.now.session.offered) c.args.run.now.global
+    (variable_told c.args.variable.now)
     c.args.run.now.scope c.lend_variable-lent.new.scope c.give_variable.new.scope c.in-Some.value c.walk_chain-mark.new.focus
     c.in-Some.index c.in-Some.ensures.lends
     (rw c.walk_chain-mark.ensures.scope at c.give_variable.ensures.back))
@@ -48,7 +47,7 @@ walk_variable-returns-clause-names g t c =
 pub walk_variable-returns-clause-runs : goal.walk_variable-returns-clause-runs
 walk_variable-returns-clause-runs g t c held in_place =
     let rules = under g.H.Host.name_of c.args.self.now g.T.NativeTable.natives in
-    variable_runs rules (variable_named c.args.name.now c.args.namespace.now c.args.pos)
+    variable_runs rules (variable_told c.args.variable.now)
     (chain_at c.args.root.now (out-Expr c.args.rest.now) c.args.args.now c.args.new in_place)
     (came_changed c.walk_chain-mark.result c.walk_chain-mark.new.run.value c.walk_chain-mark.new.run.error)
     (came c.give_variable.result c.walk_chain-mark.new.run.value c.walk_chain-mark.new.run.error)
@@ -72,7 +71,7 @@ walk_this-returns-in_default-clause-runs g t c scope focus in_place =
     (c.in_default.ensures.refused refl))
 
 pub walk_this-returns-clause-runs : goal.walk_this-returns-clause-runs
-unfolding StartsAs
+unfolding Goes
 walk_this-returns-clause-runs g t c scope focus in_place =
     let rules = under g.H.Host.name_of c.args.self.now g.T.NativeTable.natives in
     let lent = c.in-Some.ensures.lent in

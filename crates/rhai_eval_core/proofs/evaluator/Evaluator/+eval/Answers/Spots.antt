@@ -35,8 +35,8 @@ walk_spot-returns-in_default-clause-runs g t c scope held rest all left =
     (state_of (g.T.NativeTable.state c.end_at.new.table) c.end_at.new.global scope (lending held c.end_at.new.source))
     (came_changed c.end_at.result c.end_at.new.out c.end_at.new.place) (ap (λ behind. option_map out-Expr (option_copied behind))
     c.in_default.is)
-    (rw (c.walker-walker.ensures.limits, c.walker-walker.ensures.root) at
-    (c.end_at.ensures.runs (offer_of c.args.self.now) scope held rest all c.args.in_place c.walker-walker.ensures.switches))
+    (rw (c.walker-walker.ensures.session, c.walker-walker.ensures.root) at
+    (c.end_at.ensures.runs scope held rest all c.args.in_place))
 
 pub walk_spot-place_mut-place-requires : goal.walk_spot-place_mut-place-requires
 walk_spot-place_mut-place-requires g t c =
@@ -74,7 +74,7 @@ walk_spot-returns-in-Some-Place-clause-runs g t c scope held rest all left =
     let chain = chain_at c.args.root.now rest all c.args.new c.args.in_place in
     let behind = out-Expr c.in-Some.rest.now in
     let by_offer = ap (λ fails. found (way_through link false fails) g.H.Host.name_of (cells_of c.args.run.now.global.cells)
-    c.args.source.now c.args.index.now) c.walker-walker.ensures.switches.fails in
+    c.args.source.now c.args.index.now) refl in
     let old = state_of (g.T.NativeTable.state c.args.table.now) c.args.run.now.global scope (lending held c.args.source.now) in
     let walked = state_of (g.T.NativeTable.state c.walk_chain.new.table) c.walk_chain.new.run.global scope (lending held
     c.args.source.now) in
@@ -101,7 +101,7 @@ walk_spot-returns-in_default-access_back-clause-runs g t c scope held rest all l
     let chain = chain_at c.args.root.now rest all c.args.new c.args.in_place in
     let behind = out-Expr c.in-Some.rest.now in
     let by_offer = ap (λ fails. found (way_through link false fails) g.H.Host.name_of (cells_of c.args.run.now.global.cells)
-    c.args.source.now c.args.index.now) c.walker-walker.ensures.switches.fails in
+    c.args.source.now c.args.index.now) refl in
     let old = state_of (g.T.NativeTable.state c.args.table.now) c.args.run.now.global scope (lending held c.args.source.now) in
     let new = old in
     rw c.in-Some-Missing.ensures.same (spot_by rules link.behind (Some behind) (new_of c.args.new) link c.args.index.now c.args.source.now
@@ -123,10 +123,10 @@ walk_spot-returns-in-Some-access_back-clause-runs g t c scope held rest all left
     let chain = chain_at c.args.root.now rest all c.args.new c.args.in_place in
     let behind = out-Expr c.in-Some.rest.now in
     let by_offer = ap (λ fails. found (way_through link false fails) g.H.Host.name_of (cells_of c.args.run.now.global.cells)
-    c.args.source.now c.args.index.now) c.walker-walker.ensures.switches.fails in
+    c.args.source.now c.args.index.now) refl in
     let old = state_of (g.T.NativeTable.state c.args.table.now) c.args.run.now.global scope (lending held c.args.source.now) in
-    let comes = rw (c.in-Some-access_back.ensures.some chain refl, c.walker-walker.ensures.limits, c.in-Some-Missing.ensures.same) at
-    (c.come_back.ensures.runs (offer_of c.args.self.now) scope held) in
+    let comes = rw (c.in-Some-access_back.ensures.some chain, c.walker-walker.ensures.session, c.in-Some-Missing.ensures.same) at
+    (c.come_back.ensures.runs scope held) in
     let walks = rw c.unit_value-temporary.ensures at (c.walk_chain-mark.ensures.runs scope held) in
     let walked = state_of (g.T.NativeTable.state c.walk_chain-mark.new.table) c.walk_chain-mark.new.run.global scope
     (lending held c.args.source.now) in
@@ -152,7 +152,7 @@ walk_spot-returns-in-Some-Part-clause-runs g t c scope held rest all left =
     let chain = chain_at c.args.root.now rest all c.args.new c.args.in_place in
     let behind = out-Expr c.in-Some.rest.now in
     let by_offer = ap (λ fails. found (way_through link false fails) g.H.Host.name_of (cells_of c.args.run.now.global.cells)
-    c.args.source.now c.args.index.now) c.walker-walker.ensures.switches.fails in
+    c.args.source.now c.args.index.now) refl in
     let old = state_of (g.T.NativeTable.state c.args.table.now) c.args.run.now.global scope (lending held c.args.source.now) in
     let new = state_of (g.T.NativeTable.state c.walk_part.new.table) c.walk_part.new.run.global scope (lending held
     c.walk_part.new.source) in
@@ -178,7 +178,7 @@ walk_spot-returns-in-None-clause-runs g t c scope held rest all left =
     (found_none rules link chain behind (new_of c.args.new) c.args.index.now c.args.source.now old old (Err
     (error_in c.find_down.new.place)) (error_in c.find_down.new.place)
     (λ memory. ap (λ fails. found (way_through link false fails) g.H.Host.name_of (cells_of c.args.run.now.global.cells)
-    c.args.source.now c.args.index.now) c.walker-walker.ensures.switches.fails ∙ c.in-None.ensures.finds memory)))
+    c.args.source.now c.args.index.now) refl ∙ c.in-None.ensures.finds memory)))
 
 pub walk_part-split_at_mut-given-requires : goal.walk_part-split_at_mut-given-requires
 walk_part-split_at_mut-given-requires g t c =

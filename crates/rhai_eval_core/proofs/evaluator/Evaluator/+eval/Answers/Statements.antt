@@ -13,13 +13,13 @@ use Rattle.rhai_machine.specs.machine.Point.{after}
 use Rattle.rhai_machine.specs.machine.Memory.{here, next, ◌⨾◌}
 use Rattle.rhai_machine.specs.language.Frames.{StatementValue, DefineValue, IfCondition, ImportPath, RestOfList, RestoreList, AssignValue}
 use Rattle.rhai_machine.specs.language.Frames.{AssignThisValue, Eval, ended}
-use Rattle.rhai_machine.specs.language.Runs.{Steps}
+use Rattle.rhai_machine.specs.language.Runs.{Goes}
 use Rattle.rhai_laws.proofs.KeptLaws.{names_begin, names_stay}
 use Rattle.rhai_steps.proofs.Pieces.{told}
 use Rattle.rhai_context.specs.Ends.{came, error_in}
 use Rattle.rhai_eval_core.specs.Agreement.{ChangesNames, KeepsNames, RestoresNames, SuitsNames}
 use Rattle.rhai_eval_core.specs.Memory.{asks_stmt}
-use Rattle.rhai_eval_core.specs.States.{names, offer_of, state_in, under}
+use Rattle.rhai_eval_core.specs.States.{names, state_in, under}
 use Rattle.rhai_operands.specs.Tests.{Tests}
 use Rattle.rhai_operands.proofs.Names.{both, good_target}
 use Rattle.rhai_assign.proofs.Alone.{sides_resolve}
@@ -52,7 +52,7 @@ pub run_stmt-returns-then-not-charge_stmt-clause-memory : goal.run_stmt-returns-
 run_stmt-returns-then-not-charge_stmt-clause-memory g t c = rw (c.if-not-charge_stmt.ensures.refused refl) (λ never. cc)
 
 pub run_stmt-returns-in-Noop-clause-runs : goal.run_stmt-returns-in-Noop-clause-runs
-unfolding after Steps
+unfolding after Goes
 run_stmt-returns-in-Noop-clause-runs g t c k =
     let rules = under g.H.Host.name_of c.args.self.now g.T.NativeTable.natives in
     begins_stmt rules _ c.args.run.now.global c.charge_stmt.new.global _ _ (c.if-not-charge_stmt.ensures.room refl)
@@ -60,7 +60,7 @@ run_stmt-returns-in-Noop-clause-runs g t c k =
     ⨾ next (rw (c.leave_unit.ensures.done, c.leave_unit.ensures.value) here)
 
 pub run_stmt-returns-then-not-run_expr-clause-runs : goal.run_stmt-returns-then-not-run_expr-clause-runs
-unfolding after Steps
+unfolding after Goes
 run_stmt-returns-then-not-run_expr-clause-runs g t c =
     let rules = under g.H.Host.name_of c.args.self.now g.T.NativeTable.natives in
     opens_stmt rules _ c.args.run.now.global c.charge_stmt.new.global _ _ (c.if-not-charge_stmt.ensures.room refl)
@@ -69,7 +69,7 @@ run_stmt-returns-then-not-run_expr-clause-runs g t c =
     (rw (c.in-Expr.is, stmts.outs-Expr) refl)
 
 pub run_stmt-returns-else-not-run_expr-clause-runs : goal.run_stmt-returns-else-not-run_expr-clause-runs
-unfolding after Steps
+unfolding after Goes
 run_stmt-returns-else-not-run_expr-clause-runs g t c =
     let rules = under g.H.Host.name_of c.args.self.now g.T.NativeTable.natives in
     opens_stmt rules _ c.args.run.now.global c.charge_stmt.new.global _ _ (c.if-not-charge_stmt.ensures.room refl)
@@ -78,7 +78,7 @@ run_stmt-returns-else-not-run_expr-clause-runs g t c =
     ⨾ next (told rules _ _ c.flatten_at.ensures.exact k _))) (rw (c.in-Expr.is, stmts.outs-Expr) refl)
 
 pub run_stmt-returns-in-FnCall-clause-runs : goal.run_stmt-returns-in-FnCall-clause-runs
-unfolding after Steps
+unfolding after Goes
 run_stmt-returns-in-FnCall-clause-runs g t c k =
     let rules = under g.H.Host.name_of c.args.self.now g.T.NativeTable.natives in
     begins_stmt rules _ c.args.run.now.global c.charge_stmt.new.global _ _ (c.if-not-charge_stmt.ensures.room refl)
@@ -87,7 +87,7 @@ run_stmt-returns-in-FnCall-clause-runs g t c k =
     ⨾ next (c.run_fn_call_expr.ensures.runs k)
 
 pub run_stmt-returns-in-Block-clause-runs : goal.run_stmt-returns-in-Block-clause-runs
-unfolding after Steps
+unfolding after Goes
 run_stmt-returns-in-Block-clause-runs g t c k =
     let rules = under g.H.Host.name_of c.args.self.now g.T.NativeTable.natives in
     begins_stmt rules _ c.args.run.now.global c.charge_stmt.new.global _ _ (c.if-not-charge_stmt.ensures.room refl)
@@ -138,7 +138,7 @@ run_stmt-returns-in-Assignment-clause-runs g t c =
     (rw (c.in-Assignment.is, stmts.outs-Assignment) refl)
 
 pub run_stmt-returns-in-While-clause-runs : goal.run_stmt-returns-in-While-clause-runs
-unfolding after Steps
+unfolding after Goes
 run_stmt-returns-in-While-clause-runs g t c k =
     let rules = under g.H.Host.name_of c.args.self.now g.T.NativeTable.natives in
     begins_stmt rules _ c.args.run.now.global c.charge_stmt.new.global _ _ (c.if-not-charge_stmt.ensures.room refl)
@@ -149,7 +149,7 @@ run_stmt-returns-in-While-clause-runs g t c k =
     ⨾ next (c.run_while.ensures.runs k)
 
 pub run_stmt-returns-in-Do-clause-runs : goal.run_stmt-returns-in-Do-clause-runs
-unfolding after Steps
+unfolding after Goes
 run_stmt-returns-in-Do-clause-runs g t c k =
     let rules = under g.H.Host.name_of c.args.self.now g.T.NativeTable.natives in
     begins_stmt rules _ c.args.run.now.global c.charge_stmt.new.global _ _ (c.if-not-charge_stmt.ensures.room refl)
@@ -282,12 +282,12 @@ run_stmt-share_variables-requires g t c =
     (brings (λ frame h. share_resolves c.args.stmt.now frame h c.in-Share.variables form) c.requires.resolves))
 
 pub run_stmt-returns-in-Share-clause-runs : goal.run_stmt-returns-in-Share-clause-runs
-unfolding after Steps
+unfolding after Goes
 run_stmt-returns-in-Share-clause-runs g t c k =
     let rules = under g.H.Host.name_of c.args.self.now g.T.NativeTable.natives in
     begins_stmt rules _ c.args.run.now.global c.charge_stmt.new.global _ _ (c.if-not-charge_stmt.ensures.room refl)
     (c.if-not-charge_stmt.ensures.charged refl) _ _ (layer.Share c.in-Share.variables) (rw (c.in-Share.is, stmts.outs-Share) refl) k
-    ⨾ next ((rw c.as_slice-names.ensures at c.share_variables.ensures.runs (offer_of c.args.self.now)
+    ⨾ next ((rw c.as_slice-names.ensures at c.share_variables.ensures.runs
     (holding c.args.run.now.this)) k)
 
 pub run_stmt-returns-in-Export-clause-runs : goal.run_stmt-returns-in-Export-clause-runs
@@ -295,7 +295,7 @@ run_stmt-returns-in-Export-clause-runs g t c =
     let rules = under g.H.Host.name_of c.args.self.now g.T.NativeTable.natives in
     opens_stmt rules _ c.args.run.now.global c.charge_stmt.new.global _ _ (c.if-not-charge_stmt.ensures.room refl)
     (c.if-not-charge_stmt.ensures.charged refl) _ _ _ _ (layer.Export c.in-Export.ident c.in-Export.alias c.in-Export.field-2)
-    (c.export_variable.ensures.runs (offer_of c.args.self.now) (holding c.args.run.now.this) c.in-Export.field-2 c.args.restoring)
+    (c.export_variable.ensures.runs c.charge_stmt.new.global (holding c.args.run.now.this) c.in-Export.field-2 c.args.restoring)
     (rw (c.in-Export.is, stmts.outs-Export) refl)
 
 pub run_stmt-run_var-requires : goal.run_stmt-run_var-requires
@@ -339,14 +339,14 @@ run_stmt-returns-in-Import-clause-runs g t c =
 -- a condition, and the list that it chooses
 
 pub run_if-returns-in-None-clause-runs : goal.run_if-returns-in-None-clause-runs
-unfolding after Steps Tests
-run_if-returns-in-None-clause-runs g t c pos restoring k = next (c.in-None.ensures.runs (IfCondition _ _ _) k refl)
+unfolding after Goes Tests
+run_if-returns-in-None-clause-runs g t c pos restoring k = next (c.in-None.ensures.runs (IfCondition _ _ _) refl k)
 
 pub run_if-returns-in-Some-clause-runs : goal.run_if-returns-in-Some-clause-runs
-unfolding after Steps Tests
+unfolding after Goes Tests
 run_if-returns-in-Some-clause-runs g t c pos restoring k =
     let rules = under g.H.Host.name_of c.args.self.now g.T.NativeTable.natives in
-    next (c.in-Some.ensures.runs (IfCondition _ _ _) k refl
+    next (c.in-Some.ensures.runs (IfCondition _ _ _) refl k
     ⨾ chooses rules c.in-Some.holds c.args.body.now c.args.branch.now k _
     ((rw c.choose_list-statements.ensures at c.run_stmt_block.ensures.runs) k))
 
@@ -354,7 +354,7 @@ run_if-returns-in-Some-clause-runs g t c pos restoring k =
 
 pub run_assignment-returns-in-Some-clause-runs : goal.run_assignment-returns-in-Some-clause-runs
 run_assignment-returns-in-Some-clause-runs g t c restoring =
-    c.in-Some.ensures.runs (offer_of c.args.self.now) (holding c.args.run.now.this) restoring refl
+    c.in-Some.ensures.runs (holding c.args.run.now.this) restoring
 
 pub run_assignment-assign_evaluated-requires : goal.run_assignment-assign_evaluated-requires
 unfolding ChangesNames KeepsNames RestoresNames SuitsNames
@@ -420,7 +420,7 @@ run_if-returns-in-Some-clause-names g t c done =
 -- whose value is evaluated, to a variable
 
 pub assign_evaluated-returns-then-not-run_expr-clause-runs : goal.assign_evaluated-returns-then-not-run_expr-clause-runs
-unfolding after Steps
+unfolding after Goes
 assign_evaluated-returns-then-not-run_expr-clause-runs g t c restoring k =
     let rules = under g.H.Host.name_of c.args.self.now g.T.NativeTable.natives in
     begins_assignment rules c.args.op c.args.lhs.now c.args.rhs.now c.in-Variable.offset c.in-Variable.name c.in-Variable.namespace
@@ -429,7 +429,7 @@ assign_evaluated-returns-then-not-run_expr-clause-runs g t c restoring k =
     ⨾ c.if-not-run_expr.ensures.runs (AssignValue _ _ ∷ k) ⨾ next here
 
 pub assign_evaluated-returns-then-not-flatten_at-clause-runs : goal.assign_evaluated-returns-then-not-flatten_at-clause-runs
-unfolding after Steps
+unfolding after Goes
 assign_evaluated-returns-then-not-flatten_at-clause-runs g t c restoring k =
     let rules = under g.H.Host.name_of c.args.self.now g.T.NativeTable.natives in
     begins_assignment rules c.args.op c.args.lhs.now c.args.rhs.now c.in-Variable.offset c.in-Variable.name c.in-Variable.namespace
@@ -446,7 +446,7 @@ assign_evaluated-assign_from_run-requires g t c =
     (rw (c.in-Variable.is, exprs.outs-Variable) refl)) c.requires.resolves_target)
 
 pub assign_evaluated-returns-else-not-flatten_at-clause-runs : goal.assign_evaluated-returns-else-not-flatten_at-clause-runs
-unfolding after Steps
+unfolding after Goes
 assign_evaluated-returns-else-not-flatten_at-clause-runs g t c restoring k =
     let rules = under g.H.Host.name_of c.args.self.now g.T.NativeTable.natives in
     begins_assignment rules c.args.op c.args.lhs.now c.args.rhs.now c.in-Variable.offset c.in-Variable.name c.in-Variable.namespace
@@ -454,12 +454,12 @@ assign_evaluated-returns-else-not-flatten_at-clause-runs g t c restoring k =
     restoring k _ (rw (c.in-Variable.is, exprs.outs-Variable) refl)
     ⨾ c.if-not-run_expr.ensures.runs (AssignValue _ _ ∷ k)
     ⨾ next (rw (← (c.if-not-flatten_at.ensures.exact tt))
-    (c.assign_from_run.ensures.runs (offer_of c.args.self.now) (holding c.run_expr.new.run.this) (refl, refl) refl k))
+    (c.assign_from_run.ensures.runs (holding c.run_expr.new.run.this) k))
 
 -- to `this`
 
 pub assign_evaluated-returns-then-is_none-clause-runs : goal.assign_evaluated-returns-then-is_none-clause-runs
-unfolding Steps
+unfolding Goes
 assign_evaluated-returns-then-is_none-clause-runs g t c restoring k =
     let rules = under g.H.Host.name_of c.args.self.now g.T.NativeTable.natives in
     rw (c.stop.ensures.stopped, c.stop.ensures.told)
@@ -467,7 +467,7 @@ assign_evaluated-returns-then-is_none-clause-runs g t c restoring k =
     (rw (c.in-ThisPtr.is, exprs.outs-ThisPtr) refl) k _ (c.is_none.ensures ∙ ap not c.if-is_none.true))
 
 pub assign_evaluated-returns-then-not-run_expr-2-clause-runs : goal.assign_evaluated-returns-then-not-run_expr-2-clause-runs
-unfolding after Steps
+unfolding after Goes
 assign_evaluated-returns-then-not-run_expr-2-clause-runs g t c restoring k =
     let rules = under g.H.Host.name_of c.args.self.now g.T.NativeTable.natives in
     this_begins rules c.args.op c.args.lhs.now c.args.rhs.now c.in-ThisPtr.pos restoring
@@ -475,7 +475,7 @@ assign_evaluated-returns-then-not-run_expr-2-clause-runs g t c restoring k =
     ⨾ c.if-not-run_expr-2.ensures.runs (AssignThisValue _ _ _ ∷ k) ⨾ next here
 
 pub assign_evaluated-returns-then-not-flatten_at-2-clause-runs : goal.assign_evaluated-returns-then-not-flatten_at-2-clause-runs
-unfolding Steps
+unfolding Goes
 assign_evaluated-returns-then-not-flatten_at-2-clause-runs g t c restoring k =
     let rules = under g.H.Host.name_of c.args.self.now g.T.NativeTable.natives in
     this_begins rules c.args.op c.args.lhs.now c.args.rhs.now c.in-ThisPtr.pos restoring
@@ -484,22 +484,23 @@ assign_evaluated-returns-then-not-flatten_at-2-clause-runs g t c restoring k =
     ⨾ flat_fails rules _ _ k _ _ (AssignThisValue _ _ _) refl c.if-not-flatten_at-2.ensures.exact
 
 pub assign_evaluated-returns-else-not-flatten_at-2-clause-runs : goal.assign_evaluated-returns-else-not-flatten_at-2-clause-runs
-unfolding after Steps
+unfolding after Goes
 assign_evaluated-returns-else-not-flatten_at-2-clause-runs g t c restoring k =
     let rules = under g.H.Host.name_of c.args.self.now g.T.NativeTable.natives in
     this_begins rules c.args.op c.args.lhs.now c.args.rhs.now c.in-ThisPtr.pos restoring
     (rw (c.in-ThisPtr.is, exprs.outs-ThisPtr) refl) k _ (c.is_none.ensures ∙ ap not c.if-is_none.false)
     ⨾ c.if-not-run_expr-2.ensures.runs (AssignThisValue _ _ _ ∷ k)
     ⨾ next (rw (← (c.if-not-flatten_at-2.ensures.exact tt))
-    (c.assign_this_from_run.ensures.runs (offer_of c.args.self.now) c.run_expr-in-ThisPtr.new.run.scope refl k))
+    (c.assign_this_from_run.ensures.runs c.run_expr-in-ThisPtr.new.run.scope k))
 
 -- a new variable
 
 pub run_var-returns-then-not-is_declarable-clause-runs : goal.run_var-returns-then-not-is_declarable-clause-runs
-unfolding after Steps
+unfolding after Goes
 run_var-returns-then-not-is_declarable-clause-runs g t c k =
     let rules = under g.H.Host.name_of c.args.self.now g.T.NativeTable.natives in
-    not_declared rules c.args.ident.now c.args.value.now c.args.index c.args.options c.args.pos c.args.restoring k _ _
+    not_declared rules c.args.declaration.now.ident.now c.args.value.now c.args.declaration.now.index c.args.declaration.now.options
+    c.args.declaration.now.at c.args.declaration.now.restoring k _ _
     c.if-not-is_declarable.ensures
 
 pub run_var-run_expr-requires : goal.run_var-run_expr-requires
@@ -511,69 +512,77 @@ run_var-run_expr-requires g t c =
         lives.0,
         (
           lives.1,
-          brings (λ frame. var_value c.args.index c.args.ident.now c.args.value.now c.args.options c.args.pos frame) c.requires.resolves,
+          brings (λ frame. var_value c.args.declaration.now.index c.args.declaration.now.ident.now c.args.value.now
+              c.args.declaration.now.options c.args.declaration.now.at frame) c.requires.resolves,
         ),
       ),
     )
 
 pub run_var-declare-requires : goal.run_var-declare-requires
 unfolding ChangesNames KeepsNames RestoresNames SuitsNames
-run_var-declare-requires g t c = still (c.if-not-run_expr.ensures.names refl) (brings (λ frame. var_good c.args.index c.args.ident.now
-    c.args.value.now c.args.options c.args.pos frame) c.requires.resolves)
+run_var-declare-requires g t c =
+    still (c.if-not-run_expr.ensures.names refl) (brings (λ frame. var_good c.args.declaration.now.index c.args.declaration.now.ident.now
+    c.args.value.now c.args.declaration.now.options c.args.declaration.now.at frame) c.requires.resolves)
 
 pub run_var-returns-then-not-run_expr-clause-runs : goal.run_var-returns-then-not-run_expr-clause-runs
-unfolding after Steps
+unfolding after Goes
 run_var-returns-then-not-run_expr-clause-runs g t c k =
     let rules = under g.H.Host.name_of c.args.self.now g.T.NativeTable.natives in
-    begins_value rules c.args.ident.now c.args.value.now c.args.index c.args.options c.args.pos c.args.restoring k _
+    begins_value rules c.args.declaration.now.ident.now c.args.value.now c.args.declaration.now.index c.args.declaration.now.options
+    c.args.declaration.now.at c.args.declaration.now.restoring k _
     (c.if-not-is_declarable.ensures tt)
     ⨾ c.if-not-run_expr.ensures.runs (DefineValue _ _ _ _ _ ∷ k) ⨾ next here
 
 pub run_var-returns-then-not-flatten_at-clause-runs : goal.run_var-returns-then-not-flatten_at-clause-runs
-unfolding after Steps
+unfolding after Goes
 run_var-returns-then-not-flatten_at-clause-runs g t c k =
     let rules = under g.H.Host.name_of c.args.self.now g.T.NativeTable.natives in
-    begins_value rules c.args.ident.now c.args.value.now c.args.index c.args.options c.args.pos c.args.restoring k _
+    begins_value rules c.args.declaration.now.ident.now c.args.value.now c.args.declaration.now.index c.args.declaration.now.options
+    c.args.declaration.now.at c.args.declaration.now.restoring k _
     (c.if-not-is_declarable.ensures tt)
     ⨾ c.if-not-run_expr.ensures.runs (DefineValue _ _ _ _ _ ∷ k)
     ⨾ flat_fails rules _ _ k _ _ (DefineValue _ _ _ _ _) refl c.if-not-flatten_at.ensures.exact
 
 pub run_var-returns-clause-names : goal.run_var-returns-clause-names
 unfolding ChangesNames KeepsNames RestoresNames SuitsNames
-run_var-returns-clause-names g t c done = leads_by (naming (var_names c.args.index c.args.ident.now.name))
+run_var-returns-clause-names g t c done = leads_by (naming (var_names c.args.declaration.now.index c.args.declaration.now.ident.now.name))
     (c.if-not-run_expr.ensures.names refl)
-    (changed (var_names c.args.index c.args.ident.now.name) c.declare.ensures.sight (c.declare.ensures.names done))
+    (changed (var_names c.args.declaration.now.index c.args.declaration.now.ident.now.name) c.declare.ensures.sight
+    (c.declare.ensures.names done))
 
 pub run_var-returns-clause-runs : goal.run_var-returns-clause-runs
-unfolding Steps
+unfolding Goes
 run_var-returns-clause-runs g t c k =
     let rules = under g.H.Host.name_of c.args.self.now g.T.NativeTable.natives in
     let old = c.run_expr.new.run in
-    begins_value rules c.args.ident.now c.args.value.now c.args.index c.args.options c.args.pos c.args.restoring k _
+    begins_value rules c.args.declaration.now.ident.now c.args.value.now c.args.declaration.now.index c.args.declaration.now.options
+    c.args.declaration.now.at c.args.declaration.now.restoring k _
     (c.if-not-is_declarable.ensures tt)
     ⨾ c.if-not-run_expr.ensures.runs (DefineValue _ _ _ _ _ ∷ k)
-    ⨾ declared rules _ old.global c.declare.new.global old.scope c.declare.new.scope (holding old.this) c.args.ident.now c.args.index
-    c.args.options c.args.restoring _ c.flatten_at.new.out _ k c.declare.result c.declare.new.out c.declare.new.place
+    ⨾ declared rules _ old.global c.declare.new.global old.scope c.declare.new.scope (holding old.this) c.args.declaration.now.ident.now
+    c.args.declaration.now.index
+    c.args.declaration.now.options c.args.declaration.now.restoring _ c.flatten_at.new.out _ k c.declare.result c.declare.new.out
+    c.declare.new.place
     (c.if-not-flatten_at.ensures.exact tt) c.declare.ensures.value (c.declare.ensures.declares (holding old.this)) c.declare.ensures.counts
     (c.declare.ensures.misses (holding old.this)) c.declare.ensures.same c.declare.ensures.same_scope
 
 -- a module that is imported
 
 pub run_import-returns-then-not-may_import-clause-runs : goal.run_import-returns-then-not-may_import-clause-runs
-unfolding after Steps
+unfolding after Goes
 run_import-returns-then-not-may_import-clause-runs g t c restoring k =
     let rules = under g.H.Host.name_of c.args.self.now g.T.NativeTable.natives in
     not_imported rules c.args.path.now c.args.alias.now c.args.pos restoring k _ _ c.if-not-may_import.ensures
 
 pub run_import-returns-then-not-run_expr-clause-runs : goal.run_import-returns-then-not-run_expr-clause-runs
-unfolding after Steps
+unfolding after Goes
 run_import-returns-then-not-run_expr-clause-runs g t c restoring k =
     let rules = under g.H.Host.name_of c.args.self.now g.T.NativeTable.natives in
     begins_path rules c.args.path.now c.args.alias.now c.args.pos restoring k _ (c.if-not-may_import.ensures tt)
     ⨾ c.if-not-run_expr.ensures.runs (ImportPath _ _ _ ∷ k) ⨾ next here
 
 pub run_import-returns-clause-runs : goal.run_import-returns-clause-runs
-unfolding Steps
+unfolding Goes
 run_import-returns-clause-runs g t c restoring k =
     let rules = under g.H.Host.name_of c.args.self.now g.T.NativeTable.natives in
     let old = c.run_expr.new.run in
@@ -587,14 +596,14 @@ run_import-returns-clause-runs g t c restoring k =
 -- lists
 
 pub run_stmt_block-returns-then-is_empty-clause-runs : goal.run_stmt_block-returns-then-is_empty-clause-runs
-unfolding after Steps
+unfolding after Goes
 run_stmt_block-returns-then-is_empty-clause-runs g t c k =
     let rules = under g.H.Host.name_of c.args.self.now g.T.NativeTable.natives in
     enters_empty rules c.args.statements.now c.args.restoring k _ (is_empty_list _ (sym c.is_empty.ensures ∙ c.if-is_empty.true))
     ⨾ rw c.put_unit.ensures here
 
 pub run_stmt_block-returns-then-not-restoring-clause-runs : goal.run_stmt_block-returns-then-not-restoring-clause-runs
-unfolding after Steps
+unfolding after Goes
 run_stmt_block-returns-then-not-restoring-clause-runs g t c k =
     let rules = under g.H.Host.name_of c.args.self.now g.T.NativeTable.natives in
     rw c.if-not-restoring.true
@@ -608,7 +617,7 @@ run_stmt_block-open_list-requires g t c = record { resolves = c.requires.resolve
 pub run_stmt_block-returns-in_default-clause-runs : goal.run_stmt_block-returns-in_default-clause-runs
 run_stmt_block-returns-in_default-clause-runs g t c =
     rw (c.if-not-restoring.false, c.put_unit-in_default.ensures)
-    (c.open_list.ensures.done c.in_default.is (offer_of c.args.self.now) (holding c.args.run.now.this) refl)
+    (c.open_list.ensures.done c.in_default.is (holding c.args.run.now.this))
 
 pub run_stmt_block-returns-in_default-clause-restores : goal.run_stmt_block-returns-in_default-clause-restores
 unfolding ChangesNames KeepsNames RestoresNames SuitsNames
@@ -616,7 +625,7 @@ run_stmt_block-returns-in_default-clause-restores g t c restoring =
     record { sight = c.open_list.ensures.sight; names = c.open_list.ensures.names }
 
 pub run_stmt_block-returns-clause-runs : goal.run_stmt_block-returns-clause-runs
-unfolding after Steps
+unfolding after Goes
 run_stmt_block-returns-clause-runs g t c k =
     let rules = under g.H.Host.name_of c.args.self.now g.T.NativeTable.natives in
     let new = c.run_statements-done.new.run in
@@ -675,11 +684,11 @@ run_stmt_block-run_statements-done-requires g t c =
     )
 
 pub run_statements-each_stmt-init : goal.run_statements-each_stmt-init
-unfolding after Steps ChangesNames KeepsNames RestoresNames SuitsNames
+unfolding after Goes ChangesNames KeepsNames RestoresNames SuitsNames
 run_statements-each_stmt-init g t c = record { counts = omega arith; resolves = c.requires.resolves; steps = λ k. here }
 
 pub run_statements-each_stmt-preserved : goal.run_statements-each_stmt-preserved
-unfolding after Steps ChangesNames KeepsNames RestoresNames SuitsNames
+unfolding after Goes ChangesNames KeepsNames RestoresNames SuitsNames
 run_statements-each_stmt-preserved g t c =
     record {
       counts = omega (arith, c.if-not-run_stmt.ensures.charges refl);
@@ -693,13 +702,13 @@ run_statements-each_stmt-preserved g t c =
     }
 
 pub run_statements-returns-then-not-run_stmt-clause-runs : goal.run_statements-returns-then-not-run_stmt-clause-runs
-unfolding after Steps
+unfolding after Goes
 run_statements-returns-then-not-run_stmt-clause-runs g t c k =
     c.each_stmt.invariant.steps k ⨾ rw (drop_item _ _ _ c.each_stmt-test.true c.stmt-item.is)
     (next (c.if-not-run_stmt.ensures.runs (RestOfList _ _ ∷ k) ⨾ next here))
 
 pub run_statements-returns-clause-runs : goal.run_statements-returns-clause-runs
-unfolding after Steps
+unfolding after Goes
 run_statements-returns-clause-runs g t c k =
     let passed : 1 ≤ c.each_stmt.stmt-index = omega (arith, c.requires.some, c.each_stmt-test.false) in
     c.each_stmt.invariant.steps k ⨾ rw (drop_all _ _ c.each_stmt-test.false, last_at c.each_stmt.stmt-index c.each_stmt.run.value passed)
@@ -1006,7 +1015,7 @@ run_stmt-returns-in-Var-clause-declared g t c done = rw (c.in-Var.is, stmts.outs
 pub run_var-returns-clause-declared : goal.run_var-returns-clause-declared
 run_var-returns-clause-declared g t c done =
     let rules = under g.H.Host.name_of c.args.self.now g.T.NativeTable.natives in
-    c.declare.ensures.names done ∙ ap (var_names c.args.index c.args.ident.now.name)
+    c.declare.ensures.names done ∙ ap (var_names c.args.declaration.now.index c.args.declaration.now.ident.now.name)
     (names_stay rules (Eval c.args.value.now) (ended (came true c.run_expr.new.run.value c.run_expr.new.run.error)) _ _ tt tt
     c.if-not-run_expr.ensures.runs)
 

@@ -1,11 +1,13 @@
 use Rattle.std.proofs.Common.{◌≡◌, ◌≤◌, ◌∷◌, ◌∙◌, List, None, Option, Some, arith, refl, sym}
 use Rattle.rhai_machine.specs.machine.Point.{after}
-use Rattle.rhai_machine.specs.machine.Memory.{here, next, ◌⨾◌}
+use Rattle.rhai_machine.specs.machine.Memory.{here, next, ◌⨾◌, Leads}
 use Rattle.rhai_choices.specs.Candidates.{numbers_left}
 use Rattle.rhai_machine.specs.language.Cases.{Cases, default_of, results_of}
 use Rattle.rhai_machine.specs.language.Choices.{met_core}
 use Rattle.rhai_machine.specs.language.Frames.{Choose, Frame, SwitchValue}
-use Rattle.rhai_machine.specs.language.Runs.{Goes, Steps, at, with_core}
+use Rattle.rhai_machine.specs.language.Runs.{at, with_core, Goes}
+use Rattle.rhai_machine.specs.language.Language.{machine}
+use Rattle.rhai_machine.specs.language.Setting.{cut}
 use Rattle.rhai_steps.proofs.Agreeing.{brings, leads_then, still}
 use Rattle.rhai_eval_core.specs.Agreement.{ChangesNames, KeepsNames, RestoresNames, SuitsNames}
 use Rattle.rhai_eval_core.specs.States.{state_in, under}
@@ -21,14 +23,14 @@ is_none None not = refl
 is_none (Some x) not = absurd (not x refl)
 
 pub run_switch-returns-then-not-run_expr-clause-runs : goal.run_switch-returns-then-not-run_expr-clause-runs
-unfolding after Steps
+unfolding after Goes
 run_switch-returns-then-not-run_expr-clause-runs g t c pos restoring k =
     let choice : Cases =
     record { results = c.args.results.now; cases = c.args.cases.now; ranges = c.args.ranges.now; default = c.args.default } in
     next (c.if-not-run_expr.ensures.runs (SwitchValue _ choice ∷ k) ⨾ next here)
 
 pub run_switch-returns-then-not-flatten_at-clause-runs : goal.run_switch-returns-then-not-flatten_at-clause-runs
-unfolding after Steps
+unfolding after Goes
 run_switch-returns-then-not-flatten_at-clause-runs g t c pos restoring k =
     let rules = under g.H.Host.name_of c.args.self.now g.T.NativeTable.natives in
     let choice : Cases =
@@ -52,7 +54,7 @@ run_switch-run_condition-requires g t c =
     )
 
 pub run_switch-each_candidate-init : goal.run_switch-each_candidate-init
-unfolding after Steps ChangesNames KeepsNames RestoresNames SuitsNames
+unfolding after Goes ChangesNames KeepsNames RestoresNames SuitsNames
 run_switch-each_candidate-init g t c =
     let rules = under g.H.Host.name_of c.args.self.now g.T.NativeTable.natives in
     let choice : Cases =
@@ -66,7 +68,7 @@ run_switch-each_candidate-init g t c =
     }
 
 pub run_switch-returns-in-None-default_result-clause-runs : goal.run_switch-returns-in-None-default_result-clause-runs
-unfolding after Steps
+unfolding after Goes
 run_switch-returns-in-None-default_result-clause-runs g t c pos restoring k =
     let rules = under g.H.Host.name_of c.args.self.now g.T.NativeTable.natives in
     c.each_candidate.invariant.steps pos restoring k ⨾ rw (
@@ -76,7 +78,7 @@ run_switch-returns-in-None-default_result-clause-runs g t c pos restoring k =
     (default_not rules k _ _ (sym (c.in-None-default_result.ensures c.args.cases.now c.args.ranges.now)))
 
 pub run_switch-returns-in-None-run_condition-clause-runs : goal.run_switch-returns-in-None-run_condition-clause-runs
-unfolding after Steps
+unfolding after Goes
 run_switch-returns-in-None-run_condition-clause-runs g t c pos restoring k =
     let rules = under g.H.Host.name_of c.args.self.now g.T.NativeTable.natives in
     c.each_candidate.invariant.steps pos restoring k ⨾ rw c.in-Some.ensures.some
@@ -99,7 +101,7 @@ run_switch-run_expr-requires-in-Some-default_result g t c =
     )
 
 pub run_switch-returns-in-Some-default_result-clause-runs : goal.run_switch-returns-in-Some-default_result-clause-runs
-unfolding after Steps
+unfolding after Goes
 run_switch-returns-in-Some-default_result-clause-runs g t c pos restoring k =
     let rules = under g.H.Host.name_of c.args.self.now g.T.NativeTable.natives in
     c.each_candidate.invariant.steps pos restoring k ⨾ rw (c.next.ensures.none (is_none c.next.result c.in_default.not-Some))
@@ -136,7 +138,7 @@ run_switch-run_expr-requires-then-holds g t c =
     )
 
 pub run_switch-returns-then-holds-clause-runs : goal.run_switch-returns-then-holds-clause-runs
-unfolding after Steps
+unfolding after Goes
 run_switch-returns-then-holds-clause-runs g t c pos restoring k =
     let rules = under g.H.Host.name_of c.args.self.now g.T.NativeTable.natives in
     let candidate = c.in-Some.candidate.now in
@@ -149,7 +151,7 @@ run_switch-returns-then-holds-clause-runs g t c pos restoring k =
     }) in
     let old = state_in (g.T.NativeTable.state c.each_candidate.table) c.each_candidate.run in
     let new = state_in (g.T.NativeTable.state c.match-written_truth.table) c.match-written_truth.run in
-    let told : (k : List (Frame g.row.H.Denot)) → Goes rules (at (Choose (candidate ∷ rest) default) k old)
+    let told : (k : List (Frame g.row.H.Denot)) → Leads (machine rules) (cut rules) (at (Choose (candidate ∷ rest) default) k old)
     (with_core (met_core c.match-written_truth.holds candidate rest default k new.local) new) = λ k. elim c.match-written_truth.branch [
       | run_switch-in-Some-written_truth w ↦ rw (w.holds-is, w.table-is, w.run-is) (written_on rules k candidate rest default
           w.in-Some-written_truth.holds old (sym c.written_truth.ensures ∙ w.in-Some-written_truth.is))
@@ -161,7 +163,7 @@ run_switch-returns-then-holds-clause-runs g t c pos restoring k =
     ((rw c.if-holds.true at told) k ⨾ c.run_expr-then-holds.ensures.runs k)
 
 pub run_switch-each_candidate-preserved : goal.run_switch-each_candidate-preserved
-unfolding after Steps ChangesNames KeepsNames RestoresNames SuitsNames
+unfolding after Goes ChangesNames KeepsNames RestoresNames SuitsNames
 run_switch-each_candidate-preserved g t c =
     let rules = under g.H.Host.name_of c.args.self.now g.T.NativeTable.natives in
     let candidate = c.in-Some.candidate.now in
@@ -174,7 +176,7 @@ run_switch-each_candidate-preserved g t c =
     }) in
     let old = state_in (g.T.NativeTable.state c.each_candidate.table) c.each_candidate.run in
     let new = state_in (g.T.NativeTable.state c.match-written_truth.table) c.match-written_truth.run in
-    let told : (k : List (Frame g.row.H.Denot)) → Goes rules (at (Choose (candidate ∷ rest) default) k old)
+    let told : (k : List (Frame g.row.H.Denot)) → Leads (machine rules) (cut rules) (at (Choose (candidate ∷ rest) default) k old)
     (with_core (met_core c.match-written_truth.holds candidate rest default k new.local) new) = λ k. elim c.match-written_truth.branch [
       | run_switch-in-Some-written_truth w ↦ rw (w.holds-is, w.table-is, w.run-is) (written_on rules k candidate rest default
           w.in-Some-written_truth.holds old (sym c.written_truth.ensures ∙ w.in-Some-written_truth.is))

@@ -5,7 +5,7 @@ use Rattle.rhai_state.specs.Scope.{entries_of, name_of}
 use Rattle.rhai_machine.specs.machine.Point.{after}
 use Rattle.rhai_machine.specs.machine.Memory.{next, ◌⨾◌}
 use Rattle.rhai_machine.specs.language.Frames.{CatchBranch, Enter, ended, TryBody}
-use Rattle.rhai_machine.specs.language.Runs.{Steps}
+use Rattle.rhai_machine.specs.language.Runs.{Goes}
 use Rattle.rhai_machine.specs.language.Tries.{catch_variable}
 use Rattle.rhai_laws.proofs.KeptLaws.{counted, names_stay}
 use Rattle.rhai_steps.specs.States.{holding}
@@ -19,14 +19,14 @@ use Rattle.rhai_eval_core.proofs.TrySteps.{below, branch_left, branch_not, branc
 use Rattle.rhai_eval_core.proofs.evaluator.Evaluator.+eval.Goals as goal
 
 pub run_try-returns-then-run_stmt_block-clause-runs : goal.run_try-returns-then-run_stmt_block-clause-runs
-unfolding after Steps
+unfolding after Goes
 run_try-returns-then-run_stmt_block-clause-runs g t c pos restoring k =
     let rules = under g.H.Host.name_of c.args.self.now g.T.NativeTable.natives in
     next ((rw c.as_slice.ensures at c.if-run_stmt_block.ensures.runs) (TryBody c.args.variable.now c.args.branch.now ∷ k)
     ⨾ try_done rules k _ _ _ _)
 
 pub run_try-returns-then-not-may_catch-clause-runs : goal.run_try-returns-then-not-may_catch-clause-runs
-unfolding after Steps
+unfolding after Goes
 run_try-returns-then-not-may_catch-clause-runs g t c pos restoring k =
     let rules = under g.H.Host.name_of c.args.self.now g.T.NativeTable.natives in
     next ((rw c.as_slice.ensures at c.if-run_stmt_block.ensures.runs) (TryBody c.args.variable.now c.args.branch.now ∷ k)
@@ -54,7 +54,7 @@ run_try-returns-clause-names g t c done =
     leads_then (put_back (c.if-run_stmt_block.ensures.restores refl)) (c.run_branch.ensures.names done)
 
 pub run_try-returns-clause-runs : goal.run_try-returns-clause-runs
-unfolding after Steps
+unfolding after Goes
 run_try-returns-clause-runs g t c pos restoring k =
     let rules = under g.H.Host.name_of c.args.self.now g.T.NativeTable.natives in
     next ((rw c.as_slice.ensures at c.if-run_stmt_block.ensures.runs) (TryBody c.args.variable.now c.args.branch.now ∷ k)
@@ -62,7 +62,7 @@ run_try-returns-clause-runs g t c pos restoring k =
     ⨾ (rw c.stopped-caught.ensures at c.run_branch.ensures.runs) k)
 
 pub run_branch-returns-then-not-bind_caught-clause-runs : goal.run_branch-returns-then-not-bind_caught-clause-runs
-unfolding after Steps
+unfolding after Goes
 run_branch-returns-then-not-bind_caught-clause-runs g t c k =
     let rules = under g.H.Host.name_of c.args.self.now g.T.NativeTable.natives in
     rw (c.if-not-bind_caught.ensures.same refl)
@@ -76,7 +76,7 @@ run_branch-run_stmt_block-done-requires g t c =
     λ κs lives. (omega arith, (lives.0, (lives.1, rw c.as_slice-statements.ensures (block_suits c.args.branch.now suits))))
 
 pub run_branch-returns-clause-runs : goal.run_branch-returns-clause-runs
-unfolding after Steps
+unfolding after Goes
 run_branch-returns-clause-runs g t c k =
     let rules = under g.H.Host.name_of c.args.self.now g.T.NativeTable.natives in
     let old = c.args.run.now in

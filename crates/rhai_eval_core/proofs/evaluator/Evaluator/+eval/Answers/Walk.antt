@@ -34,7 +34,7 @@ walk_chain-walk_entered-requires g t c =
 
 pub walk_chain-returns-in-Ended-clause-runs : goal.walk_chain-returns-in-Ended-clause-runs
 walk_chain-returns-in-Ended-clause-runs g t c scope held =
-    rw c.settle_changed.ensures (c.in-Ended.ensures.begins (offer_of c.args.self.now) scope held
+    rw c.settle_changed.ensures (c.in-Ended.ensures.begins scope held
     (chain_at c.args.root.now (out-Expr c.args.rest.now) c.args.args.now c.args.new c.args.in_place) (sym c.in-Some.ensures))
 
 pub walk_chain-returns-in-Enters-clause-runs : goal.walk_chain-returns-in-Enters-clause-runs
@@ -48,6 +48,6 @@ walk_chain-returns-in-Enters-clause-runs g t c scope held =
     (state_of (g.T.NativeTable.state c.args.table.now) c.begin_link.new.global scope (lending held c.args.focus.now))
     (state_of (g.T.NativeTable.state c.walk_entered.new.table) c.walk_entered.new.run.global scope (lending held c.walk_entered.new.focus))
     (came_changed c.walk_entered.result c.walk_entered.new.run.value c.walk_entered.new.run.error) (c.in-Enters.ensures.begins
-    (offer_of c.args.self.now) scope held chain (sym c.in-Some.ensures))
+    scope held chain (sym c.in-Some.ensures))
     (may_end (link_seen c.in-Some.link).form (link_seen c.in-Some.link).behind c.args.new walks.behind walks.walks)
     (c.walk_entered.ensures.runs scope held (out-Expr c.args.rest.now))

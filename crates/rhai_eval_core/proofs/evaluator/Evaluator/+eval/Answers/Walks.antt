@@ -7,7 +7,7 @@ use Rattle.rhai_state.specs.Scope.{entries_of, name_of}
 use Rattle.rhai_machine.specs.machine.Point.{after}
 use Rattle.rhai_machine.specs.machine.Memory.{next, ◌⨾◌, here}
 use Rattle.rhai_machine.specs.language.Frames.{ForBody, ForItems, RestoreScope}
-use Rattle.rhai_machine.specs.language.Runs.{Steps}
+use Rattle.rhai_machine.specs.language.Runs.{Goes}
 use Rattle.rhai_laws.proofs.KeptLaws.{counted}
 use Rattle.rhai_steps.specs.States.{holding}
 use Rattle.rhai_walks.specs.TurnsLeft.{turns_in}
@@ -16,7 +16,7 @@ use Rattle.rhai_walks.specs.declared.parts.ForParts.{ForParts}
 use Rattle.rhai_context.specs.Ends.{came}
 use Rattle.rhai_steps.proofs.Agreeing.{behind, leads_by, leads_then, put_back, same, changed}
 use Rattle.rhai_eval_core.specs.Agreement.{ChangesNames, KeepsNames, RestoresNames, SuitsNames}
-use Rattle.rhai_eval_core.specs.States.{offer_of, under}
+use Rattle.rhai_eval_core.specs.States.{under}
 use Rattle.rhai_eval_core.proofs.Turns.{body_charges}
 use Rattle.rhai_eval_core.proofs.LoopSteps.{stays_full, turn_ended}
 use Rattle.rhai_eval_core.proofs.NameLemmas.{back_over}
@@ -28,7 +28,7 @@ use Rattle.rhai_eval_core.proofs.Chain.{flat_fails}
 use Rattle.rhai_tree.specs.Names.{naming}
 
 pub run_for-returns-then-not-has_room-clause-runs : goal.run_for-returns-then-not-has_room-clause-runs
-unfolding after Steps
+unfolding after Goes
 run_for-returns-then-not-has_room-clause-runs g t c pos restoring k =
     let rules = under g.H.Host.name_of c.args.self.now g.T.NativeTable.natives in
     let parts : ForParts =
@@ -37,7 +37,7 @@ run_for-returns-then-not-has_room-clause-runs g t c pos restoring k =
     (has_none rules (loop_in parts) k pos restoring _ (c.if-not-has_room.ensures.full refl))
 
 pub run_for-returns-then-not-run_expr-clause-runs : goal.run_for-returns-then-not-run_expr-clause-runs
-unfolding after Steps
+unfolding after Goes
 run_for-returns-then-not-run_expr-clause-runs g t c pos restoring k =
     let rules = under g.H.Host.name_of c.args.self.now g.T.NativeTable.natives in
     let parts : ForParts =
@@ -47,7 +47,7 @@ run_for-returns-then-not-run_expr-clause-runs g t c pos restoring k =
     ⨾ c.if-not-run_expr.ensures.runs (ForItems loop ∷ k) ⨾ next here
 
 pub run_for-returns-then-not-flatten_at-clause-runs : goal.run_for-returns-then-not-flatten_at-clause-runs
-unfolding after Steps
+unfolding after Goes
 run_for-returns-then-not-flatten_at-clause-runs g t c pos restoring k =
     let rules = under g.H.Host.name_of c.args.self.now g.T.NativeTable.natives in
     let parts : ForParts =
@@ -58,7 +58,7 @@ run_for-returns-then-not-flatten_at-clause-runs g t c pos restoring k =
     ⨾ flat_fails rules _ _ k _ _ (ForItems loop) refl c.if-not-flatten_at.ensures.exact
 
 pub run_for-returns-in_default-clause-runs : goal.run_for-returns-in_default-clause-runs
-unfolding after Steps
+unfolding after Goes
 run_for-returns-in_default-clause-runs g t c pos restoring k =
     let rules = under g.H.Host.name_of c.args.self.now g.T.NativeTable.natives in
     let parts : ForParts =
@@ -71,7 +71,7 @@ run_for-returns-in_default-clause-runs g t c pos restoring k =
     (c.start_turns.ensures.none c.in_default.is) (c.start_turns.ensures.told c.in_default.is))
 
 pub run_for-turns-init : goal.run_for-turns-init
-unfolding after Steps ChangesNames KeepsNames RestoresNames SuitsNames
+unfolding after Goes ChangesNames KeepsNames RestoresNames SuitsNames
 run_for-turns-init g t c =
     let rules = under g.H.Host.name_of c.args.self.now g.T.NativeTable.natives in
     let parts : ForParts =
@@ -126,15 +126,15 @@ run_for-next_number-turn-requires g t c = omega (
 )
 
 pub run_for-turns-smaller : goal.run_for-turns-smaller
-unfolding after Steps
+unfolding after Goes
 run_for-turns-smaller g t c =
-    let full : c.args.self.now.limits.now.max_operations ≤ c.turns.run.global.num_operations →
+    let full : c.args.self.now.session.limits.max_operations ≤ c.turns.run.global.num_operations →
     c.run_for_turn.new.run.global.num_operations ≡ c.turns.run.global.num_operations = λ le. stays_full _ _ (c.run_for_turn.ensures.runs [])
     le in
     grind (arith, full, c.run_for_turn.ensures.charges)
 
 pub run_for-turns-preserved : goal.run_for-turns-preserved
-unfolding after Steps ChangesNames KeepsNames RestoresNames SuitsNames
+unfolding after Goes ChangesNames KeepsNames RestoresNames SuitsNames
 run_for-turns-preserved g t c =
     record {
       counts = omega (
@@ -152,7 +152,7 @@ run_for-turns-preserved g t c =
     }
 
 pub run_for-returns-in-Some-run_for_turn-clause-runs : goal.run_for-returns-in-Some-run_for_turn-clause-runs
-unfolding after Steps
+unfolding after Goes
 run_for-returns-in-Some-run_for_turn-clause-runs g t c pos restoring k =
     let rules = under g.H.Host.name_of c.args.self.now g.T.NativeTable.natives in
     let parts : ForParts =
@@ -180,13 +180,13 @@ run_for-returns-in-Some-run_for_turn-clause-names g t c done =
     c.turns.invariant.names (c.in-Some-run_for_turn.ensures.names done) c.rewind.ensures
 
 pub run_for_turn-returns-in_default-clause-runs : goal.run_for_turn-returns-in_default-clause-runs
-unfolding after Steps
+unfolding after Goes
 run_for_turn-returns-in_default-clause-runs g t c k =
     let rules = under g.H.Host.name_of c.args.self.now g.T.NativeTable.natives in
     rw c.put_unit.ensures (turns_end rules (loop_in c.args.parts) k c.args.turn c.args.base _ _ (c.next.ensures.none c.in_default.is))
 
 pub run_for_turn-returns-then-charge-clause-runs : goal.run_for_turn-returns-then-charge-clause-runs
-unfolding after Steps
+unfolding after Goes
 run_for_turn-returns-then-charge-clause-runs g t c k =
     let rules = under g.H.Host.name_of c.args.self.now g.T.NativeTable.natives in
     empty_charged rules (loop_in c.args.parts) k c.args.turn c.args.base _ _ _ c.in-Some.ensures.some
@@ -194,7 +194,7 @@ run_for_turn-returns-then-charge-clause-runs g t c k =
     _ c.args.run.now.global c.charge.new.global _ _ (c.if-charge.ensures.room refl) (c.if-charge.ensures.charged refl)
 
 pub run_for_turn-returns-then-is_empty-clause-runs : goal.run_for_turn-returns-then-is_empty-clause-runs
-unfolding after Steps
+unfolding after Goes
 run_for_turn-returns-then-is_empty-clause-runs g t c k =
     let rules = under g.H.Host.name_of c.args.self.now g.T.NativeTable.natives in
     empty_refused rules (loop_in c.args.parts) k c.args.turn c.args.base _ _ _ c.in-Some.ensures.some
@@ -207,10 +207,10 @@ unfolding ChangesNames KeepsNames RestoresNames SuitsNames
 run_for_turn-enter_turn-requires g t c = c.requires.variables ∙ length-map (entries_of c.args.run.now.scope) name_of
 
 pub run_for_turn-returns-then-not-enter_turn-clause-runs : goal.run_for_turn-returns-then-not-enter_turn-clause-runs
-unfolding after Steps
+unfolding after Goes
 run_for_turn-returns-then-not-enter_turn-clause-runs g t c k =
-    c.if-not-enter_turn.ensures.enters (offer_of c.args.self.now) (holding c.args.run.now.this) _ _ k c.in-Some.ensures.some
-    (λ empty. absurd (true≢false (sym (c.is_empty.ensures.1 empty) ∙ c.if-is_empty.false)))
+    c.if-not-enter_turn.ensures.enters (holding c.args.run.now.this) _ _ c.in-Some.ensures.some
+    (λ empty. absurd (true≢false (sym (c.is_empty.ensures.1 empty) ∙ c.if-is_empty.false))) k
 
 pub run_for_turn-run_stmt_block-done-requires : goal.run_for_turn-run_stmt_block-done-requires
 unfolding ChangesNames KeepsNames RestoresNames SuitsNames
@@ -229,13 +229,13 @@ run_for_turn-run_stmt_block-done-requires g t c =
     )
 
 pub run_for_turn-returns-clause-runs : goal.run_for_turn-returns-clause-runs
-unfolding after Steps
+unfolding after Goes
 run_for_turn-returns-clause-runs g t c k =
     let rules = under g.H.Host.name_of c.args.self.now g.T.NativeTable.natives in
     let loop = loop_in c.args.parts in
     let rest = turns_in c.next.new.self in
-    c.if-not-enter_turn.ensures.enters (offer_of c.args.self.now) (holding c.args.run.now.this) _ rest k c.in-Some.ensures.some
-    (λ empty. absurd (true≢false (sym (c.is_empty.ensures.1 empty) ∙ c.if-is_empty.false)))
+    c.if-not-enter_turn.ensures.enters (holding c.args.run.now.this) _ rest c.in-Some.ensures.some
+    (λ empty. absurd (true≢false (sym (c.is_empty.ensures.1 empty) ∙ c.if-is_empty.false))) k
     ⨾ (rw c.as_slice-statements.ensures at c.run_stmt_block-done.ensures.runs) (ForBody loop rest c.args.turn c.args.base ∷ k)
     ⨾ rw c.turn_end.ensures
     (body_ends rules loop k c.args.turn c.args.base (came c.run_stmt_block-done.result c.run_stmt_block-done.new.run.value

@@ -2,12 +2,14 @@
 //! memory for one the answer is that memory ran out.
 
 ghost use Rattle.std.specs.Prelude.{◌≡◌, false, [], IfOk};
-ghost use Rattle.rhai_state.specs.Errors.{is_out_of_memory};
+ghost use Rattle.rhai_tree.specs.declared.expr.Expr.{out-Expr};
+ghost use Rattle.rhai_tree.specs.Positions.{start_of};
 ghost use Rattle.rhai_values.specs.DataSize.{fault_text};
+ghost use Rattle.rhai_state.specs.Errors.{is_out_of_memory, mismatch as mismatched, root_name};
 ghost use Rattle.rhai_state.specs.declared.error.EvalAltResult.TheVariants as error;
-ghost use Rattle.rhai_machine.specs.language.Values.{mismatch as mismatched};
 
-use rhai_state::error::{EvalAltResult, TypeMismatch};
+use crate::error::{EvalAltResult, TypeMismatch};
+use rhai_tree::expr::Expr;
 use rhai_tree::position::Position;
 use rhai_tree::{Boxed, Shared, Text};
 use rhai_values::base::size::SizeFault;
@@ -50,6 +52,32 @@ pub fn assignment_to_constant<H>(name: &Shared<Text>, pos: Position) -> EvalAltR
     }
 }
 
+/// Builds the error of a constant without a name that is assigned to.
+#[cold]
+#[inline(never)]
+pub fn nameless_constant<H>(alloc: Global, pos: Position) -> EvalAltResult<H>
+    ensures { is_out_of_memory result ≡ false → result ≡ error.ErrorAssignmentToConstant [] pos }
+{
+    match Shared::new(alloc, Text::new(alloc)) {
+        Ok(name) => EvalAltResult::ErrorAssignmentToConstant(name, pos),
+        Err(_) => EvalAltResult::ErrorOutOfMemory(pos),
+    }
+}
+
+/// Builds the error of a constant that a chain assigns to, with the name of the chain's root.
+#[cold]
+#[inline(never)]
+pub fn constant_of<H>(alloc: Global, root: &Expr) -> EvalAltResult<H>
+    ensures { is_out_of_memory result ≡ false → result ≡ error.ErrorAssignmentToConstant
+        (root_name (out-Expr root.now)) (start_of root.now) }
+{
+    let pos = root.start_position();
+    match root {
+        Expr::Variable { name, .. } => assignment_to_constant(name, pos),
+        _ => nameless_constant(alloc, pos),
+    }
+}
+
 /// Builds the error of a name that means no variable.
 #[cold]
 #[inline(never)]
@@ -58,6 +86,18 @@ pub fn variable_not_found<H>(name: &Shared<Text>, pos: Position) -> EvalAltResul
 {
     match name.share() {
         Ok(name) => EvalAltResult::ErrorVariableNotFound(name, pos),
+        Err(_) => EvalAltResult::ErrorOutOfMemory(pos),
+    }
+}
+
+/// Builds the error of a key that a map does not have.
+#[cold]
+#[inline(never)]
+pub fn property_not_found<H>(key: &Shared<Text>, pos: Position) -> EvalAltResult<H>
+    ensures { is_out_of_memory result ≡ false → result ≡ error.ErrorPropertyNotFound key.now pos }
+{
+    match key.share() {
+        Ok(key) => EvalAltResult::ErrorPropertyNotFound(key, pos),
         Err(_) => EvalAltResult::ErrorOutOfMemory(pos),
     }
 }
@@ -74,7 +114,8 @@ pub fn variable_exists<H>(name: &Shared<Text>, pos: Position) -> EvalAltResult<H
     }
 }
 
-fn type_mismatch(
+/// Builds the types that the error of another type tells.
+pub fn type_mismatch(
     alloc: Global,
     wanted: &str,
     found: &str,
