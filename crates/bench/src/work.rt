@@ -1,14 +1,14 @@
 //! The works that are timed.
 
-use rhai_bench::sample::MadeStatements::{
+use rhai_bench::timing::time_run;
+use rhai_rows::sample::MadeStatements::{
     ArraySummed, ChoicesInTurn, Decrements, Doublings, FirstItemIncreased, Increments, ManyItems,
     Pairings, RangeSummed, ThrowsInTurn,
 };
-use rhai_bench::sample::MadeTree::Fibonacci;
-use rhai_bench::sample::Tree::{Statements, WithFunctions};
-use rhai_bench::sample::{MadeStatements, Sample, Tree};
-use rhai_bench::settings::Setting::Usual;
-use rhai_bench::timing::time_run;
+use rhai_rows::sample::MadeTree::Fibonacci;
+use rhai_rows::sample::Tree::{Statements, WithFunctions};
+use rhai_rows::sample::{MadeStatements, Sample, Tree};
+use rhai_rows::settings::Setting::Usual;
 use std::io;
 
 /// What scripts do that are timed.

@@ -6,8 +6,8 @@
 //! compared.
 #![tactic(auto)]
 
-use rhai_bench::sample::Sample;
-use rhai_worked::compare::{Answer, Subject};
+use rhai_rows::compare::{Answer, Subject};
+use rhai_rows::sample::Sample;
 use rhai_worked::lists::{Lists, write_answer};
 use rhai_worked::program::run;
 use std::alloc::Global;

@@ -1,3 +1,1 @@
-pub mod Settings
-pub mod Outcome
 pub mod Arguments

@@ -1,11 +1,10 @@
-//! A host's own calls, over the bench's table of natives. The programs have no copy of the evaluator of their own, as one
-//! is made in each crate that calls it with a type of table.
+//! A host's own calls, over the bench's table of natives.
 
 ghost use Rattle.std.specs.Prelude.{◌≡◌, IfOk, length};
 ghost use Rattle.rhai_values.specs.Cells.{IsNoHandle};
 
 use rhai_eval::base::{AccessMode, CellId, EvalAltResult, Items, Position, Scope, Union};
-use rhai_eval::check::{CheckedFn, CheckedTree};
+use rhai_eval::check::CheckedFn;
 use rhai_eval::engine::Engine;
 use rhai_eval::script::FnKey;
 use rhai_eval::target::{Part, Target};
@@ -17,28 +16,6 @@ use rhai_tables::tables::counting::Counting;
 use rhai_values::base::value::Dynamic;
 use std::alloc::{AllocError, Global};
 use std::mem::replace;
-
-/// Evaluates a tree, as `Engine::eval_global_statements` does.
-pub fn eval_tree(
-    alloc: Global,
-    engine: &Engine<Pair>,
-    global: &mut GlobalRuntimeState<Pair>,
-    caches: &mut Caches<Pair>,
-    table: &mut Natives<Counting>,
-    scope: &mut Scope<Pair>,
-    tree: &CheckedTree,
-    map_exit_to_return_value: bool,
-) -> Result<Dynamic<Pair>, EvalAltResult<Pair>> {
-    engine.eval_global_statements(
-        alloc,
-        global,
-        caches,
-        table,
-        scope,
-        tree,
-        map_exit_to_return_value,
-    )
-}
 
 /// What a host has for its calls.
 #[derive(Drop)]

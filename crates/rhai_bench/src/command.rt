@@ -3,12 +3,14 @@
 ghost use Rattle.std.specs.Prelude.{◌≡◌, ◌≤◌, IfOk, is_some, false, map, string_bytes};
 ghost use Rattle.rhai_bench.specs.Arguments.{IsCall};
 
-use crate::outcome::Ending;
-use crate::print::write_line;
-use crate::rows::{scope_for, scripts_of};
-use crate::sample::Sample;
-use crate::settings::Way;
+use crate::linked_pointer::scope_for;
+use crate::script::run_above;
 use rhai_eval::base::{Dynamic, Shared, Text, Union};
+use rhai_rows::outcome::Ending;
+use rhai_rows::print::write_line;
+use rhai_rows::rows::scripts_of;
+use rhai_rows::sample::Sample;
+use rhai_rows::settings::Way;
 use rhai_samples::built::private_function;
 use rhai_tables::host::Pair;
 use std::alloc::{AllocError, Global};
@@ -105,7 +107,7 @@ fn run_script<W: Write>(alloc: Global, row: &str, script: Sample, out: &mut W) -
     ensures { IfOk result (λ s. s ≤ 2) }
 {
     let scope = scope_for(alloc, row)?;
-    let outcome = script.script(alloc)?.run_above(alloc, Way::USUAL, scope)?;
+    let outcome = run_above(alloc, script.script(alloc)?, Way::USUAL, scope)?;
     let wrote = write_line(out, &outcome.ending);
     let status = outcome.ending.status();
     drop(outcome);

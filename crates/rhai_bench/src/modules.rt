@@ -2,12 +2,13 @@
 
 use rhai::library_of;
 use rhai_build::functions::TreeParts;
-use rhai_eval::base::{Boxed, Dynamic, Items, Shared, Table, Text, Union};
+use rhai_eval::base::{Boxed, Dynamic, Items, Shared, Table, Union};
 use rhai_eval::check::{CheckedTree, check_tree};
 use rhai_eval::state::{Module, ModuleFn, ModuleTable};
 use rhai_samples::globals::FUNCTIONS_OF_A_GLOBAL_MODULE;
 use rhai_samples::imports::{FUNCTIONS_OF_D, FUNCTIONS_OF_M, FUNCTIONS_OF_N};
 use rhai_samples::parts::{Part, tree_of};
+use rhai_state::errors::shared_text;
 use rhai_tables::host::Pair;
 use std::alloc::{AllocError, Global};
 
@@ -44,11 +45,6 @@ pub fn global_sub_modules(alloc: Global) -> Result<Table<Shared<Module<Pair>>>, 
     Ok(modules)
 }
 
-/// Copies a text into a shared one.
-fn shared(alloc: Global, text: &str) -> Result<Shared<Text>, AllocError> {
-    Shared::new(alloc, Text::from_str(alloc, text)?)
-}
-
 fn integer(value: i64) -> Dynamic<Pair> {
     Dynamic::new(Union::Int(value))
 }
@@ -70,7 +66,7 @@ fn add_module(
     module: Module<Pair>,
 ) -> Result<(), AllocError> {
     let module = Shared::new(alloc, module)?;
-    modules.insert(shared(alloc, name)?, module)
+    modules.insert(shared_text(alloc, name)?, module)
 }
 
 /// Gives a module a constant.
@@ -80,7 +76,7 @@ fn add_constant(
     name: &str,
     value: Dynamic<Pair>,
 ) -> Result<(), AllocError> {
-    module.constants.insert(shared(alloc, name)?, value)
+    module.constants.insert(shared_text(alloc, name)?, value)
 }
 
 /// Makes the module under `m`.

@@ -6,13 +6,13 @@ ghost use Rattle.rhai_state.specs.Scope.{entries_of, in_use, Fits};
 ghost use Rattle.rhai_steps.specs.Offsets.{offset_in};
 ghost use Rattle.rhai_eval.specs.Search.{is_variable};
 
-use crate::outcome::Ending;
-use crate::print::{write_ending, write_value};
 use rhai_eval::base::{
     AccessMode, Dynamic, Expr, Items, Namespace, Position, Scope, Shared, Text, Union,
 };
 use rhai_eval::engine::Engine;
 use rhai_eval::state::{Caches, GlobalRuntimeState};
+use rhai_rows::outcome::Ending;
+use rhai_rows::print::{write_ending, write_value};
 use rhai_tables::host::Pair;
 use rhai_tables::tables::NoNatives;
 use std::alloc::{AllocError, Global};

@@ -3,10 +3,11 @@
 ghost use Rattle.std.specs.Prelude.{◌≡◌, ◌*◌, ◌/◌, ◌↔◌, IsNone, IfSome};
 ghost use Rattle.std.specs.Duration.{as_nanos};
 
-use crate::outcome::Outcome;
-use crate::print::write_line;
-use crate::script::Script;
-use crate::settings::Way;
+use crate::script::run;
+use rhai_rows::outcome::Outcome;
+use rhai_rows::print::write_line;
+use rhai_rows::sample::Script;
+use rhai_rows::settings::Way;
 use std::io;
 use std::io::Write;
 use std::rt::Clock;
@@ -20,13 +21,13 @@ pub fn time_run<R: AllocGlobal + Clock + Print + Eprint>(
     script: Script,
 ) -> io::Result<()> {
     let begun = Instant::now(rt)?;
-    let outcome = script.run(rt.alloc(), Way::USUAL)?;
-    let run = begun.elapsed(rt)?;
+    let outcome = run(rt.alloc(), script, Way::USUAL)?;
+    let elapsed = begun.elapsed(rt)?;
     let count = outcome.num_operations;
     let wrote = write_outcome(&mut io::writer(rt), &outcome);
     drop(outcome);
     wrote?;
-    print_speed(rt, what, count, run)
+    print_speed(rt, what, count, elapsed)
 }
 
 /// Writes how a script ended, and how many operations it charged.

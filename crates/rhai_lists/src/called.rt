@@ -1,9 +1,9 @@
 //! Calls behind a path.
 
-use rhai_bench::rows::{Row, scripts_in};
-use rhai_bench::sample::Sample;
-use rhai_bench::sample::Tree::Parts;
-use rhai_bench::settings::Setting::{
+use rhai_rows::rows::{Row, scripts_in};
+use rhai_rows::sample::Sample;
+use rhai_rows::sample::Tree::Parts;
+use rhai_rows::settings::Setting::{
     MaxCallLevelsWithModules, Usual, WithModules, WithoutFastOperators,
 };
 use rhai_samples::called::{

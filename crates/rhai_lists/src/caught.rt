@@ -1,9 +1,9 @@
 //! What is thrown out of functions, and limits, which are not caught.
 
-use rhai_bench::rows::{Row, scripts_in};
-use rhai_bench::sample::Sample;
-use rhai_bench::sample::Tree::Parts;
-use rhai_bench::settings::Setting::{MaxArraySize, MaxCallLevels, MaxVariables, Usual};
+use rhai_rows::rows::{Row, scripts_in};
+use rhai_rows::sample::Sample;
+use rhai_rows::sample::Tree::Parts;
+use rhai_rows::settings::Setting::{MaxArraySize, MaxCallLevels, MaxVariables, Usual};
 use rhai_samples::caught::{CAUGHT_IN_AN_EMPTY_BRANCH, SECOND_ERROR_THROWN_AGAIN};
 use rhai_samples::thrown::{
     CALLS_WITHOUT_END_TRIED, ERROR_OUT_OF_A_FUNCTION, LARGE_ARRAY_TRIED,

@@ -1,11 +1,11 @@
 //! The cells that closures share with variables.
 
-use rhai_bench::rows::{Row, scripts_in};
-use rhai_bench::sample::MadeStatements::NamesSharedInOrder;
-use rhai_bench::sample::MadeTree::SharedVariableAtABreak;
-use rhai_bench::sample::Sample;
-use rhai_bench::sample::Tree::{Parts, Statements, WithFunctions};
-use rhai_bench::settings::Setting::Usual;
+use rhai_rows::rows::{Row, scripts_in};
+use rhai_rows::sample::MadeStatements::NamesSharedInOrder;
+use rhai_rows::sample::MadeTree::SharedVariableAtABreak;
+use rhai_rows::sample::Sample;
+use rhai_rows::sample::Tree::{Parts, Statements, WithFunctions};
+use rhai_rows::settings::Setting::Usual;
 use rhai_samples::cells::{
     ARRAY_OF_A_SHARED_VARIABLE_CHOSEN, SHARED_CONSTANT_ASSIGNED, SHARED_VARIABLE_CHOSEN,
     TURNS_SHARED,

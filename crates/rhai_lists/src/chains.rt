@@ -1,9 +1,9 @@
 //! Chains over arrays and maps.
 
-use rhai_bench::rows::{Row, scripts_in};
-use rhai_bench::sample::Sample;
-use rhai_bench::sample::Tree::Parts;
-use rhai_bench::settings::Setting::Usual;
+use rhai_rows::rows::{Row, scripts_in};
+use rhai_rows::sample::Sample;
+use rhai_rows::sample::Tree::Parts;
+use rhai_rows::settings::Setting::Usual;
 use rhai_samples::chains::{ITEM_OF_AN_ITEM_ASSIGNED, METHOD_ON_AN_ITEM, MISSING_ENTRY_INCREASED};
 
 /// The list of this file.

@@ -1,9 +1,9 @@
 //! What the checker looks at.
 
-use rhai_bench::rows::{Row, scripts_in};
-use rhai_bench::sample::Sample;
-use rhai_bench::sample::Tree::Parts;
-use rhai_bench::settings::Setting::Usual;
+use rhai_rows::rows::{Row, scripts_in};
+use rhai_rows::sample::Sample;
+use rhai_rows::sample::Tree::Parts;
+use rhai_rows::settings::Setting::Usual;
 use rhai_samples::checked::{
     CASE_OF_NO_RESULT, CASE_WITHOUT_RESULTS, INTEGER_AS_A_CATCH_VARIABLE,
     OFFSET_OF_A_CATCH_VARIABLE, OFFSET_OF_ANOTHER_VARIABLE, PROPERTY_AS_A_RESULT, TWO_EQUAL_CASES,

@@ -1,9 +1,9 @@
 //! The conditions of a `switch`.
 
-use rhai_bench::rows::{Row, scripts_in};
-use rhai_bench::sample::Sample;
-use rhai_bench::sample::Tree::Parts;
-use rhai_bench::settings::Setting::Usual;
+use rhai_rows::rows::{Row, scripts_in};
+use rhai_rows::sample::Sample;
+use rhai_rows::sample::Tree::Parts;
+use rhai_rows::settings::Setting::Usual;
 use rhai_samples::choices::{CASE_UNDER_A_TEST, DEFAULT_UNDER_FALSE, INTEGER_AS_A_CONDITION};
 
 /// The list of this file.

@@ -1,9 +1,9 @@
 //! The constants of a script behind `global`.
 
-use rhai_bench::rows::{Row, scripts_in};
-use rhai_bench::sample::Sample;
-use rhai_bench::sample::Tree::Parts;
-use rhai_bench::settings::Setting::{Usual, WithModules};
+use rhai_rows::rows::{Row, scripts_in};
+use rhai_rows::sample::Sample;
+use rhai_rows::sample::Tree::Parts;
+use rhai_rows::settings::Setting::{Usual, WithModules};
 use rhai_samples::constants::{
     CONSTANT_OF_A_BLOCK, CONSTANT_OF_THE_SCRIPT_ASSIGNED, CONSTANT_OF_THE_SCRIPT_PASSED,
     CONSTANT_WITHOUT_A_LIBRARY, FUNCTION_BEHIND_GLOBAL, HIDDEN_BY_A_MODULE_CALLED_GLOBAL,

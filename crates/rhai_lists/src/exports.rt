@@ -1,9 +1,9 @@
 //! Variables that are exported, and those that a `let` overwrites.
 
-use rhai_bench::rows::{Row, scripts_in};
-use rhai_bench::sample::Sample;
-use rhai_bench::sample::Tree::Parts;
-use rhai_bench::settings::Setting::{MaxVariables, Usual, WithoutShadowing};
+use rhai_rows::rows::{Row, scripts_in};
+use rhai_rows::sample::Sample;
+use rhai_rows::sample::Tree::Parts;
+use rhai_rows::settings::Setting::{MaxVariables, Usual, WithoutShadowing};
 use rhai_samples::exports::{
     CONSTANT_OVER_A_VARIABLE, EXPORTED_AS_NOTHING, EXPORTED_CONSTANT, EXPORTED_IN_A_BLOCK,
     EXPORTED_OVER_A_SHARED_CONSTANT, EXPORTED_TWICE, EXPORTED_WHERE_DECLARED,

@@ -1,10 +1,10 @@
 //! Functions of scripts: how they are called, and what a call leaves.
 
-use rhai_bench::rows::{Row, scripts_in};
-use rhai_bench::sample::MadeTree::Fibonacci;
-use rhai_bench::sample::Sample;
-use rhai_bench::sample::Tree::{Parts, WithFunctions};
-use rhai_bench::settings::Setting::{MaxCallLevels, Usual};
+use rhai_rows::rows::{Row, scripts_in};
+use rhai_rows::sample::MadeTree::Fibonacci;
+use rhai_rows::sample::Sample;
+use rhai_rows::sample::Tree::{Parts, WithFunctions};
+use rhai_rows::settings::Setting::{MaxCallLevels, Usual};
 use rhai_samples::functions::{CALLS_WITHOUT_END, FUNCTION_OF_ONE, METHOD_THAT_FAILS};
 
 /// The lists of this file.

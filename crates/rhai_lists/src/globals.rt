@@ -1,9 +1,9 @@
 //! Names that modules of the engine have, or functions of the script.
 
-use rhai_bench::rows::{Row, scripts_in};
-use rhai_bench::sample::Sample;
-use rhai_bench::sample::Tree::Parts;
-use rhai_bench::settings::Setting::{Usual, WithGlobalModules};
+use rhai_rows::rows::{Row, scripts_in};
+use rhai_rows::sample::Sample;
+use rhai_rows::sample::Tree::Parts;
+use rhai_rows::settings::Setting::{Usual, WithGlobalModules};
 use rhai_samples::globals::{
     BEFORE_A_FUNCTION, BEHIND_A_VARIABLE, CONSTANT_ADDED, CONSTANT_ADDED_TO_A_VARIABLE,
     CONSTANT_AS_AN_INDEX, CONSTANT_ASSIGNED, CONSTANT_ASSIGNED_TO_AN_ITEM, CONSTANT_BEHIND_A_NAME,

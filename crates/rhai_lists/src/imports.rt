@@ -1,9 +1,9 @@
 //! Modules that are imported.
 
-use rhai_bench::rows::{Row, scripts_in};
-use rhai_bench::sample::Sample;
-use rhai_bench::sample::Tree::Parts;
-use rhai_bench::settings::Setting::{MaxModules, WithModules};
+use rhai_rows::rows::{Row, scripts_in};
+use rhai_rows::sample::Sample;
+use rhai_rows::sample::Tree::Parts;
+use rhai_rows::settings::Setting::{MaxModules, WithModules};
 use rhai_samples::imports::{
     CALLED_AFTER_A_BLOCK, CALLED_AFTER_A_TRY, IMPORTED, IMPORTED_AFTER_A_BLOCK,
     IMPORTED_BY_A_BLOCK, IMPORTED_BY_A_VARIABLE, IMPORTED_IN_A_FUNCTION, IMPORTED_TWICE_IN_A_TRY,

@@ -18,8 +18,8 @@ mod paths;
 mod variables;
 mod walks;
 
-use rhai_bench::rows::first_found;
-use rhai_bench::sample::Sample;
+use rhai_rows::rows::first_found;
+use rhai_rows::sample::Sample;
 
 /// Finds the scripts of a list in their order, None where no list has the name.
 pub fn scripts_of(list: &str) -> Option<&'static [Sample]> {

@@ -1,9 +1,9 @@
 //! What stops early, and the order in which parts are evaluated.
 
-use rhai_bench::rows::{Row, scripts_in};
-use rhai_bench::sample::Sample;
-use rhai_bench::sample::Tree::Parts;
-use rhai_bench::settings::Setting::{Usual, WithoutShadowing};
+use rhai_rows::rows::{Row, scripts_in};
+use rhai_rows::sample::Sample;
+use rhai_rows::sample::Tree::Parts;
+use rhai_rows::settings::Setting::{Usual, WithoutShadowing};
 use rhai_samples::order::{
     COUNTED_ENTRIES, COUNTED_ITEMS, DECLARED_AS_UNKNOWN_NAME, FALSE_AND_INTEGER,
     INTEGER_OR_UNKNOWN_NAME,

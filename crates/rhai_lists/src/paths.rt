@@ -1,9 +1,9 @@
 //! Constants behind a path.
 
-use rhai_bench::rows::{Row, scripts_in};
-use rhai_bench::sample::Sample;
-use rhai_bench::sample::Tree::Parts;
-use rhai_bench::settings::Setting::{MaxOperationsWithModules, WithModules};
+use rhai_rows::rows::{Row, scripts_in};
+use rhai_rows::sample::Sample;
+use rhai_rows::sample::Tree::Parts;
+use rhai_rows::settings::Setting::{MaxOperationsWithModules, WithModules};
 use rhai_samples::paths::{
     ADDED_TO_A_VARIABLE, AS_AN_INDEX, ASSIGNED, ASSIGNED_TO_AN_ITEM, BOTH_ARGUMENTS,
     COMPARED_AS_A_VARIABLE, COPIED, DOUBLED_AND_ADDED, INCREASED_AS_A_VARIABLE, ITEM_ASSIGNED,

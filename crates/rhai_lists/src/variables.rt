@@ -1,9 +1,9 @@
 //! Variables and blocks.
 
-use rhai_bench::rows::{Row, scripts_in};
-use rhai_bench::sample::Sample;
-use rhai_bench::sample::Tree::Parts;
-use rhai_bench::settings::Setting::Usual;
+use rhai_rows::rows::{Row, scripts_in};
+use rhai_rows::sample::Sample;
+use rhai_rows::sample::Tree::Parts;
+use rhai_rows::settings::Setting::Usual;
 use rhai_samples::parts::Part;
 use rhai_samples::parts::Part::{Array, Block, BlockStatement, Int, Let, Variable};
 

@@ -1,9 +1,9 @@
 //! `for`, over ranges and arrays.
 
-use rhai_bench::rows::{Row, scripts_in};
-use rhai_bench::sample::Sample;
-use rhai_bench::sample::Tree::Parts;
-use rhai_bench::settings::Setting::{MaxOperations, MaxVariables, Usual};
+use rhai_rows::rows::{Row, scripts_in};
+use rhai_rows::sample::Sample;
+use rhai_rows::sample::Tree::Parts;
+use rhai_rows::settings::Setting::{MaxOperations, MaxVariables, Usual};
 use rhai_samples::walks::{
     GREATEST_INTEGERS_WALKED, ITEM_SKIPPED, SUM_WALKED, THREE_EMPTY_TURNS, UNKNOWN_CALL_WALKED,
 };

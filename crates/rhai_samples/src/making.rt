@@ -17,7 +17,6 @@ use std::alloc::{AllocError, Global};
 use std::num::NonZeroUsize;
 
 /// What the parts so far have made, and no later part has taken.
-#[derive(Drop)]
 pub(crate) struct Making {
     alloc: Global,
     paths: Items<Namespace>,
@@ -25,6 +24,20 @@ pub(crate) struct Making {
     statements: Items<Stmt>,
     blocks: Items<StmtBlock>,
     functions: Items<ScriptFuncDef>,
+}
+
+// Written by hand, so that what lets go of it calls this, and need not go through its parts.
+impl Drop for Making {
+    fn drop(self) {
+        let Making {
+            alloc: _,
+            paths: _,
+            exprs: _,
+            statements: _,
+            blocks: _,
+            functions: _,
+        } = self;
+    }
 }
 
 /// Returns the position at a column of the first line, none for zero.

@@ -15,5 +15,3 @@ pub mod session;
 pub mod slot;
 pub mod state;
 pub mod table;
-#[cfg(test)]
-mod tests;

@@ -2,13 +2,13 @@
 //! answer.
 #![tactic(auto)]
 
+mod fitting;
 mod host;
 mod indexing;
 mod modules;
 mod operators;
 mod reader;
 mod sheet;
-pub mod text;
 mod tree;
 mod trees;
 mod values;

@@ -2,7 +2,7 @@
 
 mod literals;
 
-use crate::text::shared;
+use rhai_state::errors::shared_text;
 use rhai_tree::position::Position;
 use rhai_tree::{Boxed, Items, Shared, Text};
 use std::alloc::Global;
@@ -38,6 +38,11 @@ impl<'a> Reader<'a> {
     /// Returns the allocator with which values are made.
     pub fn allocator(&self) -> Global {
         self.alloc
+    }
+
+    /// Tells whether nothing is left.
+    pub fn is_at_end(&self) -> bool {
+        self.rest.is_empty()
     }
 
     /// Ends the reading, with the first fault if there was one. It is a fault where the line goes on.
@@ -155,7 +160,7 @@ impl<'a> Reader<'a> {
 
     /// Copies a text into a shared one, None where there was no memory for it.
     pub fn shared(&mut self, text: &str) -> Option<Shared<Text>> {
-        let made = shared(self.alloc, text).ok();
+        let made = shared_text(self.alloc, text).ok();
         if made.is_none() {
             self.lack_memory();
         }

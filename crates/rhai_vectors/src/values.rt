@@ -1,23 +1,25 @@
-//! Values and errors as they are printed, and how small they are.
+//! Values and errors as they are printed, how small they are, and whether states fit.
 
+use crate::fitting;
 use crate::host::Stone;
 use crate::reader::Reader;
 use crate::sheet::Sheet;
-use crate::text::shared;
 use rhai_state::error::{EvalAltResult, FunctionCallError};
+use rhai_state::errors::shared_text;
 use rhai_tree::Boxed;
 use rhai_tree::position::Position;
 use rhai_values::base::value::Dynamic;
 use std::alloc::{AllocError, Global};
 use std::mem::size_of;
 
-/// Writes what a call with a value, an error or a type answers, by its first word.
+/// Writes what a call with a value, an error, a type or a state answers, by its first word.
 pub fn answer(line: &mut Reader<'_>, out: &mut Sheet) {
     match line.word() {
         "print" => print(line, out),
         "error" => out.print_error(error(line)),
         "size" => out.write(fits_size(line)),
-        _ => line.want("a call with a value, an error or a type"),
+        "fits" => fitting::answer(line, out),
+        _ => line.want("a call with a value, an error, a type or a state"),
     }
 }
 
@@ -77,8 +79,8 @@ fn call_error(
     place: Position,
 ) -> Result<Boxed<FunctionCallError<Stone>>, AllocError> {
     let call = FunctionCallError {
-        name: shared(alloc, name)?,
-        source: shared(alloc, "")?,
+        name: shared_text(alloc, name)?,
+        source: shared_text(alloc, "")?,
         error: EvalAltResult::ErrorFor(place),
     };
     Boxed::new(alloc, call)

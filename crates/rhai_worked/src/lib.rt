@@ -2,8 +2,6 @@
 //! with their requests for memory refused.
 #![tactic(auto)]
 
-pub mod compare;
-pub mod errors;
 pub mod lists;
 pub mod program;
 mod refused;

@@ -1,7 +1,7 @@
 //! The lists of scripts that a program runs.
 
 use crate::scripts::{write_number, write_ways};
-use rhai_bench::sample::Sample;
+use rhai_rows::sample::Sample;
 use std::alloc::Global;
 use std::io;
 use std::io::Write;

@@ -1,8 +1,8 @@
 //! The work of a program that compares lines and runs scripts with their requests for memory refused.
 
-use crate::compare::{Subject, compare_lines};
 use crate::lists::Lists;
 use crate::refused::are_all_well;
+use rhai_rows::compare::{Subject, compare_lines};
 use std::process::ExitCode;
 use std::rt::{Env, Files};
 use std::{env, fs, io};

@@ -1,13 +1,13 @@
 //! What the calls of lines answer.
 
-use crate::errors::write_shown;
-use crate::functions::write_call;
-use crate::handles::write_handled;
 use crate::numbered::Numbered;
 use crate::program::{write_refusals, write_run};
-use crate::searches::write_search;
-use crate::signatures::write_told;
-use crate::values::write_sample;
+use rhai_hosted::functions::write_call;
+use rhai_hosted::handles::write_handled;
+use rhai_hosted::searches::write_search;
+use rhai_rows::errors::write_shown;
+use rhai_rows::signatures::write_told;
+use rhai_rows::values::write_sample;
 use rhai_worked::lists;
 use std::alloc::Global;
 use std::io;

@@ -8,15 +8,9 @@
 #![tactic(auto)]
 
 mod answers;
-mod errors;
-mod functions;
-mod handles;
 mod numbered;
 mod program;
-mod searches;
-mod signatures;
 mod topic;
-mod values;
 
 use crate::numbered::Numbered;
 use crate::topic::Topic;

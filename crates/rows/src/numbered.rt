@@ -1,7 +1,7 @@
 //! The rows of the bench, as lists.
 
-use rhai_bench::rows::scripts_of;
-use rhai_bench::sample::Sample;
+use rhai_rows::rows::scripts_of;
+use rhai_rows::sample::Sample;
 use rhai_worked::lists::Lists;
 
 /// The rows, each a list that has its number for a name.

@@ -1,8 +1,8 @@
 //! What the files of lines are about.
 
 use crate::answers::answer;
+use rhai_rows::compare::{Answer, Subject};
 use rhai_vectors::Leaf;
-use rhai_worked::compare::{Answer, Subject};
 use std::alloc::Global;
 use std::io;
 

@@ -16,16 +16,26 @@ use std::num::NonZeroUsize;
 fn cases_of(alloc: Global, cases: &[Case<'_>]) -> Result<Items<SwitchCase>, AllocError> {
     let mut made = Items::new(alloc);
     for case in cases {
-        let (value, numbers) = match *case {
-            Case::OfInt(value, numbers) => (Literal::Int(value), numbers),
-            Case::OfText(text, numbers) => (Literal::Str(shared(alloc, text)?), numbers),
-            Case::OfCharacter(value, numbers) => (Literal::Char(value), numbers),
-            Case::OfTruth(value, numbers) => (Literal::Bool(value), numbers),
-        };
-        let blocks = Items::from_slice(alloc, numbers)?;
-        made.push(SwitchCase { value, blocks })?;
+        made.push(case_of(alloc, *case)?)?;
     }
     Ok(made)
+}
+
+fn case_of(alloc: Global, case: Case<'_>) -> Result<SwitchCase, AllocError> {
+    match case {
+        Case::OfInt(value, numbers) => case_with(alloc, Literal::Int(value), numbers),
+        Case::OfText(text, numbers) => {
+            case_with(alloc, Literal::Str(shared(alloc, text)?), numbers)
+        }
+        Case::OfCharacter(value, numbers) => case_with(alloc, Literal::Char(value), numbers),
+        Case::OfTruth(value, numbers) => case_with(alloc, Literal::Bool(value), numbers),
+    }
+}
+
+/// Builds a case of a value.
+fn case_with(alloc: Global, value: Literal, numbers: &[usize]) -> Result<SwitchCase, AllocError> {
+    let blocks = Items::from_slice(alloc, numbers)?;
+    Ok(SwitchCase { value, blocks })
 }
 
 /// Builds what closures share.

@@ -3,7 +3,7 @@
 
 use crate::host::Stone;
 use crate::reader::Reader;
-use crate::text::shared;
+use rhai_state::errors::shared_text;
 use rhai_tree::{Items, Shared, Table, Text};
 use rhai_values::base::value::{AccessMode, CellId, Dynamic, FnPtr, FnPtrKind, Union};
 use std::alloc::{AllocError, Global};
@@ -154,7 +154,7 @@ impl<'a> Reader<'a> {
         } else if self.passes("stone") {
             self.stone()
         } else if self.passes("cell ") {
-            let number = self.count();
+            let number = self.cell_number();
             Union::Cell(CellId { number })
         } else if self.passes("blob[") {
             self.blob()
@@ -164,6 +164,11 @@ impl<'a> Reader<'a> {
             self.want("a value");
             Union::Unit
         }
+    }
+
+    fn cell_number(&mut self) -> usize {
+        let read = usize::try_from(self.integer()).ok();
+        self.or_want(read, "the number of a cell", 0)
     }
 
     fn stone(&mut self) -> Union<Stone> {
@@ -217,7 +222,7 @@ fn insert_copied(
     key: &str,
     value: Dynamic<Stone>,
 ) -> Result<(), AllocError> {
-    match shared(alloc, key) {
+    match shared_text(alloc, key) {
         Ok(key) => entries.insert(key, value),
         Err(error) => {
             drop(value);

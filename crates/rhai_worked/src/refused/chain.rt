@@ -1,7 +1,7 @@
 //! `a[0][1] = 5` over an array of two arrays: a chain copies nothing that it goes through, so it asks for no
 //! memory, and wherever its run is reached it is done.
 
-use rhai_bench::caller::eval_tree;
+use rhai_bench::script::eval_tree;
 use rhai_eval::base::{AccessMode, Boxed, Dynamic, Items, Scope, Union};
 use rhai_eval::check::check_tree;
 use rhai_eval::engine::Engine;

@@ -1,19 +1,18 @@
 //! A script of a list, made, checked and run in a way, and what holds after its run.
 
 use crate::refused::refuser;
-use rhai_bench::caller::eval_tree;
-use rhai_bench::outcome::Ending;
-use rhai_bench::print::write_ending;
-use rhai_bench::rows::scope_for;
-use rhai_bench::sample::Sample;
-use rhai_bench::script::{Script, add_library};
-use rhai_bench::settings::{Settings, Way};
+use rhai_bench::linked_pointer::scope_for;
+use rhai_bench::script::{add_library, engine_of, eval_tree};
 use rhai_eval::base::{CellId, Dynamic, EvalAltResult, Items, Scope, Union};
 use rhai_eval::cells::CellStore;
 use rhai_eval::check::{CheckFault, CheckedTree, check_tree};
 use rhai_eval::state::{Caches, GlobalRuntimeState};
 use rhai_eval::table::NativeTable;
 use rhai_natives::Natives;
+use rhai_rows::outcome::Ending;
+use rhai_rows::print::write_ending;
+use rhai_rows::sample::{Sample, Script};
+use rhai_rows::settings::{Settings, Way};
 use rhai_samples::operators::SUM;
 use rhai_samples::parts::statements_of;
 use rhai_tables::host::Pair;
@@ -32,7 +31,6 @@ pub struct Part {
 }
 
 /// What a run came to.
-#[derive(Drop)]
 pub struct Report {
     /// The line of its ending.
     pub line: Vec<u8>,
@@ -46,6 +44,21 @@ pub struct Report {
     pub has_run_out: bool,
     /// What should hold after a run, and does not.
     pub wrong: Option<&'static str>,
+}
+
+// Written by hand, so that what lets go of it calls this, and need not go through its parts.
+impl Drop for Report {
+    fn drop(self) {
+        let Report {
+            line: _,
+            num_operations: _,
+            counter: _,
+            names: _,
+            imports: _,
+            has_run_out: _,
+            wrong: _,
+        } = self;
+    }
 }
 
 impl Part {
@@ -70,7 +83,6 @@ impl Part {
 }
 
 /// What a host keeps between runs.
-#[derive(Drop)]
 struct Run {
     global: GlobalRuntimeState<Pair>,
     caches: Caches<Pair>,
@@ -78,12 +90,28 @@ struct Run {
     scope: Scope<Pair>,
 }
 
+// Written by hand, so that what lets go of it calls this, and need not go through its parts.
+impl Drop for Run {
+    fn drop(self) {
+        let Run {
+            global: _,
+            caches: _,
+            table: _,
+            scope: _,
+        } = self;
+    }
+}
+
 impl Run {
     /// Checks and runs a script, sees to what holds then, and runs another over what is left. None where the
     /// library of its functions or its engine could not be made.
     fn report(mut self, alloc: Global, script: Script) -> io::Result<Option<Report>> {
-        let settings = script.settings;
-        let (ending, is_restored) = match check_tree(alloc, script.statements, script.functions) {
+        let Script {
+            statements,
+            functions,
+            settings,
+        } = script;
+        let (ending, is_restored) = match check_tree(alloc, statements, functions) {
             Err(fault) => (Ending::Refused(fault), true),
             Ok(tree) => {
                 if add_library(alloc, &mut self.global, &tree).is_err() {
@@ -130,7 +158,7 @@ impl Run {
         tree: &CheckedTree,
     ) -> Option<(Ending, bool)> {
         let before = Levels::of(&self.global);
-        let Ok(engine) = settings.engine(alloc) else {
+        let Ok(engine) = engine_of(alloc, &settings) else {
             return None;
         };
         let outcome = eval_tree(

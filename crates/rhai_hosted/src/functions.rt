@@ -1,19 +1,19 @@
 //! What a host's own calls of functions answer, and what they leave.
 
 use rhai_bench::caller::{Answer, Caller};
-use rhai_bench::outcome::Ending;
-use rhai_bench::print::{write_ending, write_value};
-use rhai_bench::sample::MadeTree::VariableOfTheCallerIncreased;
-use rhai_bench::sample::Tree::{Parts, WithFunctions};
-use rhai_bench::sample::{Sample, Tree};
 use rhai_bench::script::add_library;
-use rhai_bench::settings::Setting::Usual;
 use rhai_eval::base::Shared;
 use rhai_eval::check::{CheckedFn, CheckedTree, check_tree};
+use rhai_rows::errors::write_error;
+use rhai_rows::outcome::Ending;
+use rhai_rows::print::{write_ending, write_value};
+use rhai_rows::sample::MadeTree::VariableOfTheCallerIncreased;
+use rhai_rows::sample::Tree::{Parts, WithFunctions};
+use rhai_rows::sample::{Sample, Script, Tree};
+use rhai_rows::settings::Setting::Usual;
 use rhai_samples::functions::{
     EMPTY_FUNCTION, METHOD_THAT_CHANGES_AN_ITEM, PARAMETER_ASSIGNED, VARIABLE_DECLARED,
 };
-use rhai_worked::errors::write_error;
 use std::alloc::{AllocError, Global};
 use std::io;
 use std::io::Write;
@@ -141,8 +141,12 @@ pub fn write_call(alloc: Global, name: &str, out: &mut Vec<u8>) -> io::Result<()
 
 fn write_made(alloc: Global, call: Call, out: &mut Vec<u8>) -> io::Result<()> {
     let Call(_, tree, count, form) = call;
-    let script = Sample(tree, Usual).script(alloc)?;
-    match check_tree(alloc, script.statements, script.functions) {
+    let Script {
+        statements,
+        functions,
+        settings: _,
+    } = Sample(tree, Usual).script(alloc)?;
+    match check_tree(alloc, statements, functions) {
         Ok(tree) => match tree.functions() {
             [function] => write_called(alloc, count, form, &tree, function, out),
             _ => write!(out, "no function"),

@@ -1,12 +1,12 @@
 //! What a script came to.
 
 ghost use Rattle.std.specs.Prelude.{◌≡◌};
-ghost use Rattle.rhai_bench.specs.Outcome.{status_of};
+ghost use Rattle.rhai_rows.specs.Outcome.{status_of};
 
-use rhai_eval::base::{EvalAltResult, Items, Scope};
-use rhai_eval::cells::CellStore;
-use rhai_eval::check::CheckFault;
-use rhai_eval::state::Import;
+use rhai_eval_base::base::{EvalAltResult, Items, Scope};
+use rhai_eval_base::cells::CellStore;
+use rhai_eval_base::check::CheckFault;
+use rhai_eval_base::state::Import;
 use rhai_tables::host::Pair;
 use rhai_values::base::value::Dynamic;
 
@@ -33,7 +33,6 @@ impl Ending {
 }
 
 /// What a script came to.
-#[derive(Drop)]
 pub struct Outcome {
     pub ending: Ending,
     /// The operations that were charged.
@@ -46,4 +45,18 @@ pub struct Outcome {
     pub cells: CellStore<Pair>,
     /// The variables that were left.
     pub scope: Scope<Pair>,
+}
+
+// Written by hand, so that what lets go of it calls this, and need not go through its parts.
+impl Drop for Outcome {
+    fn drop(self) {
+        let Outcome {
+            ending: _,
+            num_operations: _,
+            num_modules_loaded: _,
+            imports: _,
+            cells: _,
+            scope: _,
+        } = self;
+    }
 }

@@ -1,9 +1,9 @@
 //! Each kind of value as it is printed, and positions.
 
-use rhai_bench::print::{write_position, write_value};
-use rhai_eval::base::{Boxed, CellId, Dynamic, FnPtr, FnPtrKind, Items, Position, Union};
+use crate::print::{write_position, write_value};
+use rhai_eval_base::base::{Boxed, CellId, Dynamic, FnPtr, FnPtrKind, Items, Position, Union};
+use rhai_state::errors::shared_text;
 use rhai_tables::host::Pair;
-use rhai_vectors::text::shared;
 use std::alloc::{AllocError, Global};
 use std::io;
 use std::io::Write;
@@ -52,7 +52,7 @@ fn plain_value(name: &str) -> Option<Union<Pair>> {
 /// Makes a value with parts.
 fn value_with_parts(alloc: Global, name: &str) -> Result<Option<Union<Pair>>, AllocError> {
     let value = match name {
-        "a text" => shared(alloc, "a\"b").map(Union::Str),
+        "a text" => shared_text(alloc, "a\"b").map(Union::Str),
         "an array" => array(alloc),
         "an empty array" => array_of(alloc, Items::new(alloc)),
         "bytes" => bytes(alloc),
@@ -64,7 +64,7 @@ fn value_with_parts(alloc: Global, name: &str) -> Result<Option<Union<Pair>>, Al
 }
 
 fn array(alloc: Global) -> Result<Union<Pair>, AllocError> {
-    let text = Union::Str(shared(alloc, "x")?);
+    let text = Union::Str(shared_text(alloc, "x")?);
     let items = Vec::from_array(alloc, [Dynamic::new(Union::Int(1)), Dynamic::new(text)])?;
     array_of(alloc, Items::from_vec(items))
 }
@@ -80,7 +80,7 @@ fn bytes(alloc: Global) -> Result<Union<Pair>, AllocError> {
 
 fn pointer(alloc: Global) -> Result<Union<Pair>, AllocError> {
     let pointer = FnPtr {
-        name: shared(alloc, "f")?,
+        name: shared_text(alloc, "f")?,
         curry: Items::new(alloc),
         kind: FnPtrKind::Name,
     };

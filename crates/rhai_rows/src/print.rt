@@ -1,7 +1,7 @@
 //! The lines of endings.
 
 use crate::outcome::Ending;
-use rhai_eval::base::{Dynamic, Position, Table, Union};
+use rhai_eval_base::base::{Dynamic, Position, Table, Union};
 use rhai_tables::host::Pair;
 use std::io;
 use std::io::Write;

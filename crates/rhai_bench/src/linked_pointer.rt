@@ -1,4 +1,4 @@
-//! A variable whose function finds others than the script's.
+//! The variables above which rows run, one of them a pointer whose function finds others than the script's.
 
 use crate::modules::checked;
 use rhai::library_of;
@@ -12,9 +12,18 @@ use rhai_samples::parts::tree_of;
 use rhai_tables::host::Pair;
 use std::alloc::{AllocError, Global};
 
+/// Makes the variables above which the scripts of a row run: of most rows none.
+pub fn scope_for(alloc: Global, row: &str) -> Result<Scope<Pair>, AllocError> {
+    if row == "15" {
+        pointer_with_a_library(alloc)
+    } else {
+        Ok(Scope::new(alloc))
+    }
+}
+
 /// Makes a scope with `p`, a pointer to `fn h() { g() }` with an environment. The environment's library has
 /// `fn g() { 1 }`.
-pub(crate) fn pointer_with_a_library(alloc: Global) -> Result<Scope<Pair>, AllocError> {
+fn pointer_with_a_library(alloc: Global) -> Result<Scope<Pair>, AllocError> {
     let environ = Shared::new(alloc, environ_of_g(alloc)?)?;
     let pointer = FnPtr {
         name: Shared::new(alloc, Text::from_str(alloc, "h")?)?,

@@ -1,9 +1,6 @@
-//! The rows of the bench: scripts under a number, run one after the other.
+//! The rows: scripts under a number, run one after the other.
 
 use crate::sample::Sample;
-use rhai_eval::base::Scope;
-use rhai_tables::host::Pair;
-use std::alloc::{AllocError, Global};
 
 mod calls;
 mod caught;
@@ -13,7 +10,6 @@ mod checked;
 mod choices;
 mod data;
 mod functions;
-mod linked_pointer;
 mod loops;
 mod modules;
 mod operators;
@@ -68,13 +64,4 @@ pub fn scripts_in(rows: &'static [Row], name: &str) -> Option<&'static [Sample]>
         }
     }
     None
-}
-
-/// Makes the variables above which the scripts of a row run: of most rows none.
-pub fn scope_for(alloc: Global, row: &str) -> Result<Scope<Pair>, AllocError> {
-    if row == "15" {
-        linked_pointer::pointer_with_a_library(alloc)
-    } else {
-        Ok(Scope::new(alloc))
-    }
 }

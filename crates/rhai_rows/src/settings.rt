@@ -1,18 +1,13 @@
 //! What is set for a run.
 
-ghost use Rattle.std.specs.Prelude.{◌≡◌, [], IfOk, false};
+ghost use Rattle.std.specs.Prelude.{◌≡◌};
 ghost use Rattle.rhai_state.specs.Caches.{depth_of, is_on};
-ghost use Rattle.rhai_state.specs.Limits.{limit_of};
-ghost use Rattle.rhai_eval.specs.States.{limits_of};
-ghost use Rattle.rhai_bench.specs.Settings.{settings_of, usual, usual_limits, with_modules};
+ghost use Rattle.rhai_rows.specs.Settings.{settings_of, usual, usual_limits, with_modules};
 
-use crate::modules::{global_modules, global_sub_modules, modules_to_import};
-use rhai_eval::base::Table;
-use rhai_eval::engine::Engine;
-use rhai_eval::state::{Caches, Limits, ModuleTable};
+use rhai_state::caches::Caches;
+use rhai_state::limits::Limits;
 use rhai_tables::host::Pair;
-use std::alloc::{AllocError, Global};
-use std::mem::replace;
+use std::alloc::Global;
 
 /// The limits and switches of a run.
 #[derive(Clone, Copy, Debug, PartialEq, Eq)]
@@ -66,51 +61,6 @@ impl Settings {
             limits,
             has_modules: true,
             ..Settings::USUAL
-        }
-    }
-
-    /// Makes an engine with these limits and switches, and with the modules that there are to be.
-    pub fn engine(&self, alloc: Global) -> Result<Engine<Pair>, AllocError>
-        ensures limits { IfOk result (λ engine. limits_of engine ≡ record self.now.limits
-            { max_operations = limit_of self.now.limits.max_operations }) }
-        ensures fast_operators { IfOk result (λ engine. engine.fast_operators ≡ self.now.fast_operators) }
-        ensures shadowing { IfOk result (λ engine. engine.allow_shadowing ≡ self.now.allow_shadowing) }
-        ensures map_property { IfOk result (λ engine. engine.fail_on_invalid_map_property
-            ≡ self.now.fail_on_invalid_map_property) }
-        ensures global_modules { self.now.has_global_modules ≡ false →
-            IfOk result (λ engine. engine.global_modules ≡ []) }
-        ensures global_sub_modules { self.now.has_global_modules ≡ false →
-            IfOk result (λ engine. engine.global_sub_modules ≡ ([], [])) }
-    {
-        let modules = self.modules(alloc)?;
-        let mut engine = Engine::new(alloc);
-        engine.max_operations = self.limits.max_operations;
-        engine.max_variables = self.limits.max_variables;
-        engine.max_modules = self.limits.max_modules;
-        engine.max_call_levels = self.limits.max_call_levels;
-        engine.max_array_size = self.limits.max_array_size;
-        engine.max_map_size = self.limits.max_map_size;
-        engine.max_string_size = self.limits.max_string_size;
-        engine.fast_operators = self.fast_operators;
-        engine.allow_shadowing = self.allow_shadowing;
-        engine.fail_on_invalid_map_property = self.fail_on_invalid_map_property;
-        drop(replace(&mut engine.modules, modules));
-        if self.has_global_modules {
-            let named = global_sub_modules(alloc)?;
-            drop(replace(&mut engine.global_modules, global_modules(alloc)?));
-            drop(replace(&mut engine.global_sub_modules, named));
-        }
-        Ok(engine)
-    }
-
-    /// Makes the modules to import, or none.
-    fn modules(&self, alloc: Global) -> Result<ModuleTable<Pair>, AllocError> {
-        if self.has_modules {
-            modules_to_import(alloc)
-        } else {
-            Ok(ModuleTable {
-                modules: Table::new(alloc),
-            })
         }
     }
 }

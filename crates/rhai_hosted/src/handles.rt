@@ -3,10 +3,7 @@
 ghost use Rattle.std.specs.Prelude.{IfOk};
 ghost use Rattle.rhai_values.specs.Cells.{IsNoHandle};
 
-use rhai_bench::caller::eval_tree;
-use rhai_bench::print::write_value;
-use rhai_bench::script::add_library;
-use rhai_bench::settings::{Settings, Way};
+use rhai_bench::script::{add_library, engine_of, eval_tree};
 use rhai_eval::base::{
     AccessMode, Boxed, CellId, Dynamic, FnPtr, FnPtrKind, Items, NativeId, Scope, Table, Union,
 };
@@ -14,14 +11,16 @@ use rhai_eval::cells::CellStore;
 use rhai_eval::check::check_tree;
 use rhai_eval::engine::Engine;
 use rhai_eval::state::GlobalRuntimeState;
+use rhai_rows::errors::write_error;
+use rhai_rows::print::write_value;
+use rhai_rows::settings::{Settings, Way};
 use rhai_samples::parts::Part::{
     Assign, Block, Dot, Function, Index, Int, Method, Value, Variable,
 };
 use rhai_samples::parts::{Part, tree_of};
+use rhai_state::errors::shared_text;
 use rhai_tables::host::Pair;
 use rhai_tables::tables::counting::Counting;
-use rhai_vectors::text::shared;
-use rhai_worked::errors::write_error;
 use std::alloc::{AllocError, Global};
 use std::io;
 use std::io::Write;
@@ -232,7 +231,7 @@ fn write_way(alloc: Global, chain: Chain, way: Way, out: &mut Vec<u8>) -> io::Re
         Err(fault) => write!(out, "{fault}")?,
         Ok(tree) => {
             add_library(alloc, &mut global, &tree)?;
-            let engine: Engine<Pair> = Settings::USUAL.engine(alloc)?;
+            let engine: Engine<Pair> = engine_of(alloc, &Settings::USUAL)?;
             match eval_tree(
                 alloc,
                 &engine,
@@ -272,7 +271,7 @@ fn pointer_of(alloc: Global, pointer: Pointer) -> Result<Dynamic<Pair>, AllocErr
         Kind::Native(number) => FnPtrKind::Native(NativeId { number }),
         Kind::Arity(count) => FnPtrKind::Arity(count),
     };
-    let name = shared(alloc, name)?;
+    let name = shared_text(alloc, name)?;
     Ok(Dynamic::new(Union::FnPtr(Boxed::new(alloc, FnPtr { name, curry, kind })?)))
 }
 
@@ -281,7 +280,7 @@ fn map(alloc: Global, name: &str, value: Dynamic<Pair>) -> Result<Dynamic<Pair>,
     ensures { IfOk result (λ map. IsNoHandle map.value) }
 {
     let mut map = Table::new(alloc);
-    map.insert(shared(alloc, name)?, value)?;
+    map.insert(shared_text(alloc, name)?, value)?;
     Ok(Dynamic::new(Union::Map(Boxed::new(alloc, map)?)))
 }
 

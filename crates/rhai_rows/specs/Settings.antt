@@ -1,12 +1,12 @@
 -- What a script runs with.
 use Rattle.std.specs.Prelude.{ℕ, true, false}
 use Rattle.rhai_state.specs.declared.limits.Limits.{Limits}
-use Rattle.rhai_bench.specs.declared.settings.Settings.{Settings}
-use Rattle.rhai_bench.specs.declared.settings.Setting.{Setting}
-use Rattle.rhai_bench.specs.declared.settings.Setting.TheVariants.{Usual, MaxOperations, MaxVariables, MaxArraySize, MaxCallLevels}
-use Rattle.rhai_bench.specs.declared.settings.Setting.TheVariants.{WithoutFastOperators, WithoutShadowing, FailingOnMissingKeys}
-use Rattle.rhai_bench.specs.declared.settings.Setting.TheVariants.{WithModules, MaxModules, MaxOperationsWithModules}
-use Rattle.rhai_bench.specs.declared.settings.Setting.TheVariants.{MaxCallLevelsWithModules, WithGlobalModules}
+use Rattle.rhai_rows.specs.declared.settings.Settings.{Settings}
+use Rattle.rhai_rows.specs.declared.settings.Setting.{Setting}
+use Rattle.rhai_rows.specs.declared.settings.Setting.TheVariants.{Usual, MaxOperations, MaxVariables, MaxArraySize, MaxCallLevels}
+use Rattle.rhai_rows.specs.declared.settings.Setting.TheVariants.{WithoutFastOperators, WithoutShadowing, FailingOnMissingKeys}
+use Rattle.rhai_rows.specs.declared.settings.Setting.TheVariants.{WithModules, MaxModules, MaxOperationsWithModules}
+use Rattle.rhai_rows.specs.declared.settings.Setting.TheVariants.{MaxCallLevelsWithModules, WithGlobalModules}
 
 -- no limits of operations and of data, and at most 1000 variables, 100 modules and 64 levels of calls
 abbrev pub usual_limits : Limits

@@ -1,10 +1,9 @@
 //! Errors as a user reads them.
 
-use rhai_eval::base::{Boxed, Dynamic, EvalAltResult, Position, Shared, Text, Union};
+use rhai_eval_base::base::{Boxed, Dynamic, EvalAltResult, Position, Shared, Text, Union};
 use rhai_state::error::{Bounds, FunctionCallError, TypeMismatch};
+use rhai_state::errors::shared_text;
 use rhai_tables::host::Pair;
-use rhai_vectors::text::shared;
-use rhai_worked::errors::write_error;
 use std::alloc::{AllocError, Global};
 use std::io;
 use std::io::Write;
@@ -50,7 +49,7 @@ fn error_of(alloc: Global, variant: &str, parts: &str, at: Position) -> Made {
         }
         _ => match plain_error(variant, at) {
             Some(error) => Ok(Some(error)),
-            None => Ok(error_about(variant, shared(alloc, parts)?, at)),
+            None => Ok(error_about(variant, shared_text(alloc, parts)?, at)),
         },
     }
 }
@@ -101,7 +100,7 @@ fn bounds(alloc: Global, parts: &str) -> Result<Boxed<Bounds>, AllocError> {
 /// Makes `()`, 42, or the text behind `text`.
 fn value(alloc: Global, parts: &str) -> Result<Boxed<Dynamic<Pair>>, AllocError> {
     let value = match parts.strip_prefix("text") {
-        Some(text) => Union::Str(shared(alloc, text.trim_start())?),
+        Some(text) => Union::Str(shared_text(alloc, text.trim_start())?),
         None if parts == "42" => Union::Int(42),
         None => Union::Unit,
     };
@@ -129,15 +128,33 @@ fn error_out_of_calls(
     at: Position,
 ) -> Result<EvalAltResult<Pair>, AllocError> {
     let place = Position::new(2, 1);
-    let mut error = EvalAltResult::ErrorVariableNotFound(shared(alloc, "x")?, place);
+    let mut error = EvalAltResult::ErrorVariableNotFound(shared_text(alloc, "x")?, place);
     for called in names.split(' ') {
         let (name, source) = called.split_once('@').unwrap_or((called, ""));
         let call = FunctionCallError {
-            name: shared(alloc, name)?,
-            source: shared(alloc, source)?,
+            name: shared_text(alloc, name)?,
+            source: shared_text(alloc, source)?,
             error,
         };
         error = EvalAltResult::ErrorInFunctionCall(Boxed::new(alloc, call)?, at);
     }
     Ok(error)
+}
+
+/// Writes an error as a user reads it. Between two lines of it stands `\n`.
+pub fn write_error(alloc: Global, error: EvalAltResult<Pair>, out: &mut Vec<u8>) -> io::Result<()> {
+    let shown = format!(in alloc; "{error}");
+    drop(error);
+    write_lines(shown?.as_str(), out)
+}
+
+/// Writes a text, with `\n` between two lines of it.
+pub(crate) fn write_lines(text: &str, out: &mut Vec<u8>) -> io::Result<()> {
+    for (at, line) in text.lines().enumerate() {
+        if at > 0 {
+            write!(out, "\\n")?;
+        }
+        write!(out, "{line}")?;
+    }
+    Ok(())
 }

@@ -1,8 +1,8 @@
 //! What is told of a function without its body, and what it finds around it.
 
-use rhai_eval::base::Shared;
-use rhai_eval::script::{environ_of, metadata_of};
-use rhai_eval::state::{GlobalRuntimeState, Module};
+use rhai_eval_base::base::Shared;
+use rhai_eval_base::script::{environ_of, metadata_of};
+use rhai_eval_base::state::{GlobalRuntimeState, Module};
 use rhai_samples::built::private_function;
 use rhai_tables::host::Pair;
 use std::alloc::Global;

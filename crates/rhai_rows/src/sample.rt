@@ -1,12 +1,10 @@
-//! Scripts as data, each made by one function: its tree, and what is set for its run.
+//! Scripts as data: the tree of each, and what is set for its run.
 
 ghost use Rattle.std.specs.Prelude.{◌≡◌, IfOk};
-ghost use Rattle.rhai_bench.specs.Settings.{settings_of};
+ghost use Rattle.rhai_rows.specs.Settings.{settings_of};
 
-use crate::script::Script;
-use crate::settings::Setting;
+use crate::settings::{Setting, Settings};
 use rhai_build::functions::TreeParts;
-use rhai_eval::base::{Items, Stmt};
 use rhai_samples::built::{
     continued_until, decrements, functions_for_types, integer_and_true, integer_walked,
     items_and_counter_summed, items_of_three_types, joined_parts, method_that_throws,
@@ -22,9 +20,20 @@ use rhai_samples::functions::{calls_within_calls, fibonacci};
 use rhai_samples::loops::{doublings, pairings};
 use rhai_samples::parts::{Part, tree_of};
 use rhai_samples::walks::{array_summed, range_summed};
+use rhai_tree::Items;
+use rhai_tree::expr::Stmt;
+use rhai_tree::function::ScriptFuncDef;
 use std::alloc::{AllocError, Global};
 
-/// A script: its tree, and what is set for its run.
+/// The tree of a script, and what is set for its run.
+#[derive(Drop)]
+pub struct Script {
+    pub statements: Items<Stmt>,
+    pub functions: Items<ScriptFuncDef>,
+    pub settings: Settings,
+}
+
+/// A script as data: its tree, and what is set for its run.
 #[derive(Clone, Copy)]
 pub struct Sample(pub Tree, pub Setting);
 
@@ -94,7 +103,15 @@ impl Sample {
         ensures { IfOk result (λ s. s.settings ≡ settings_of self.1) }
     {
         let Sample(tree, setting) = self;
-        Ok(Script::new(tree.parts(alloc)?, setting.settings()))
+        let TreeParts {
+            statements,
+            functions,
+        } = tree.parts(alloc)?;
+        Ok(Script {
+            statements,
+            functions,
+            settings: setting.settings(),
+        })
     }
 }
 

@@ -1,8 +1,8 @@
 -- A script's ending: its exit status, and what is said of a refusal.
 use Rattle.std.specs.Prelude.{⊤, ℕ}
 use Rattle.rhai_tree.specs.declared.fault.CheckFault.{CheckFault}
-use Rattle.rhai_bench.specs.declared.outcome.Ending.{Ending}
-use Rattle.rhai_bench.specs.declared.outcome.Ending.TheVariants.{Refused, Value, Error}
+use Rattle.rhai_rows.specs.declared.outcome.Ending.{Ending}
+use Rattle.rhai_rows.specs.declared.outcome.Ending.TheVariants.{Refused, Value, Error}
 
 -- the exit status of an ending: 0 for a value, 1 for an error, 2 for a refusal
 abbrev pub status_of : Ending → ℕ
