@@ -6,6 +6,7 @@
 //! compared.
 #![tactic(auto)]
 
+use rhai_bench::Bench;
 use rhai_rows::compare::{Answer, Subject};
 use rhai_rows::sample::Sample;
 use rhai_worked::lists::{Lists, write_answer};
@@ -39,11 +40,11 @@ impl Subject for Named {
 
     fn answer(self, alloc: Global, call: &str) -> io::Result<Answer> {
         let mut out = Vec::new(alloc);
-        write_answer::<Named>(alloc, call, &mut out)?;
+        write_answer::<Named, Bench>(alloc, call, &mut out)?;
         Ok(Ok(out))
     }
 }
 
 fn main(rt: HostRuntime) -> io::Result<ExitCode> {
-    run::<Named, Named, HostRuntime>(&rt, &[Named])
+    run::<Named, Named, Bench, HostRuntime>(&rt, &[Named])
 }

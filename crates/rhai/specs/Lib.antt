@@ -1,6 +1,6 @@
-pub mod Library
 pub mod Words
 -- what a host's definitions name
+pub use Rattle.rhai_library.specs.Library
 pub use Rattle.rhai_values.specs.declared.base.value.Union
 pub use Rattle.rhai_natives.specs.Arguments
 pub use Rattle.rhai_natives.specs.Listed

@@ -1,14 +1,11 @@
 //! A script evaluator, by the names that a host uses: what trees are built of, their checker, values, scopes
 //! and errors, the engine and its runs, and tables of natives. It only shows what the crates below it have,
-//! but for a host's first needs: a type of values and a table for a host that has none of its own, and the
-//! functions of a tree as a library.
+//! but for a host's first needs: a type of values and a table for a host that has none of its own.
 #![tactic(auto)]
 
-mod library;
 mod no_host;
 mod no_natives;
 
-pub use library::{function_of, library_of};
 pub use no_host::NoHost;
 pub use no_natives::{NoNative, NoNatives};
 
@@ -47,6 +44,7 @@ pub use rhai_eval::state::{
     Caches, GlobalRuntimeState, Import, Limits, Module, ModuleFn, ModuleTable,
 };
 pub use rhai_eval::target::{Part, Target};
+pub use rhai_library::{function_of, library_of};
 
 // Natives.
 pub use rhai_eval::table::{Answer, NativeTable, builtin_binary, builtin_op_assign, builtin_unary};

@@ -3,9 +3,9 @@
 ghost use Rattle.std.specs.Prelude.{◌≡◌, ◌≤◌, IfOk, is_some, false, map, string_bytes};
 ghost use Rattle.rhai_bench.specs.Arguments.{IsCall};
 
-use crate::linked_pointer::scope_for;
 use crate::script::run_above;
 use rhai_eval::base::{Dynamic, Shared, Text, Union};
+use rhai_rows::linked_pointer::scope_for;
 use rhai_rows::outcome::Ending;
 use rhai_rows::print::write_line;
 use rhai_rows::rows::scripts_of;

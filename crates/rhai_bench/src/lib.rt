@@ -4,8 +4,9 @@
 
 pub mod caller;
 pub mod command;
-pub mod linked_pointer;
-pub mod modules;
 pub mod script;
 pub mod searches;
 pub mod timing;
+
+/// The evaluator over the natives of `Counting`, for what is proved beside it.
+pub struct Bench;

@@ -1,5 +1,5 @@
 //! Runs of scripts. The programs have no copy of the evaluator of their own, as one is made in each crate that
-//! calls it with a type of table.
+//! calls it with a type of table, and what is proved beside it knows it as a `Runner`.
 
 ghost use Rattle.std.specs.Prelude.{◌≡◌, ◌≢◌, ◌≤◌, [], IfOk, false, length};
 ghost use Rattle.rhai_tree.specs.WellFormed.{IsFormedTree};
@@ -9,36 +9,22 @@ ghost use Rattle.rhai_state.specs.Limits.{limit_of};
 ghost use Rattle.rhai_eval.specs.States.{limits_of};
 ghost use Rattle.rhai_rows.specs.Outcome.{IfRefused};
 
-use crate::modules::{global_modules, global_sub_modules, modules_to_import};
-use rhai::library_of;
-use rhai_eval::base::{Dynamic, EvalAltResult, Items, Scope, Shared, Table};
+use crate::Bench;
+use rhai_eval::base::{Dynamic, EvalAltResult, Items, Scope, Table};
 use rhai_eval::cells::CellStore;
 use rhai_eval::check::{CheckedTree, check_tree};
 use rhai_eval::engine::Engine;
 use rhai_eval::state::{Caches, GlobalRuntimeState, ModuleTable};
 use rhai_natives::Natives;
+use rhai_rows::modules::{add_library, global_modules, global_sub_modules, modules_to_import};
 use rhai_rows::outcome::{Ending, Outcome};
+use rhai_rows::runner::Runner;
 use rhai_rows::sample::Script;
 use rhai_rows::settings::{Settings, Way};
 use rhai_tables::host::Pair;
 use rhai_tables::tables::counting::Counting;
 use std::alloc::{AllocError, Global};
 use std::mem::replace;
-
-/// Puts the functions of a tree into a state, as one library. Where there is none the state stays.
-pub fn add_library(
-    alloc: Global,
-    global: &mut GlobalRuntimeState<Pair>,
-    tree: &CheckedTree,
-) -> Result<(), AllocError>
-    ensures { global.new ≡ record global.old { lib = global.new.lib } }
-{
-    if tree.functions().is_empty() {
-        return Ok(());
-    }
-    let library = library_of(alloc, tree)?;
-    global.lib.push(Shared::new(alloc, library)?)
-}
 
 /// Makes an engine with the limits and switches of settings, and with the modules that there are to be.
 pub fn engine_of(alloc: Global, settings: &Settings) -> Result<Engine<Pair>, AllocError>
@@ -85,26 +71,36 @@ fn modules_of(alloc: Global, settings: &Settings) -> Result<ModuleTable<Pair>, A
     }
 }
 
-/// Evaluates a tree, as `Engine::eval_global_statements` does.
-pub fn eval_tree(
-    alloc: Global,
-    engine: &Engine<Pair>,
-    global: &mut GlobalRuntimeState<Pair>,
-    caches: &mut Caches<Pair>,
-    table: &mut Natives<Counting>,
-    scope: &mut Scope<Pair>,
-    tree: &CheckedTree,
-    map_exit_to_return_value: bool,
-) -> Result<Dynamic<Pair>, EvalAltResult<Pair>> {
-    engine.eval_global_statements(
-        alloc,
-        global,
-        caches,
-        table,
-        scope,
-        tree,
-        map_exit_to_return_value,
-    )
+impl Runner for Bench {
+    fn run_above(
+        alloc: Global,
+        script: Script,
+        way: Way,
+        scope: Scope<Pair>,
+    ) -> Result<Outcome, AllocError> {
+        run_above(alloc, script, way, scope)
+    }
+
+    fn eval_tree(
+        alloc: Global,
+        settings: &Settings,
+        global: &mut GlobalRuntimeState<Pair>,
+        caches: &mut Caches<Pair>,
+        table: &mut Natives<Counting>,
+        scope: &mut Scope<Pair>,
+        tree: &CheckedTree,
+    ) -> Result<Result<Dynamic<Pair>, EvalAltResult<Pair>>, AllocError> {
+        let engine: Engine<Pair> = engine_of(alloc, settings)?;
+        Ok(engine.eval_global_statements(
+            alloc,
+            global,
+            caches,
+            table,
+            scope,
+            tree,
+            settings.map_exit_to_return_value,
+        ))
+    }
 }
 
 /// Checks a script and runs it in one of the ways, in an empty scope. It has the natives of `Counting`,

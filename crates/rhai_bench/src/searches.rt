@@ -65,9 +65,21 @@ fn is_within(offset: Option<NonZeroUsize>, length: usize) -> bool
     }
 }
 
+/// Writes what is found for a name and an offset, 0 for none.
+pub fn write_search<W: Write>(
+    alloc: Global,
+    words: &str,
+    always_search_scope: bool,
+    out: &mut W,
+) -> io::Result<()> {
+    let (name, offset) = words.split_once(' ').unwrap_or((words, "0"));
+    let offset = NonZeroUsize::new(offset.parse::<usize>().unwrap_or(0));
+    write_found(alloc, name, offset, always_search_scope, out)
+}
+
 /// Writes where a variable of this name and offset stands, if the offset tells, and its value or the error.
 /// The scope has `a` with 1, `b` with 2 and `a` with 3.
-pub fn write_found<W: Write>(
+fn write_found<W: Write>(
     alloc: Global,
     name: &str,
     offset: Option<NonZeroUsize>,

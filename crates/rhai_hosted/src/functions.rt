@@ -1,10 +1,10 @@
 //! What a host's own calls of functions answer, and what they leave.
 
-use rhai_bench::caller::{Answer, Caller};
-use rhai_bench::script::add_library;
-use rhai_eval::base::Shared;
-use rhai_eval::check::{CheckedFn, CheckedTree, check_tree};
+use crate::caller::{Answer, Caller, Calls};
+use rhai_eval_base::base::Shared;
+use rhai_eval_base::check::{CheckedFn, CheckedTree, check_tree};
 use rhai_rows::errors::write_error;
+use rhai_rows::modules::add_library;
 use rhai_rows::outcome::Ending;
 use rhai_rows::print::{write_ending, write_value};
 use rhai_rows::sample::MadeTree::VariableOfTheCallerIncreased;
@@ -130,16 +130,16 @@ const CALLS: &[Call] = &[
 ];
 
 /// Writes what a call of a name comes to, and what it leaves.
-pub fn write_call(alloc: Global, name: &str, out: &mut Vec<u8>) -> io::Result<()> {
+pub fn write_call<C: Calls>(alloc: Global, name: &str, out: &mut Vec<u8>) -> io::Result<()> {
     for call in CALLS {
         if call.0 == name {
-            return write_made(alloc, *call, out);
+            return write_made::<C>(alloc, *call, out);
         }
     }
     write!(out, "no call")
 }
 
-fn write_made(alloc: Global, call: Call, out: &mut Vec<u8>) -> io::Result<()> {
+fn write_made<C: Calls>(alloc: Global, call: Call, out: &mut Vec<u8>) -> io::Result<()> {
     let Call(_, tree, count, form) = call;
     let Script {
         statements,
@@ -148,14 +148,14 @@ fn write_made(alloc: Global, call: Call, out: &mut Vec<u8>) -> io::Result<()> {
     } = Sample(tree, Usual).script(alloc)?;
     match check_tree(alloc, statements, functions) {
         Ok(tree) => match tree.functions() {
-            [function] => write_called(alloc, count, form, &tree, function, out),
+            [function] => write_called::<C>(alloc, count, form, &tree, function, out),
             _ => write!(out, "no function"),
         },
         Err(_) => write!(out, "no tree"),
     }
 }
 
-fn write_called(
+fn write_called<C: Calls>(
     alloc: Global,
     count: usize,
     form: Form,
@@ -165,7 +165,7 @@ fn write_called(
 ) -> io::Result<()> {
     let mut caller = Caller::new(alloc, count)?;
     add_library(alloc, &mut caller.global, tree)?;
-    let answer = answer_of(alloc, &mut caller, form, function.get())?;
+    let answer = answer_of::<C>(alloc, &mut caller, form, function.get())?;
     match form {
         Form::NativeOnHandles(_) => write_text(alloc, answer, out),
         _ => write_left(&caller, answer, out),
@@ -180,28 +180,28 @@ fn write_text(alloc: Global, answer: Answer, out: &mut Vec<u8>) -> io::Result<()
     }
 }
 
-fn answer_of(
+fn answer_of<C: Calls>(
     alloc: Global,
     caller: &mut Caller,
     form: Form,
     def: &CheckedFn,
 ) -> Result<Answer, AllocError> {
     match form {
-        Form::Function(level, rewinds) => caller.call(alloc, def, level, rewinds),
-        Form::Method(name) => Ok(caller.call_named(alloc, name, false, true)),
-        Form::Reference(name) => Ok(caller.call_named(alloc, name, true, false)),
-        Form::Value(name) => Ok(caller.call_named(alloc, name, false, false)),
-        Form::OnVariables(name, is_method) => Ok(caller.call_captured(alloc, name, is_method)),
+        Form::Function(level, rewinds) => C::call_function(alloc, caller, def, level, rewinds),
+        Form::Method(name) => Ok(C::call_named(alloc, caller, name, false, true)),
+        Form::Reference(name) => Ok(C::call_named(alloc, caller, name, true, false)),
+        Form::Value(name) => Ok(C::call_named(alloc, caller, name, false, false)),
+        Form::OnVariables(name, is_method) => Ok(C::call_captured(alloc, caller, name, is_method)),
         Form::MethodOnHandles(name) => {
             caller.share()?;
-            Ok(caller.call_named(alloc, name, false, true))
+            Ok(C::call_named(alloc, caller, name, false, true))
         }
         Form::NativeOnHandles(name) => {
             caller.share()?;
-            Ok(caller.call_native(alloc, name))
+            Ok(C::call_native(alloc, caller, name))
         }
-        Form::OnTarget(name) => Ok(caller.call_method(alloc, name)),
-        Form::Seeks(name) => Ok(caller.has_function(alloc, name)),
+        Form::OnTarget(name) => Ok(C::call_method(alloc, caller, name)),
+        Form::Seeks(name) => Ok(C::has_function(alloc, caller, name)),
     }
 }
 

@@ -3,16 +3,16 @@
 ghost use Rattle.std.specs.Prelude.{IfOk};
 ghost use Rattle.rhai_values.specs.Cells.{IsNoHandle};
 
-use rhai_bench::script::{add_library, engine_of, eval_tree};
-use rhai_eval::base::{
+use rhai_eval_base::base::{
     AccessMode, Boxed, CellId, Dynamic, FnPtr, FnPtrKind, Items, NativeId, Scope, Table, Union,
 };
-use rhai_eval::cells::CellStore;
-use rhai_eval::check::check_tree;
-use rhai_eval::engine::Engine;
-use rhai_eval::state::GlobalRuntimeState;
+use rhai_eval_base::cells::CellStore;
+use rhai_eval_base::check::check_tree;
+use rhai_eval_base::state::GlobalRuntimeState;
 use rhai_rows::errors::write_error;
+use rhai_rows::modules::add_library;
 use rhai_rows::print::write_value;
+use rhai_rows::runner::Runner;
 use rhai_rows::settings::{Settings, Way};
 use rhai_samples::parts::Part::{
     Assign, Block, Dot, Function, Index, Int, Method, Value, Variable,
@@ -199,20 +199,20 @@ const POINTER_CALLED_ON_A_VARIABLE: &[Part<'_>] = &[
 
 /// Writes what a chain on handles comes to in every way of running. Behind it stand its charges, and what
 /// stands in the cell then. Where two ways differ both are written.
-pub fn write_handled(alloc: Global, name: &str, out: &mut Vec<u8>) -> io::Result<()> {
+pub fn write_handled<R: Runner>(alloc: Global, name: &str, out: &mut Vec<u8>) -> io::Result<()> {
     for chain in CHAINS {
         if chain.name == name {
-            return write_ways(alloc, *chain, out);
+            return write_ways::<R>(alloc, *chain, out);
         }
     }
     write!(out, "no chain")
 }
 
-fn write_ways(alloc: Global, chain: Chain, out: &mut Vec<u8>) -> io::Result<()> {
-    write_way(alloc, chain, Way::USUAL, out)?;
+fn write_ways<R: Runner>(alloc: Global, chain: Chain, out: &mut Vec<u8>) -> io::Result<()> {
+    write_way::<R>(alloc, chain, Way::USUAL, out)?;
     for way in Way::ALL {
         let mut other = Vec::new(alloc);
-        write_way(alloc, chain, way, &mut other)?;
+        write_way::<R>(alloc, chain, way, &mut other)?;
         if other.as_slice() != out.as_slice() {
             write!(out, " or ")?;
             out.write_all(other.as_slice())?;
@@ -221,7 +221,12 @@ fn write_ways(alloc: Global, chain: Chain, out: &mut Vec<u8>) -> io::Result<()> 
     Ok(())
 }
 
-fn write_way(alloc: Global, chain: Chain, way: Way, out: &mut Vec<u8>) -> io::Result<()> {
+fn write_way<R: Runner>(
+    alloc: Global,
+    chain: Chain,
+    way: Way,
+    out: &mut Vec<u8>,
+) -> io::Result<()> {
     let parts = tree_of(alloc, chain.tree)?;
     let mut global = GlobalRuntimeState::new(alloc)?;
     global.always_search_scope = way.always_search_scope;
@@ -231,17 +236,15 @@ fn write_way(alloc: Global, chain: Chain, way: Way, out: &mut Vec<u8>) -> io::Re
         Err(fault) => write!(out, "{fault}")?,
         Ok(tree) => {
             add_library(alloc, &mut global, &tree)?;
-            let engine: Engine<Pair> = engine_of(alloc, &Settings::USUAL)?;
-            match eval_tree(
+            match R::eval_tree(
                 alloc,
-                &engine,
+                &Settings::USUAL,
                 &mut global,
                 &mut way.caches(alloc),
                 &mut Counting::table(alloc),
                 &mut scope,
                 &tree,
-                false,
-            ) {
+            )? {
                 Ok(value) => write_value(out, &value)?,
                 Err(error) => write_error(alloc, error, out)?,
             }

@@ -1,6 +1,6 @@
-//! What a host's own calls answer: of functions, of chains on handles, and of searches.
+//! What a host's own calls answer: of functions, and of chains on handles. What makes the calls is not known here.
 #![tactic(auto)]
 
+pub mod caller;
 pub mod functions;
 pub mod handles;
-pub mod searches;

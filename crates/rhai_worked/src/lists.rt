@@ -1,6 +1,7 @@
 //! The lists of scripts that a program runs.
 
 use crate::scripts::{write_number, write_ways};
+use rhai_rows::runner::Runner;
 use rhai_rows::sample::Sample;
 use std::alloc::Global;
 use std::io;
@@ -24,20 +25,24 @@ pub trait Lists {
 ///   values of its cells, its variables with their aliases, and its error as a user reads it
 /// - `loads LIST N`, `imports LIST N`: how many modules it loads, and the names of the imports that it leaves
 /// - `above ends LIST N` and so on: what is answered above a scope of 300 other variables
-pub fn write_answer<L: Lists>(alloc: Global, call: &str, out: &mut Vec<u8>) -> io::Result<()> {
+pub fn write_answer<L: Lists, R: Runner>(
+    alloc: Global,
+    call: &str,
+    out: &mut Vec<u8>,
+) -> io::Result<()> {
     let (form, rest) = call.split_once(' ').unwrap_or((call, ""));
     match form {
         "scripts" => write_number(L::scripts_of(rest), out),
         "above" => {
             let (form, rest) = rest.split_once(' ').unwrap_or((rest, ""));
-            write_one::<L>(alloc, 300, form, rest, out)
+            write_one::<L, R>(alloc, 300, form, rest, out)
         }
-        _ => write_one::<L>(alloc, 0, form, rest, out),
+        _ => write_one::<L, R>(alloc, 0, form, rest, out),
     }
 }
 
 /// Writes what a script, as `26 1`, comes to above so many other variables.
-fn write_one<L: Lists>(
+fn write_one<L: Lists, R: Runner>(
     alloc: Global,
     others: usize,
     form: &str,
@@ -46,7 +51,7 @@ fn write_one<L: Lists>(
 ) -> io::Result<()> {
     let (list, number) = name.split_once(' ').unwrap_or((name, ""));
     match sample_at(L::scripts_of(list), number) {
-        Some(sample) => write_ways(alloc, others, form, list, sample, out),
+        Some(sample) => write_ways::<R>(alloc, others, form, list, sample, out),
         None => write!(out, "no script"),
     }
 }

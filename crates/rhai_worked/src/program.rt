@@ -3,6 +3,7 @@
 use crate::lists::Lists;
 use crate::refused::are_all_well;
 use rhai_rows::compare::{Subject, compare_lines};
+use rhai_rows::runner::Runner;
 use std::process::ExitCode;
 use std::rt::{Env, Files};
 use std::{env, fs, io};
@@ -12,8 +13,8 @@ use std::{env, fs, io};
 /// where something outside of the program refuses memory, with each request of theirs refused in turn, and
 /// what holds after each is seen to. After `refused` nothing is compared. Answers 0 where no line differs and
 /// all holds, and otherwise 1.
-pub fn run<S: Subject, L: Lists, R: Env + Files + Print + AllocGlobal>(
-    rt: &R,
+pub fn run<S: Subject, L: Lists, R: Runner, H: Env + Files + Print + AllocGlobal>(
+    rt: &H,
     subjects: &[S],
 ) -> io::Result<ExitCode> {
     let folder = folder(rt)?;
@@ -21,7 +22,7 @@ pub fn run<S: Subject, L: Lists, R: Env + Files + Print + AllocGlobal>(
     if folder.as_str() != "refused" {
         is_well = do_all_agree(rt, folder.as_str(), subjects)?;
     }
-    if !are_all_well::<L, _>(rt.alloc(), &mut io::writer(rt))? {
+    if !are_all_well::<L, R, _>(rt.alloc(), &mut io::writer(rt))? {
         is_well = false;
     }
     Ok(ExitCode::from(u8::from(!is_well)))

@@ -10,6 +10,7 @@ mod refuser;
 use crate::lists::Lists;
 use crate::refused::part::{Part, Report};
 use crate::refused::refuser::Refusal;
+use rhai_rows::runner::Runner;
 use rhai_rows::sample::Sample;
 use rhai_rows::settings::Way;
 use std::alloc::Global;
@@ -32,15 +33,15 @@ struct Tally {
 }
 
 /// Prints what does not hold after a run, and how many runs there were. Tells whether all holds.
-pub fn are_all_well<L: Lists, W: Write>(alloc: Global, out: &mut W) -> io::Result<bool> {
+pub fn are_all_well<L: Lists, R: Runner, W: Write>(alloc: Global, out: &mut W) -> io::Result<bool> {
     let mut tally = Tally::default();
     for list in L::refused() {
         if let Some(scripts) = L::scripts_of(*list) {
-            run_list(alloc, *list, scripts, &mut tally, &mut *out)?;
+            run_list::<R, _>(alloc, *list, scripts, &mut tally, &mut *out)?;
         }
     }
     for refusal in Refusal::BOTH {
-        run_chain(alloc, refusal, &mut tally, &mut *out)?;
+        run_chain::<R, _>(alloc, refusal, &mut tally, &mut *out)?;
     }
     tally.write(&mut *out)?;
     Ok(tally.wrong == 0)
@@ -88,7 +89,7 @@ impl Tally {
 }
 
 /// Runs the scripts of a list, each in each way, with their requests refused in turn.
-fn run_list<W: Write>(
+fn run_list<R: Runner, W: Write>(
     alloc: Global,
     list: &'static str,
     scripts: &[Sample],
@@ -105,7 +106,7 @@ fn run_list<W: Write>(
                 way,
             };
             for refusal in Refusal::BOTH {
-                run_part(alloc, part, refusal, tally, out)?;
+                run_part::<R, _>(alloc, part, refusal, tally, out)?;
             }
         }
     }
@@ -113,14 +114,14 @@ fn run_list<W: Write>(
 }
 
 /// Runs a script with all memory granted, and with its requests refused in turn.
-fn run_part<W: Write>(
+fn run_part<R: Runner, W: Write>(
     alloc: Global,
     part: Part,
     refusal: Refusal,
     tally: &mut Tally,
     out: &mut W,
 ) -> io::Result<()> {
-    let Some(own) = part.run(alloc)? else {
+    let Some(own) = part.run::<R>(alloc)? else {
         return tally.tell(part, refusal, 0, Some("not reached"), out);
     };
     tally.runs = tally.runs.saturating_add(1);
@@ -129,7 +130,7 @@ fn run_part<W: Write>(
         if !refuser::begin(alloc, refusal, number) {
             break;
         }
-        let report = part.run(alloc)?;
+        let report = part.run::<R>(alloc)?;
         let was_refused = refuser::end(alloc);
         tally.runs = tally.runs.saturating_add(1);
         let wrong = judge(&own, report.as_ref(), was_refused, tally);
@@ -209,7 +210,7 @@ fn is_right(assigned: Option<bool>, was_refused: bool, tally: &mut Tally) -> boo
 }
 
 /// Runs the assignment through a chain, its requests refused in turn: wherever it is reached it is done.
-fn run_chain<W: Write>(
+fn run_chain<R: Runner, W: Write>(
     alloc: Global,
     refusal: Refusal,
     tally: &mut Tally,
@@ -217,7 +218,7 @@ fn run_chain<W: Write>(
 ) -> io::Result<()> {
     for number in 1..=refuser::GREATEST {
         let is_heard = refuser::begin(alloc, refusal, number);
-        let assigned = chain::is_assigned(alloc);
+        let assigned = chain::is_assigned::<R>(alloc);
         let was_refused = refuser::end(alloc);
         tally.runs = tally.runs.saturating_add(1);
         if !is_right(assigned, was_refused, tally) {

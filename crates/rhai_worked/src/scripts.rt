@@ -1,9 +1,9 @@
 //! What scripts come to.
 
-use rhai_bench::linked_pointer::scope_for;
-use rhai_bench::script::run_above;
-use rhai_eval::base::{AccessMode, Dynamic, Scope, Union};
+use rhai_eval_base::base::{AccessMode, Dynamic, Scope, Union};
+use rhai_rows::linked_pointer::scope_for;
 use rhai_rows::outcomes::write_outcome;
+use rhai_rows::runner::Runner;
 use rhai_rows::sample::Sample;
 use rhai_rows::settings::Way;
 use rhai_tables::host::Pair;
@@ -21,7 +21,7 @@ pub fn write_number(scripts: Option<&[Sample]>, out: &mut Vec<u8>) -> io::Result
 
 /// Writes what a script of a list comes to in every way of running, above so many other variables.
 /// Where two ways differ both are written.
-pub fn write_ways(
+pub fn write_ways<R: Runner>(
     alloc: Global,
     others: usize,
     form: &str,
@@ -29,10 +29,10 @@ pub fn write_ways(
     sample: Sample,
     out: &mut Vec<u8>,
 ) -> io::Result<()> {
-    write_way(alloc, others, form, list, sample, Way::USUAL, out)?;
+    write_way::<R>(alloc, others, form, list, sample, Way::USUAL, out)?;
     for way in Way::ALL {
         let mut other = Vec::new(alloc);
-        write_way(alloc, others, form, list, sample, way, &mut other)?;
+        write_way::<R>(alloc, others, form, list, sample, way, &mut other)?;
         if other.as_slice() != out.as_slice() {
             write!(out, " or ")?;
             out.write_all(other.as_slice())?;
@@ -42,7 +42,7 @@ pub fn write_ways(
 }
 
 /// Writes what a script of a list comes to in one of the ways.
-fn write_way(
+fn write_way<R: Runner>(
     alloc: Global,
     others: usize,
     form: &str,
@@ -52,7 +52,7 @@ fn write_way(
     out: &mut Vec<u8>,
 ) -> io::Result<()> {
     let script = sample.script(alloc)?;
-    let outcome = run_above(alloc, script, way, scope_of(alloc, others, list)?)?;
+    let outcome = R::run_above(alloc, script, way, scope_of(alloc, others, list)?)?;
     let wrote = write_outcome(alloc, others, form, &outcome, out);
     drop(outcome);
     wrote

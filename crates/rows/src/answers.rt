@@ -2,9 +2,10 @@
 
 use crate::numbered::Numbered;
 use crate::program::{write_refusals, write_run};
+use rhai_bench::Bench;
+use rhai_bench::searches::write_search;
 use rhai_hosted::functions::write_call;
 use rhai_hosted::handles::write_handled;
-use rhai_hosted::searches::write_search;
 use rhai_rows::errors::write_shown;
 use rhai_rows::signatures::write_told;
 use rhai_rows::values::write_sample;
@@ -40,10 +41,10 @@ fn write_answer(alloc: Global, call: &str, out: &mut Vec<u8>) -> io::Result<()> 
         "prints" => write_sample(alloc, rest, out),
         "finds" => write_search(alloc, rest, false, out),
         "searches" => write_search(alloc, rest, true, out),
-        "calls" => write_call(alloc, rest, out),
-        "handles" => write_handled(alloc, rest, out),
+        "calls" => write_call::<Bench>(alloc, rest, out),
+        "handles" => write_handled::<Bench>(alloc, rest, out),
         "shows" => write_shown(alloc, rest, out),
         "tells" => write_told(alloc, rest, out),
-        _ => lists::write_answer::<Numbered>(alloc, call, out),
+        _ => lists::write_answer::<Numbered, Bench>(alloc, call, out),
     }
 }

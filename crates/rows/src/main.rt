@@ -14,10 +14,11 @@ mod topic;
 
 use crate::numbered::Numbered;
 use crate::topic::Topic;
+use rhai_bench::Bench;
 use rhai_worked::program::run;
 use std::io;
 use std::process::ExitCode;
 
 fn main(rt: HostRuntime) -> io::Result<ExitCode> {
-    run::<Topic, Numbered, HostRuntime>(&rt, &Topic::ALL)
+    run::<Topic, Numbered, Bench, HostRuntime>(&rt, &Topic::ALL)
 }

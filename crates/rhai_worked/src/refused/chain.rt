@@ -1,11 +1,11 @@
 //! `a[0][1] = 5` over an array of two arrays: a chain copies nothing that it goes through, so it asks for no
 //! memory, and wherever its run is reached it is done.
 
-use rhai_bench::script::eval_tree;
-use rhai_eval::base::{AccessMode, Boxed, Dynamic, Items, Scope, Union};
-use rhai_eval::check::check_tree;
-use rhai_eval::engine::Engine;
-use rhai_eval::state::{Caches, GlobalRuntimeState};
+use rhai_eval_base::base::{AccessMode, Boxed, Dynamic, Items, Scope, Union};
+use rhai_eval_base::check::check_tree;
+use rhai_eval_base::state::{Caches, GlobalRuntimeState};
+use rhai_rows::runner::Runner;
+use rhai_rows::settings::Settings;
 use rhai_samples::parts::Part::{Assign, Index, IndexOn, Int, Variable};
 use rhai_samples::parts::{Part, statements_of};
 use rhai_tables::host::Pair;
@@ -52,21 +52,21 @@ fn variables(alloc: Global) -> Result<Scope<Pair>, AllocError> {
 }
 
 /// Tells whether the script gives `()` and leaves `[[1, 5], [3, 4]]`. None where its run is not reached.
-pub fn is_assigned(alloc: Global) -> Option<bool> {
+pub fn is_assigned<R: Runner>(alloc: Global) -> Option<bool> {
     let statements = statements_of(alloc, SCRIPT).ok()?;
     let tree = check_tree(alloc, statements, Items::new(alloc)).ok()?;
     let mut global = GlobalRuntimeState::new(alloc).ok()?;
     let mut scope = variables(alloc).ok()?;
-    let outcome = eval_tree(
+    let outcome = R::eval_tree(
         alloc,
-        &Engine::new(alloc),
+        &Settings::USUAL,
         &mut global,
         &mut Caches::new(alloc),
         &mut Counting::table(alloc),
         &mut scope,
         &tree,
-        false,
-    );
+    )
+    .ok()?;
     let is_unit = matches!(outcome.as_ref().map(|value| &value.value), Ok(Union::Unit));
     drop(outcome);
     let (_, value, _) = scope.get(0)?;

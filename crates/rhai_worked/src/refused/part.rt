@@ -1,16 +1,17 @@
 //! A script of a list, made, checked and run in a way, and what holds after its run.
 
 use crate::refused::refuser;
-use rhai_bench::linked_pointer::scope_for;
-use rhai_bench::script::{add_library, engine_of, eval_tree};
-use rhai_eval::base::{CellId, Dynamic, EvalAltResult, Items, Scope, Union};
-use rhai_eval::cells::CellStore;
-use rhai_eval::check::{CheckFault, CheckedTree, check_tree};
-use rhai_eval::state::{Caches, GlobalRuntimeState};
-use rhai_eval::table::NativeTable;
+use rhai_eval_base::base::{CellId, Dynamic, EvalAltResult, Items, Scope, Union};
+use rhai_eval_base::cells::CellStore;
+use rhai_eval_base::check::{CheckFault, CheckedTree, check_tree};
+use rhai_eval_base::state::{Caches, GlobalRuntimeState};
+use rhai_eval_base::table::NativeTable;
 use rhai_natives::Natives;
+use rhai_rows::linked_pointer::scope_for;
+use rhai_rows::modules::add_library;
 use rhai_rows::outcome::Ending;
 use rhai_rows::print::write_ending;
+use rhai_rows::runner::Runner;
 use rhai_rows::sample::{Sample, Script};
 use rhai_rows::settings::{Settings, Way};
 use rhai_samples::operators::SUM;
@@ -63,7 +64,7 @@ impl Drop for Report {
 
 impl Part {
     /// Makes the script and runs it. None where the script or the state of its run could not be made.
-    pub fn run(self, alloc: Global) -> io::Result<Option<Report>> {
+    pub fn run<R: Runner>(self, alloc: Global) -> io::Result<Option<Report>> {
         let (Ok(script), Ok(global), Ok(scope)) = (
             self.sample.script(alloc),
             GlobalRuntimeState::new(alloc),
@@ -78,7 +79,7 @@ impl Part {
             scope,
         };
         run.global.always_search_scope = self.way.always_search_scope;
-        run.report(alloc, script)
+        run.report::<R>(alloc, script)
     }
 }
 
@@ -105,7 +106,7 @@ impl Drop for Run {
 impl Run {
     /// Checks and runs a script, sees to what holds then, and runs another over what is left. None where the
     /// library of its functions or its engine could not be made.
-    fn report(mut self, alloc: Global, script: Script) -> io::Result<Option<Report>> {
+    fn report<R: Runner>(mut self, alloc: Global, script: Script) -> io::Result<Option<Report>> {
         let Script {
             statements,
             functions,
@@ -117,7 +118,7 @@ impl Run {
                 if add_library(alloc, &mut self.global, &tree).is_err() {
                     return Ok(None);
                 }
-                match self.run_tree(alloc, settings, &tree) {
+                match self.run_tree::<R>(alloc, settings, &tree) {
                     Some(ended) => ended,
                     None => return Ok(None),
                 }
@@ -134,7 +135,7 @@ impl Run {
         let names = names_of(alloc, &self.scope)?;
         let imports = imports_of(alloc, &self.global)?;
         let wrong = if is_restored {
-            self.what_is_wrong(alloc, settings)
+            self.what_is_wrong::<R>(alloc, settings)
         } else {
             Some("libraries or levels are not what they were")
         };
@@ -151,26 +152,24 @@ impl Run {
 
     /// Runs a tree, and tells how it ends and whether what a run takes back is as it was. None where the
     /// engine could not be made.
-    fn run_tree(
+    fn run_tree<R: Runner>(
         &mut self,
         alloc: Global,
         settings: Settings,
         tree: &CheckedTree,
     ) -> Option<(Ending, bool)> {
         let before = Levels::of(&self.global);
-        let Ok(engine) = engine_of(alloc, &settings) else {
-            return None;
-        };
-        let outcome = eval_tree(
+        let Ok(outcome) = R::eval_tree(
             alloc,
-            &engine,
+            &settings,
             &mut self.global,
             &mut self.caches,
             &mut self.table,
             &mut self.scope,
             tree,
-            settings.map_exit_to_return_value,
-        );
+        ) else {
+            return None;
+        };
         let is_restored = before == Levels::of(&self.global);
         match outcome {
             Ok(value) => Some((Ending::Value(value), is_restored)),
@@ -179,7 +178,11 @@ impl Run {
     }
 
     /// Tells what does not hold after a run.
-    fn what_is_wrong(&mut self, alloc: Global, settings: Settings) -> Option<&'static str> {
+    fn what_is_wrong<R: Runner>(
+        &mut self,
+        alloc: Global,
+        settings: Settings,
+    ) -> Option<&'static str> {
         let limit = settings.limits.max_operations;
         if limit > 0 && self.global.num_operations > limit {
             Some("the count is past its limit")
@@ -191,7 +194,7 @@ impl Run {
             Some("there are more imports than were loaded")
         } else if is_any_held(&self.global.cells) {
             Some("a cell is held")
-        } else if self.sum(alloc) != Some(42) {
+        } else if self.sum::<R>(alloc) != Some(42) {
             Some("40 + 2 is not 42 any more")
         } else {
             None
@@ -199,10 +202,10 @@ impl Run {
     }
 
     /// Evaluates `40 + 2` over what the run left.
-    fn sum(&mut self, alloc: Global) -> Option<i64> {
+    fn sum<R: Runner>(&mut self, alloc: Global) -> Option<i64> {
         let tree = check_tree(alloc, statements_of(alloc, SUM).ok()?, Items::new(alloc)).ok()?;
         self.global.num_operations = 0;
-        match self.run_tree(alloc, Settings::USUAL, &tree)?.0 {
+        match self.run_tree::<R>(alloc, Settings::USUAL, &tree)?.0 {
             Ending::Value(value) => integer_in(&value),
             _ => None,
         }

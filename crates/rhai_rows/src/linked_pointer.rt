@@ -1,12 +1,11 @@
 //! The variables above which rows run, one of them a pointer whose function finds others than the script's.
 
-use crate::modules::checked;
-use rhai::library_of;
-use rhai_eval::base::{
+use crate::modules::{checked, library};
+use rhai_eval_base::base::{
     AccessMode, Boxed, Dynamic, FnPtr, FnPtrKind, Items, Scope, Shared, Text, Union,
 };
-use rhai_eval::check::CheckedFn;
-use rhai_eval::script::EncapsulatedEnviron;
+use rhai_eval_base::check::CheckedFn;
+use rhai_eval_base::script::EncapsulatedEnviron;
 use rhai_samples::functions::{FUNCTION_G, FUNCTION_H};
 use rhai_samples::parts::tree_of;
 use rhai_tables::host::Pair;
@@ -42,9 +41,8 @@ fn pointer_with_a_library(alloc: Global) -> Result<Scope<Pair>, AllocError> {
 
 /// Makes what is around the function: a library with the other.
 fn environ_of_g(alloc: Global) -> Result<EncapsulatedEnviron<Pair>, AllocError> {
-    let tree = checked(alloc, tree_of(alloc, FUNCTION_G)?)?;
     let mut lib = Items::new(alloc);
-    lib.push(Shared::new(alloc, library_of(alloc, &tree)?)?)?;
+    lib.push(Shared::new(alloc, library(alloc, FUNCTION_G)?)?)?;
     Ok(EncapsulatedEnviron {
         lib,
         imports: Items::new(alloc),

@@ -1,5 +1,5 @@
 use Rattle.std.specs.Prelude.{◌≤◌, ◌-◌, length}
-use Rattle.rhai_bench.proofs.caller.fours.Given as goal
+use Rattle.rhai_hosted.proofs.caller.fours.Given as goal
 
 -- no more than are wanted
 abbrev pub invariant-pushes : goal.invariant-pushes

@@ -1,12 +1,13 @@
 //! The functions of a tree, as a library of a run's state, and one of them by its name.
+#![tactic(auto)]
 
 ghost use Rattle.std.specs.Prelude.{◌≡◌, IfOk, find, reverse};
 ghost use Rattle.std.specs.Option.{option_map};
-ghost use Rattle.rhai.specs.Library.{is_called, library_with};
+ghost use Rattle.rhai_library.specs.Library.{is_called, library_with};
 
-use rhai_eval::base::{Items, Shared, Table};
-use rhai_eval::check::{CheckedFn, CheckedTree};
-use rhai_eval::state::{Module, ModuleFn};
+use rhai_tree::checked::{CheckedFn, CheckedTree};
+use rhai_tree::{Items, Shared, Table};
+use rhai_values::base::value::{Module, ModuleFn};
 use std::alloc::{AllocError, Global};
 
 /// Builds a library with the functions of a tree, in their order and without an environment. It is to be

@@ -1,0 +1,34 @@
+//! What runs scripts, as all that is proved beside the evaluator knows it.
+
+use crate::outcome::Outcome;
+use crate::sample::Script;
+use crate::settings::{Settings, Way};
+use rhai_eval_base::base::{Dynamic, EvalAltResult, Scope};
+use rhai_eval_base::check::CheckedTree;
+use rhai_eval_base::state::{Caches, GlobalRuntimeState};
+use rhai_natives::Natives;
+use rhai_tables::host::Pair;
+use rhai_tables::tables::counting::Counting;
+use std::alloc::{AllocError, Global};
+
+/// Runs scripts over the natives of `Counting`.
+pub trait Runner {
+    /// Checks a script and runs it in one of the ways, above the variables of a scope.
+    fn run_above(
+        alloc: Global,
+        script: Script,
+        way: Way,
+        scope: Scope<Pair>,
+    ) -> Result<Outcome, AllocError>;
+
+    /// Evaluates a tree with an engine of settings. `AllocError` where the engine could not be made.
+    fn eval_tree(
+        alloc: Global,
+        settings: &Settings,
+        global: &mut GlobalRuntimeState<Pair>,
+        caches: &mut Caches<Pair>,
+        table: &mut Natives<Counting>,
+        scope: &mut Scope<Pair>,
+        tree: &CheckedTree,
+    ) -> Result<Result<Dynamic<Pair>, EvalAltResult<Pair>>, AllocError>;
+}
