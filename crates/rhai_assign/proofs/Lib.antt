@@ -1,4 +1,3 @@
-pub mod Alone
 pub mod Places
 pub mod Entries
 mod Found
@@ -7,6 +6,3 @@ pub mod Natives
 pub mod Writes
 pub mod Updates
 pub mod Going
-pub mod Prepared
-pub mod Integers
-pub mod Stored

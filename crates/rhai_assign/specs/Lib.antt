@@ -1,7 +1,5 @@
-pub mod Assignments
 pub mod FocusTargets
 pub mod Follows
-pub mod InPlace
 pub mod Keeps
 pub mod Lending
 pub mod Targets

@@ -6,14 +6,11 @@
 #![tactic(auto)]
 
 pub mod focus;
-pub mod in_place;
-pub mod left;
-pub mod lists;
 mod native;
-mod place;
+pub mod place;
 pub mod this;
 mod update;
-mod write;
+pub mod write;
 
 ghost use Rattle.std.specs.Prelude.{◌≡◌, ◌≤◌};
 ghost use Rattle.rhai_state.specs.Scope.{names_in};

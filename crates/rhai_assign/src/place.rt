@@ -34,7 +34,7 @@ use rhai_values::cells::{CellStore, put_back};
 
 /// Where a variable's value stands: in an entry of the scope, or in a cell.
 #[derive(Clone, Copy)]
-pub(crate) enum Place {
+pub enum Place {
     InEntry(usize),
     InCell(CellId),
 }
@@ -126,7 +126,7 @@ fn entry_target<H: Host>(
 
 /// Finds the place of a variable that an entry has and that may be assigned to. None for any other. It is
 /// found as `entry_of_variable` says, which asks the same of its offset.
-pub(crate) fn find_named<H: Host>(
+pub fn find_named<H: Host>(
     global: &GlobalRuntimeState<H>,
     scope: &Scope<H>,
     variable: &Variable<'_>,
@@ -219,7 +219,7 @@ pub(crate) fn find_target<H: Host>(
 }
 
 /// Returns the value at a place. Asked: there is one.
-pub(crate) fn value_at<'a, H: Host>(
+pub fn value_at<'a, H: Host>(
     cells: &'a CellStore<H>,
     scope: &'a Scope<H>,
     place: Place,

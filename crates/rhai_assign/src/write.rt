@@ -56,7 +56,7 @@ pub(crate) fn measure_changed<H: Host>(
 }
 
 /// Writes what a built-in operator gave to a place, measured at the operator; an error leaves the place.
-pub(crate) fn write_outcome<H: Host>(
+pub fn write_outcome<H: Host>(
     session: &Session<'_, H>,
     global: &mut GlobalRuntimeState<H>,
     scope: &mut Scope<H>,

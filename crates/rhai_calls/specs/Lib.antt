@@ -4,3 +4,4 @@ pub mod Lending
 pub mod ToldChanges
 pub mod Natives
 pub mod Operates
+pub mod Targets

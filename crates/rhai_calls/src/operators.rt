@@ -13,7 +13,6 @@ ghost use Rattle.rhai_calls.specs.Called.{with_args, came_out};
 ghost use Rattle.rhai_calls.specs.Operates.{operator_there};
 
 use crate::dispatch::{Called, call_all};
-use rhai_context::ends::take_value;
 use rhai_few::Few;
 use rhai_functions::function::Function;
 use rhai_operators::{builtin_binary, builtin_unary};
@@ -23,11 +22,12 @@ use rhai_state::state::GlobalRuntimeState;
 use rhai_state::table::NativeTable;
 use rhai_steps::operation::Operation;
 use rhai_steps::replies::applied;
-use rhai_steps::values::let_go;
+use rhai_steps::values::{let_go, unit_value};
 use rhai_tree::expr::FnCallExpr;
 use rhai_tree::position::Position;
 use rhai_tree::token::Token;
 use rhai_values::base::value::{Dynamic, Host};
+use std::mem::replace;
 
 /// Puts one value into a list without items. Tells whether there was memory for it.
 fn one<H: Host>(list: &mut Few<Dynamic<H>>, value: Dynamic<H>) -> bool
@@ -103,7 +103,7 @@ pub fn operate_one<H: Host, T: NativeTable<H>>(
     match builtin_unary(session.alloc, token, &*out) {
         Some(outcome) => Called::Ended(applied(session, outcome, pos)),
         None => {
-            let is_there = one(operands, take_value(out));
+            let is_there = one(operands, replace(out, unit_value()));
             let name = call.name.get().as_str();
             call_listed(
                 session,
@@ -152,7 +152,7 @@ pub fn operate_two<H: Host, T: NativeTable<H>>(
             Called::Ended(applied(session, outcome, pos))
         }
         None => {
-            let are_there = push_two(operands, left, take_value(out));
+            let are_there = push_two(operands, left, replace(out, unit_value()));
             let name = call.name.get().as_str();
             call_listed(
                 session,

@@ -5,7 +5,7 @@ ghost use Rattle.rhai_tree.specs.Names.{Begins};
 ghost use Rattle.rhai_eval.specs.Places.{with_place};
 ghost use Rattle.rhai_eval.specs.States.{under};
 ghost use Rattle.rhai_laws.specs.Kept.{Grown, Kept};
-ghost use Rattle.rhai_methods.specs.Targets.{StaysAlike, value_walked_on};
+ghost use Rattle.rhai_calls.specs.Targets.{StaysAlike, value_walked_on};
 ghost use Rattle.rhai_state.specs.Scope.{names_in};
 ghost use Rattle.rhai_steps.specs.Agreement.{AgreesAt, passes};
 ghost use Rattle.rhai_steps.specs.States.{holding, state_of};

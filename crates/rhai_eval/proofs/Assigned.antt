@@ -29,7 +29,7 @@ use Rattle.rhai_laws.proofs.KeptChains.{assign_focus_keeps}
 use Rattle.rhai_laws.proofs.KeptLaws.{around_same, kept_from}
 use Rattle.rhai_steps.proofs.Pieces.{step_by}
 use Rattle.rhai_steps.specs.Follows.{Follows, Does, FindsNoMemory}
-use Rattle.rhai_methods.specs.Targets.{ComesBack}
+use Rattle.rhai_calls.specs.Targets.{ComesBack}
 use Rattle.rhai_eval.specs.Assigned.{assigned, target_assigned, value_assigned, without_value}
 use Rattle.rhai_eval.specs.Ends.{EndsAlone, EndsAssigned}
 use Rattle.rhai_eval.proofs.ChangedCalls.{ends_changed}

@@ -18,8 +18,8 @@ use Rattle.rhai_laws.specs.Kept.{Kept}
 use Rattle.rhai_laws.proofs.Keeping.{Asked, Keeps, calm, quiet, through}
 use Rattle.rhai_laws.proofs.KeptLaws.{kept_from}
 use Rattle.rhai_laws.proofs.KeptMethods.{method_keeps}
-use Rattle.rhai_methods.specs.Targets.{ComesBack, on_target, frames_waiting}
-use Rattle.rhai_methods.proofs.TargetLemmas.{answer_comes}
+use Rattle.rhai_calls.specs.Targets.{ComesBack, on_target, frames_waiting}
+use Rattle.rhai_calls.proofs.TargetLemmas.{answer_comes}
 use Rattle.rhai_eval.specs.Ends.{EndsAlone, EndsChanged}
 use Rattle.rhai_eval.proofs.ChangedCalls.{ends_changed}
 

@@ -1,6 +1,6 @@
 //! Statements. Ports upstream's `eval/stmt.rs`; the contracts speak of the machine's runs.
 
-ghost use Rattle.rhai_assign.specs.Assignments.{statement_of};
+ghost use Rattle.rhai_assign_stmt.specs.Assignments.{statement_of};
 ghost use Rattle.std.specs.Prelude.{◌≡◌, ◌<◌, ◌≤◌, IfErr, IfSome, IsTrue, true, false};
 ghost use Rattle.std.specs.Prelude.{None, length, map};
 ghost use Rattle.rhai_tree.specs.Frame.{tests_of, target_resolves, resolves_expr, resolves_stmt};
@@ -28,9 +28,9 @@ mod tries;
 mod walks;
 
 use crate::evaluator::Evaluator;
-use rhai_assign::in_place::{Assignment, assign_in_place};
-use rhai_assign::left::{assign_from_run, assign_this_from_run};
-use rhai_assign::lists::open_list;
+use rhai_assign_stmt::in_place::{Assignment, assign_in_place};
+use rhai_assign_stmt::left::{assign_from_run, assign_this_from_run};
+use rhai_assign_stmt::lists::open_list;
 use rhai_context::Context;
 use rhai_context::ends::{leave_unit, put_unit, stop};
 use rhai_context::outcomes::{charge_stmt, flatten_at};

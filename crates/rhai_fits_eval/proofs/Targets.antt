@@ -21,7 +21,7 @@ use Rattle.rhai_fits.proofs.Values.{Fit, fit_unit}
 use Rattle.rhai_fits.proofs.Fitting.{FitBelow, FitCore, FitOffer, Flat, push, with_focus}
 use Rattle.rhai_fits.proofs.Chains.{assign_focus_good}
 use Rattle.rhai_fits.proofs.Methods.{method_good}
-use Rattle.rhai_methods.specs.Targets.{on_target, value_walked_on, frames_waiting}
+use Rattle.rhai_calls.specs.Targets.{on_target, value_walked_on, frames_waiting}
 use Rattle.rhai_eval.specs.Assigned.{target_assigned, value_assigned}
 use Rattle.rhai_eval.specs.Ends.{EndsAlone, EndsAssigned, EndsChanged}
 use Rattle.rhai_fits_eval.specs.InHand.{FitsAgain, cells_in, of_done, of_changed, of_target}

@@ -10,7 +10,7 @@ use Rattle.rhai_machine.specs.language.Setting.{Rules}
 use Rattle.rhai_machine.specs.language.State.{State}
 use Rattle.rhai_fits.specs.Contents.{Contents, Nothing, OneValue, OneError, Both, of_maybe, of_scope, of_cells, of_around, of_offer, Has}
 use Rattle.rhai_fits.specs.Sealed.{AreSealed}
-use Rattle.rhai_methods.specs.Targets.{value_walked_on}
+use Rattle.rhai_calls.specs.Targets.{value_walked_on}
 
 module _ {H : Type 0} where
   -- ---- what a caller has in hand

@@ -6,7 +6,7 @@ ghost use Rattle.rhai_places.specs.Targets.{shown};
 ghost use Rattle.rhai_machine.specs.language.State.{HasMemory};
 ghost use Rattle.rhai_fits.specs.Contents.{Both, OneError, OneValue, of_result, of_values};
 ghost use Rattle.rhai_fits.specs.Sealed.{AreSealed};
-ghost use Rattle.rhai_methods.specs.Targets.{value_walked_on};
+ghost use Rattle.rhai_calls.specs.Targets.{value_walked_on};
 ghost use Rattle.rhai_steps.specs.Sessions.{under as under_session};
 ghost use Rattle.rhai_steps.specs.States.{holding, state_of};
 ghost use Rattle.rhai_eval.specs.States.{under};

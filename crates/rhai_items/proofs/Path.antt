@@ -51,7 +51,7 @@ use Rattle.rhai_assign.proofs.Places.{names_put}
 use Rattle.rhai_items.proofs.Index.{begun, charges_are, extra_of, index_comes, integer_from, integer_stands}
 use Rattle.rhai_items.proofs.Item.{assigns_item, goes_up, item_comes, root_comes}
 use Rattle.rhai_items.specs.Items.{charges_of, index_is_simple, place_in_array, writable_at}
-use Rattle.rhai_assign.specs.InPlace.{writable_in}
+use Rattle.rhai_assign_stmt.specs.InPlace.{writable_in}
 
 module _ {H : Type 0} where
   writable_by : (constant : Bool) (u : Union H) (m : ℤ) → (if constant then None else integer_in u) ≡ Some m →

@@ -7,7 +7,7 @@ use Rattle.rhai_values.specs.declared.base.value.Dynamic.{Dynamic}
 use Rattle.rhai_values.specs.declared.base.value.FnPtrKind.TheOpen as union
 use Rattle.rhai_values.specs.Layers.{UnionLayer}
 use Rattle.rhai_places.specs.Indexing.{index_in}
-use Rattle.rhai_assign.specs.InPlace.{writable_in}
+use Rattle.rhai_assign_stmt.specs.InPlace.{writable_in}
 
 -- an index that is a literal integer or a variable
 abbrev pub index_is_simple : ExprLayer → Bool

@@ -5,4 +5,3 @@ mod Levels
 mod Linked
 mod Meanings
 mod Pointed
-pub mod TargetLemmas

@@ -2,5 +2,4 @@ pub mod Calls
 pub mod Copies
 pub mod Methods
 pub mod Parts
-pub mod Targets
 pub mod Words

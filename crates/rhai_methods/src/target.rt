@@ -2,7 +2,7 @@
 //! `Target` once the method has answered. The contract cites specs/Targets.antt.
 
 ghost use Rattle.std.specs.Prelude.{◌≡◌};
-ghost use Rattle.rhai_methods.specs.Targets.{ComesBack};
+ghost use Rattle.rhai_calls.specs.Targets.{ComesBack};
 
 use rhai_places::target::Target;
 use rhai_state::error::EvalAltResult;

@@ -9,7 +9,7 @@ use rhai_build::statements::{
     while_stmt,
 };
 use rhai_tree::Items;
-use rhai_tree::expr::{Expr, RangeCase, Stmt};
+use rhai_tree::expr::{Expr, RangeCase, Stmt, StmtBlock};
 use rhai_tree::flags::ASTFlags;
 use rhai_tree::function::{FnAccess, ScriptFuncDef};
 use rhai_tree::literal::Literal;
@@ -137,22 +137,32 @@ pub fn variable_of_the_caller_increased(alloc: Global) -> Result<TreeParts, Allo
 /// any other value 2.
 pub fn functions_for_types(alloc: Global) -> Result<TreeParts, AllocError> {
     let mut tree = Builder::new(alloc);
-    let body = tree.block([Stmt::Expr(int(1, 1))], 1, 1);
-    tree.define_on("i64", "kind", &[], body);
-    let body = tree.block([Stmt::Expr(int(2, 1))], 1, 1);
-    tree.function("kind", &[], body);
+    define_kinds(&mut tree);
     let v = tree.let_stmt("v", 5, int(5, 9), 1);
     let text = tree.text("a", 20);
     let t = tree.let_stmt("t", 16, text, 12);
-    let first = tree.variable("v", 2, 25);
-    let method = tree.method("kind", 27, []);
-    let first = tree.dot(first, 26, method);
-    let tens = tree.operator(Token::Multiply, "*", 34, [first, int(10, 36)]);
+    let tens = tens_of_a_kind(&mut tree);
     let second = tree.variable("t", 1, 41);
     let method = tree.method("kind", 43, []);
     let second = tree.dot(second, 42, method);
     let sum = tree.operator(Token::Plus, "+", 39, [tens, second]);
     tree.finish_with_functions([v, t, Stmt::Expr(sum)])
+}
+
+/// Defines both functions of the name `kind`.
+fn define_kinds(tree: &mut Builder) {
+    let body = tree.block([Stmt::Expr(int(1, 1))], 1, 1);
+    tree.define_on("i64", "kind", &[], body);
+    let body = tree.block([Stmt::Expr(int(2, 1))], 1, 1);
+    tree.function("kind", &[], body);
+}
+
+/// Makes `v.kind() * 10`.
+fn tens_of_a_kind(tree: &mut Builder) -> Expr {
+    let v = tree.variable("v", 2, 25);
+    let method = tree.method("kind", 27, []);
+    let kind = tree.dot(v, 26, method);
+    tree.operator(Token::Multiply, "*", 34, [kind, int(10, 36)])
 }
 
 /// Builds a private function `f` of integers with the parameters `a` and `b`, and without statements.
@@ -173,17 +183,22 @@ pub fn private_function(alloc: Global) -> Result<ScriptFuncDef, AllocError> {
 pub fn continued_until(alloc: Global) -> Result<Items<Stmt>, AllocError> {
     let mut tree = Builder::new(alloc);
     let start = tree.let_stmt("n", 5, int(0, 9), 1);
+    let body = counted_and_continued(alloc, &mut tree);
+    let enough = [tree.variable("n", 1, 56), int(1, 61)];
+    let enough = tree.operator(Token::GreaterThanEqualsTo, ">=", 58, enough);
+    let n = Stmt::Expr(tree.variable("n", 1, 64));
+    tree.finish([start, do_until(body, enough, 12), n])
+}
+
+/// Makes the body of that `do`.
+fn counted_and_continued(alloc: Global, tree: &mut Builder) -> StmtBlock {
     let n = tree.variable("n", 1, 17);
     let counted = assign(Some(Token::Plus), 19, n, int(1, 22));
     let few = [tree.variable("n", 1, 28), int(5, 32)];
     let few = tree.operator(Token::LessThan, "<", 30, few);
     let next = tree.block([continue_stmt(36)], 34, 46);
     let next = if_stmt(few, next, no_block(alloc), 25);
-    let body = tree.block([counted, next], 15, 48);
-    let enough = [tree.variable("n", 1, 56), int(1, 61)];
-    let enough = tree.operator(Token::GreaterThanEqualsTo, ">=", 58, enough);
-    let n = Stmt::Expr(tree.variable("n", 1, 64));
-    tree.finish([start, do_until(body, enough, 12), n])
+    tree.block([counted, next], 15, 48)
 }
 
 /// Builds `return 5; 6`.
@@ -211,12 +226,18 @@ pub fn integer_and_true(alloc: Global) -> Result<Items<Stmt>, AllocError> {
 pub fn decrements(alloc: Global, turns: i64) -> Result<Items<Stmt>, AllocError> {
     let mut tree = Builder::new(alloc);
     let start = tree.let_stmt("n", 5, int(turns, 9), 1);
+    let turns = decremented_to_zero(&mut tree);
+    tree.finish([start, turns])
+}
+
+/// Makes the loop itself.
+fn decremented_to_zero(tree: &mut Builder) -> Stmt {
     let left = [tree.variable("n", 1, 24), int(0, 28)];
     let left = tree.operator(Token::GreaterThan, ">", 26, left);
     let n = tree.variable("n", 1, 32);
     let counted = assign(Some(Token::Minus), 34, n, int(1, 37));
     let body = tree.block([counted], 30, 40);
-    tree.finish([start, while_stmt(left, body, 18)])
+    while_stmt(left, body, 18)
 }
 
 /// Builds `() ?? 5`.
@@ -255,15 +276,21 @@ pub fn method_that_throws(alloc: Global) -> Result<TreeParts, AllocError> {
     tree.function("f", &[], body);
     let items = tree.array(40, [int(1, 41)]);
     let declared = tree.let_stmt("a", 36, items, 32);
+    let tried = tried_on_an_item(&mut tree);
+    let a = tree.variable("a", 1, 72);
+    let item = tree.index(a, 73, int(0, 74));
+    tree.finish_with_functions([declared, tried, Stmt::Expr(item)])
+}
+
+/// Makes the `try` with that method on an item.
+fn tried_on_an_item(tree: &mut Builder) -> Stmt {
     let a = tree.variable("a", 1, 51);
     let method = tree.method("f", 56, []);
     let rest = tree.dot(int(0, 53), 55, method);
     let called = tree.index_on(a, 52, rest);
     let body = tree.block([Stmt::Expr(called)], 49, 61);
     let branch = tree.block([], 69, 70);
-    let a = tree.variable("a", 1, 72);
-    let item = tree.index(a, 73, int(0, 74));
-    tree.finish_with_functions([declared, try_stmt(body, branch, 45), Stmt::Expr(item)])
+    try_stmt(body, branch, 45)
 }
 
 /// Builds a `for` that sums up items with their counter.
@@ -272,16 +299,21 @@ pub fn items_and_counter_summed(alloc: Global) -> Result<Items<Stmt>, AllocError
     let mut tree = Builder::new(alloc);
     let start = tree.let_stmt("s", 5, int(0, 9), 1);
     let items = tree.array(26, [int(5, 27), int(6, 30)]);
+    let body = item_and_counter_added(&mut tree);
+    let walk = tree.for_counted("v", 17, "i", 20, items, body, 12);
+    let s = tree.variable("s", 1, 54);
+    tree.finish([start, walk, Stmt::Expr(s)])
+}
+
+/// Makes the body of that `for`.
+fn item_and_counter_added(tree: &mut Builder) -> StmtBlock {
     let s = tree.variable("s", 3, 35);
     let v = tree.variable("v", 1, 40);
     let tens = tree.operator(Token::Multiply, "*", 42, [v, int(10, 44)]);
     let i = tree.variable("i", 2, 49);
     let sum = tree.operator(Token::Plus, "+", 47, [tens, i]);
     let assigned = assign(Some(Token::Plus), 37, s, sum);
-    let body = tree.block([assigned], 33, 52);
-    let walk = tree.for_counted("v", 17, "i", 20, items, body, 12);
-    let s = tree.variable("s", 1, 54);
-    tree.finish([start, walk, Stmt::Expr(s)])
+    tree.block([assigned], 33, 52)
 }
 
 /// Builds `for x in 5 {}`.

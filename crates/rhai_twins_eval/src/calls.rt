@@ -4,7 +4,7 @@ ghost use Rattle.std.specs.Prelude.{◌≡◌, Some};
 ghost use Rattle.rhai_values.specs.Cells.{IsNoHandle};
 ghost use Rattle.rhai_places.specs.Targets.{shown};
 ghost use Rattle.rhai_machine.specs.language.State.{HasMemory};
-ghost use Rattle.rhai_methods.specs.Targets.{value_walked_on};
+ghost use Rattle.rhai_calls.specs.Targets.{value_walked_on};
 ghost use Rattle.rhai_eval.specs.Places.{with_place};
 ghost use Rattle.rhai_steps.specs.States.{holding, state_of};
 ghost use Rattle.rhai_twins_eval.specs.Same.{Same};

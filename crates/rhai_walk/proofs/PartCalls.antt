@@ -10,8 +10,8 @@ use Rattle.rhai_machine.specs.language.Frames.{PartMethod, core, ended_or_change
 use Rattle.rhai_machine.specs.language.Members.{focused_on}
 use Rattle.rhai_machine.specs.language.Methods.{Method, method_core}
 use Rattle.rhai_machine.specs.language.Runs.{Goes}
-use Rattle.rhai_methods.specs.Targets.{ComesBack}
-use Rattle.rhai_methods.proofs.TargetLemmas.{part_goes}
+use Rattle.rhai_calls.specs.Targets.{ComesBack}
+use Rattle.rhai_calls.proofs.TargetLemmas.{part_goes}
 use Rattle.rhai_walk.proofs.OnTemporaries.{working}
 
 module _ {S H : Type 0} (rules : Rules S H) where

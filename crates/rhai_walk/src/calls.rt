@@ -6,7 +6,7 @@ ghost use Rattle.rhai_values.specs.Layers.{layer_of};
 ghost use Rattle.rhai_places.specs.Parts.{IsPart, part_of};
 ghost use Rattle.rhai_state.specs.Errors.{is_out_of_memory};
 ghost use Rattle.rhai_machine.specs.language.Links.{first_position as first_position_in};
-ghost use Rattle.rhai_methods.specs.Targets.{ComesBack};
+ghost use Rattle.rhai_calls.specs.Targets.{ComesBack};
 ghost use Rattle.rhai_context.specs.Ends.{came_changed, error_in};
 ghost use Rattle.rhai_places.specs.declared.target.Part.TheVariants as part;
 

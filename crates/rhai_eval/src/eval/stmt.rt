@@ -18,7 +18,7 @@ ghost use Rattle.rhai_tree.specs.declared.expr.Stmt.{out-Stmt};
 ghost use Rattle.rhai_laws.specs.Kept.{Grown, Kept, declares, is_import};
 ghost use Rattle.rhai_steps.specs.OnFocus.{lending};
 ghost use Rattle.rhai_steps.specs.Follows.{Follows};
-ghost use Rattle.rhai_methods.specs.Targets.{ComesBack, StaysAlike, value_walked_on};
+ghost use Rattle.rhai_calls.specs.Targets.{ComesBack, StaysAlike, value_walked_on};
 ghost use Rattle.rhai_eval.specs.Assigned.{assigned, target_assigned, value_assigned, without_value};
 ghost use Rattle.rhai_eval.specs.Ends.{EndsAlone, EndsAs, EndsAssigned};
 ghost use Rattle.rhai_eval.specs.Places.{with_place};

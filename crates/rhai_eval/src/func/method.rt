@@ -9,7 +9,7 @@ ghost use Rattle.rhai_machine.specs.language.State.{HasMemory};
 ghost use Rattle.rhai_machine.specs.language.Values.{unit_value as unit};
 ghost use Rattle.rhai_machine.specs.language.Runs.{Goes};
 ghost use Rattle.rhai_machine.specs.language.Frames.{core, ended_or_changed};
-ghost use Rattle.rhai_methods.specs.Targets.{on_target, StaysAlike, value_walked_on};
+ghost use Rattle.rhai_calls.specs.Targets.{on_target, StaysAlike, value_walked_on};
 ghost use Rattle.rhai_steps.specs.OnFocus.{lending};
 ghost use Rattle.rhai_eval_core.specs.States.{under as under_what_is_read};
 ghost use Rattle.rhai_steps.specs.States.{state_of};

@@ -15,5 +15,5 @@ unfolding Goes
 returns-in-None-clause-runs g c scope held k =
     rw (← c.builtin_binary.ensures.value (rw c.in-None.is tt), c.in-None.is)
     ((rw (c.as_str-name.ensures, c.get.ensures) at
-    (c.call_listed.ensures.runs scope held (c.args.left ∷ c.args.out.now ∷ []) (rw c.take_value.ensures.taken at
+    (c.call_listed.ensures.runs scope held (c.args.left ∷ c.args.out.now ∷ []) (rw c.replace.ensures.value at
     c.push_two-are_there.ensures))) k)

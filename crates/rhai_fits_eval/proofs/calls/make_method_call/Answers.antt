@@ -1,6 +1,6 @@
 use Rattle.std.proofs.Common.{Some, length}
 use Rattle.rhai_places.specs.Targets.{is_shared, shown}
-use Rattle.rhai_methods.specs.Targets.{value_walked_on}
+use Rattle.rhai_calls.specs.Targets.{value_walked_on}
 use Rattle.rhai_eval.specs.States.{under}
 use Rattle.rhai_fits_eval.proofs.Targets.{method_again, method_shows}
 use Rattle.rhai_fits_eval.proofs.calls.make_method_call.Goals as goal

@@ -6,7 +6,7 @@ use Rattle.rhai_machine.specs.language.Setting.{Rules}
 use Rattle.rhai_places.specs.Targets.{is_shared, shown}
 use Rattle.rhai_places.specs.declared.target.Part.{Part}
 use Rattle.rhai_values.specs.declared.base.value.Dynamic.{Dynamic}
-use Rattle.rhai_methods.specs.Targets.{on_target}
+use Rattle.rhai_calls.specs.Targets.{on_target}
 use Rattle.rhai_eval.specs.Places.{with_place}
 use Rattle.rhai_eval.specs.States.{under}
 use Rattle.rhai_twins_eval.proofs.Once.{alone_once, changed_once}

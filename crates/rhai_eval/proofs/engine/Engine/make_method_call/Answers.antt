@@ -6,7 +6,7 @@ use Rattle.rhai_places.specs.Targets.{is_shared, shown}
 use Rattle.rhai_machine.specs.language.Methods.{Method, method_core}
 use Rattle.rhai_machine.specs.language.Runs.{Goes}
 use Rattle.rhai_machine.specs.language.Frames.{core, ended_or_changed}
-use Rattle.rhai_methods.specs.Targets.{on_target, value_walked_on}
+use Rattle.rhai_calls.specs.Targets.{on_target, value_walked_on}
 use Rattle.rhai_steps.specs.States.{state_of}
 use Rattle.rhai_context.specs.declared.Context.{Context}
 use Rattle.rhai_eval.specs.Ends.{EndsAlone}

@@ -18,9 +18,7 @@ use Rattle.rhai_machine.specs.language.Runs.{at, Goes}
 use Rattle.rhai_machine.specs.language.Unwinding.{put_back_error, part_changed}
 use Rattle.rhai_machine.specs.language.Language.{machine}
 use Rattle.rhai_steps.proofs.Pieces.{step_by}
-use Rattle.rhai_methods.specs.Methods.{came_from}
-use Rattle.rhai_methods.specs.Targets.{ComesBack, on_target}
-use Rattle.rhai_calls.specs.declared.dispatch.Called.TheVariants.{Ended}
+use Rattle.rhai_calls.specs.Targets.{ComesBack, on_target}
 
 module _ {S H : Type 0} (rules : Rules S H) where
   -- a state where this is worked on
@@ -79,9 +77,9 @@ module _ {S H : Type 0} (rules : Rules S H) where
   -- a method on a part that has ended, with what comes of its answer
   pub part_goes : (method : Method) (args : List (Dynamic H)) (spot : Spot) (above x y left : Dynamic H) (old new : State S H)
       (answer result : Result (Dynamic H × Bool) (EvalAltResult H)) →
-      Goes rules (method_core rules.setting method args x) (working x old) (came_from method.at (Ended answer)) (working y new) →
+      Goes rules (method_core rules.setting method args x) (working x old) (core (ended_or_changed answer)) (working y new) →
       ComesBack rules.setting.host_type (part.Of spot y) above method.at answer result left →
-      Goes rules (on_target rules.setting method args (part.Of spot x) above) (working x old) (came_from method.at (Ended result))
+      Goes rules (on_target rules.setting method args (part.Of spot x) above) (working x old) (core (ended_or_changed result))
       (working left new)
   unfolding Goes
   part_goes method args spot above x y left old new answer result runs comes k =

@@ -26,7 +26,7 @@ use Rattle.rhai_machine.specs.language.Values.{unit_value}
 use Rattle.rhai_machine.specs.language.Language.{machine}
 use Rattle.rhai_steps.specs.States.{local_of, state_of}
 use Rattle.rhai_operands.proofs.Names.{both}
-use Rattle.rhai_assign.specs.InPlace.{charged_at}
+use Rattle.rhai_assign_stmt.specs.InPlace.{charged_at}
 use Rattle.rhai_tree.specs.Names.{Frame as NamesFrame}
 
 -- both sides of an assignment that resolves do

@@ -9,9 +9,9 @@ use Rattle.rhai_steps.proofs.Agreeing.{brings}
 use Rattle.rhai_operands.specs.Standing.{assigned_known, integer_of, standing}
 use Rattle.rhai_operands.proofs.Integers.{is_there}
 use Rattle.rhai_operands.proofs.Names.{good_target}
-use Rattle.rhai_assign.specs.InPlace.{charged_at, writable_in}
-use Rattle.rhai_assign.proofs.Integers.{both_charged, integer_assigned, integer_found, integer_keeps}
-use Rattle.rhai_assign.proofs.in_place.assign_integer.Goals as goal
+use Rattle.rhai_assign_stmt.specs.InPlace.{charged_at, writable_in}
+use Rattle.rhai_assign_stmt.proofs.Integers.{both_charged, integer_assigned, integer_found, integer_keeps}
+use Rattle.rhai_assign_stmt.proofs.in_place.assign_integer.Goals as goal
 
 pub returns-clause-keeps : goal.returns-clause-keeps
 returns-clause-keeps g c = integer_keeps c.args.global.now c.charge_all.new.global c.args.scope.now c.write_number.new.scope

@@ -4,8 +4,8 @@ use Rattle.rhai_machine.specs.language.Frames.{AssignThis, StoreThis}
 use Rattle.rhai_machine.specs.language.Runs.{Goes}
 use Rattle.rhai_steps.specs.Sessions.{under}
 use Rattle.rhai_steps.proofs.Pieces.{charged, refused}
-use Rattle.rhai_assign.proofs.Stored.{this_gone, this_stored}
-use Rattle.rhai_assign.proofs.left.assign_this_from_run.Goals as goal
+use Rattle.rhai_assign_stmt.proofs.Stored.{this_gone, this_stored}
+use Rattle.rhai_assign_stmt.proofs.left.assign_this_from_run.Goals as goal
 
 pub returns-then-not-charge-clause-runs : goal.returns-then-not-charge-clause-runs
 unfolding Goes

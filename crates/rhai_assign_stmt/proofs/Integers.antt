@@ -37,13 +37,13 @@ use Rattle.rhai_operands.specs.Standing.{assigned_known, integer_of, integer_val
 use Rattle.rhai_operands.proofs.InPlace.{integer_sized}
 use Rattle.rhai_operands.proofs.Integers.{number_given}
 use Rattle.rhai_assign.specs.declared.place.Place.TheVariants as place
-use Rattle.rhai_assign.specs.InPlace.{assigned, charged_at, writable_in}
+use Rattle.rhai_assign_stmt.specs.InPlace.{assigned, charged_at, writable_in}
 use Rattle.rhai_assign.specs.Keeps.{Keeps}
 use Rattle.rhai_assign.specs.Targets.{if_found, named_target}
 use Rattle.rhai_assign.specs.Updates.{Becomes}
 use Rattle.rhai_assign.proofs.Entries.{target_is}
 use Rattle.rhai_assign.proofs.Places.{keeps_names, local_put, standing_is}
-use Rattle.rhai_assign.proofs.Prepared.{updates_in_place}
+use Rattle.rhai_assign_stmt.proofs.Prepared.{updates_in_place}
 
 module _ {H : Type 0} where
   integer_from : (u : Union H) (m : ℤ) → integer_in u ≡ Some m → u ≡ value.Int m

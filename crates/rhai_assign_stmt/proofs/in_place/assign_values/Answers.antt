@@ -5,9 +5,9 @@ use Rattle.rhai_tree.specs.declared.expr.Expr.TheOpen as layer
 use Rattle.rhai_steps.specs.Sessions.{under}
 use Rattle.rhai_steps.proofs.Agreeing.{brings}
 use Rattle.rhai_operands.proofs.Names.{good_target}
-use Rattle.rhai_assign.specs.InPlace.{IsReady}
-use Rattle.rhai_assign.proofs.Prepared.{target_stops, updates_in_place, value_stops}
-use Rattle.rhai_assign.proofs.in_place.assign_values.Goals as goal
+use Rattle.rhai_assign_stmt.specs.InPlace.{IsReady}
+use Rattle.rhai_assign_stmt.proofs.Prepared.{target_stops, updates_in_place, value_stops}
+use Rattle.rhai_assign_stmt.proofs.in_place.assign_values.Goals as goal
 
 pub returns-in-Err-clause-runs : goal.returns-in-Err-clause-runs
 returns-in-Err-clause-runs g c held restoring fast =

@@ -1,5 +1,5 @@
 use Rattle.std.proofs.Common.{◌≡◌, ◌+◌, ◌-◌, arith}
-use Rattle.rhai_assign.proofs.in_place.assign_in_place.Goals as goal
+use Rattle.rhai_assign_stmt.proofs.in_place.assign_in_place.Goals as goal
 
 pub returns-then-assign_integer-clause-runs : goal.returns-then-assign_integer-clause-runs
 returns-then-assign_integer-clause-runs g c held restoring fast =

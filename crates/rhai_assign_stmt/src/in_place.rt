@@ -16,13 +16,13 @@ ghost use Rattle.rhai_steps.specs.States.{state_of};
 ghost use Rattle.rhai_steps.specs.Variables.{offset_is_good};
 ghost use Rattle.rhai_context.specs.Ends.{came};
 ghost use Rattle.rhai_operands.specs.Standing.{standing};
-ghost use Rattle.rhai_assign.specs.Assignments.{statement_of};
-ghost use Rattle.rhai_assign.specs.InPlace.{IsReady, assigned, assigned_by, charged_at, writable_in};
+ghost use Rattle.rhai_assign_stmt.specs.Assignments.{statement_of};
+ghost use Rattle.rhai_assign_stmt.specs.InPlace.{IsReady, assigned, assigned_by, charged_at, writable_in};
 ghost use Rattle.rhai_assign.specs.Keeps.{Keeps};
 ghost use Rattle.rhai_assign.specs.Targets.{named_target};
 
-use crate::place::{Place, find_named, value_at};
-use crate::write::write_outcome;
+use rhai_assign::place::{Place, find_named, value_at};
+use rhai_assign::write::write_outcome;
 use rhai_context::ends::{put_unit, settle, write_number};
 use rhai_operands::operands::{integer_at, integer_in_place, operand_in_place};
 use rhai_operands::operators::compute_known;

@@ -1,4 +1,4 @@
-use Rattle.rhai_assign.proofs.left.assign_from_run.Goals as goal
+use Rattle.rhai_assign_stmt.proofs.left.assign_from_run.Goals as goal
 
 pub returns-clause-runs : goal.returns-clause-runs
 returns-clause-runs g c held =

@@ -6,8 +6,8 @@ use Rattle.rhai_machine.specs.language.Setting.{limit_under}
 use Rattle.rhai_machine.specs.language.Statements.{deeper}
 use Rattle.rhai_steps.specs.Sessions.{under}
 use Rattle.rhai_steps.proofs.Agreeing.{brings}
-use Rattle.rhai_assign.proofs.Alone.{alone, one_item, only_resolves}
-use Rattle.rhai_assign.proofs.lists.assign_alone.Goals as goal
+use Rattle.rhai_assign_stmt.proofs.Alone.{alone, one_item, only_resolves}
+use Rattle.rhai_assign_stmt.proofs.lists.assign_alone.Goals as goal
 
 pub assign_integer-requires-clause-resolves_target : goal.assign_integer-requires-clause-resolves_target
 assign_integer-requires-clause-resolves_target g c =

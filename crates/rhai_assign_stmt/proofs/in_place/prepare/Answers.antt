@@ -3,7 +3,7 @@ use Rattle.rhai_values.specs.Cells.{cells_of}
 use Rattle.rhai_state.specs.Scope.{entries_of}
 use Rattle.rhai_assign.specs.Targets.{place_in}
 use Rattle.rhai_assign.proofs.Places.{standing_is}
-use Rattle.rhai_assign.proofs.in_place.prepare.Goals as goal
+use Rattle.rhai_assign_stmt.proofs.in_place.prepare.Goals as goal
 
 pub returns-clause-ready : goal.returns-clause-ready
 returns-clause-ready g c = record {

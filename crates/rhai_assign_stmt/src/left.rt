@@ -12,8 +12,8 @@ ghost use Rattle.rhai_steps.specs.States.{holding, state_of};
 ghost use Rattle.rhai_steps.specs.Variables.{offset_is_good, variable_told};
 ghost use Rattle.rhai_context.specs.Ends.{came};
 
-use crate::assign_variable;
-use crate::this::assign_this;
+use rhai_assign::assign_variable;
+use rhai_assign::this::assign_this;
 use rhai_context::ends::{settle, stop, take_value};
 use rhai_context::outcomes::charge;
 use rhai_state::error::EvalAltResult;

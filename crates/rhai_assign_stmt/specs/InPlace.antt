@@ -16,7 +16,7 @@ use Rattle.rhai_operators.specs.Direct.{integer_in}
 use Rattle.rhai_machine.specs.language.Places.{Target, is_constant, target}
 use Rattle.rhai_machine.specs.language.Values.{Cells}
 use Rattle.rhai_operands.specs.Standing.{standing}
-use Rattle.rhai_assign.specs.declared.in_place.Ready as code
+use Rattle.rhai_assign_stmt.specs.declared.in_place.Ready as code
 use Rattle.rhai_assign.specs.Targets.{named_target, place_in, standing_at, stands_at}
 
 -- the target of a name is at the place, an operand stands, and the built-in answers for the two

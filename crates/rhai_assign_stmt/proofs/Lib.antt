@@ -1,0 +1,4 @@
+pub mod Alone
+pub mod Prepared
+pub mod Integers
+pub mod Stored
