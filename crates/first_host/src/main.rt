@@ -2,8 +2,8 @@
 #![tactic(auto)]
 
 use rhai::{
-    Builder, Caches, Engine, GlobalRuntimeState, Items, Natives, NoHost, NoNatives, Scope, Stmt,
-    Token, check_tree, int,
+    Builder, Caches, CheckedTree, Engine, GlobalRuntimeState, Items, Natives, NoHost, NoNatives,
+    Scope, Stmt, Token, check_tree, int,
 };
 
 fn main(rt: HostRuntime) -> anyhow::Result<()> {
@@ -12,22 +12,27 @@ fn main(rt: HostRuntime) -> anyhow::Result<()> {
     let sum = builder.operator(Token::Plus, "+", 4, [int(40, 1), int(2, 6)]);
     let statements = builder.finish([Stmt::Expr(sum)])?;
     let tree = check_tree(alloc, statements, Items::new(alloc))?;
-    for limit in [3, 100] {
-        let mut engine: Engine<NoHost> = Engine::new(alloc);
-        engine.max_operations = limit;
-        let outcome = engine.eval_global_statements(
-            alloc,
-            &mut GlobalRuntimeState::new(alloc)?,
-            &mut Caches::new(alloc),
-            &mut Natives::new(alloc, NoNatives),
-            &mut Scope::new(alloc),
-            &tree,
-            false,
-        );
-        match outcome {
-            Ok(value) => println!(&rt; "{value}")?,
-            Err(error) => println!(&rt; "{error}")?,
-        }
+    run(&rt, &tree, 3)?;
+    run(&rt, &tree, 100)
+}
+
+/// Runs a script under a limit of operations, and prints what it came to.
+fn run(rt: &HostRuntime, tree: &CheckedTree, limit: u64) -> anyhow::Result<()> {
+    let alloc = rt.alloc();
+    let mut engine: Engine<NoHost> = Engine::new(alloc);
+    engine.max_operations = limit;
+    let outcome = engine.eval_global_statements(
+        alloc,
+        &mut GlobalRuntimeState::new(alloc)?,
+        &mut Caches::new(alloc),
+        &mut Natives::new(alloc, NoNatives),
+        &mut Scope::new(alloc),
+        tree,
+        false,
+    );
+    match outcome {
+        Ok(value) => println!(rt; "{value}")?,
+        Err(error) => println!(rt; "{error}")?,
     }
     Ok(())
 }

@@ -34,23 +34,27 @@ fn script(alloc: Global) -> Result<Items<Stmt>, AllocError> {
     tree.finish([declared, grown, Stmt::Expr(less)])
 }
 
+/// Makes the variables of a script: a price that it may not change.
+fn priced(alloc: Global) -> Result<Scope<Money>, AllocError> {
+    let price = Dynamic::new(Union::Host(Boxed::new(alloc, Money(250))?));
+    let name = String::from_str(alloc, "price")?;
+    let mut scope = Scope::new(alloc);
+    scope.push_entry(name, AccessMode::ReadOnly, price)?;
+    Ok(scope)
+}
+
 /// Runs a script above a price, under a limit of operations, and prints what it came to.
 fn run(rt: &HostRuntime, tree: &CheckedTree, limit: u64) -> io::Result<()> {
     let alloc = rt.alloc();
     let mut engine = Engine::new(alloc);
     engine.max_operations = limit;
     let mut global = GlobalRuntimeState::new(alloc)?;
-    let mut scope = Scope::new(alloc);
-    let price = Dynamic::new(Union::Host(Boxed::new(alloc, Money(250))?));
-    let name = String::from_str(alloc, "price")?;
-    scope.push_entry(name, AccessMode::ReadOnly, price)?;
-    let mut natives = Natives::new(alloc, MoneyNatives);
     let outcome = engine.eval_global_statements(
         alloc,
         &mut global,
         &mut Caches::new(alloc),
-        &mut natives,
-        &mut scope,
+        &mut Natives::new(alloc, MoneyNatives),
+        &mut priced(alloc)?,
         tree,
         false,
     );
