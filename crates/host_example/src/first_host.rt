@@ -1,23 +1,22 @@
 //! The smallest host: `40 + 2`, checked, and run under two limits.
-#![tactic(auto)]
 
 use rhai::{
     Builder, Caches, CheckedTree, Engine, GlobalRuntimeState, Items, Natives, NoHost, NoNatives,
     Scope, Stmt, Token, check_tree, int,
 };
 
-fn main(rt: HostRuntime) -> anyhow::Result<()> {
+/// Builds the script, checks it, and runs it twice.
+pub fn run_sum(rt: &HostRuntime) -> anyhow::Result<()> {
     let alloc = rt.alloc();
     let mut builder = Builder::new(alloc);
     let sum = builder.operator(Token::Plus, "+", 4, [int(40, 1), int(2, 6)]);
-    let statements = builder.finish([Stmt::Expr(sum)])?;
-    let tree = check_tree(alloc, statements, Items::new(alloc))?;
-    run(&rt, &tree, 3)?;
-    run(&rt, &tree, 100)
+    let tree = check_tree(alloc, builder.finish([Stmt::Expr(sum)])?, Items::new(alloc))?;
+    run(rt, &tree, 3)?;
+    Ok(run(rt, &tree, 100)?)
 }
 
 /// Runs a script under a limit of operations, and prints what it came to.
-fn run(rt: &HostRuntime, tree: &CheckedTree, limit: u64) -> anyhow::Result<()> {
+fn run(rt: &HostRuntime, tree: &CheckedTree, limit: u64) -> std::io::Result<()> {
     let alloc = rt.alloc();
     let mut engine: Engine<NoHost> = Engine::new(alloc);
     engine.max_operations = limit;
@@ -31,8 +30,7 @@ fn run(rt: &HostRuntime, tree: &CheckedTree, limit: u64) -> anyhow::Result<()> {
         false,
     );
     match outcome {
-        Ok(value) => println!(rt; "{value}")?,
-        Err(error) => println!(rt; "{error}")?,
+        Ok(value) => println!(rt; "{value}"),
+        Err(error) => println!(rt; "{error}"),
     }
-    Ok(())
 }
