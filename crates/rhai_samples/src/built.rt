@@ -26,34 +26,49 @@ pub fn thrown_value_caught(alloc: Global) -> Result<Items<Stmt>, AllocError> {
     tree.finish([try_catching(body, caught, branch, 1)])
 }
 
-/// Builds `let x = 1; let f = || x; loop { break x; }`.
-pub fn shared_variable_at_a_break(alloc: Global) -> Result<TreeParts, AllocError> {
+/// Builds `let x = 1; let f = || { x += 1; x }; x.call(f)`.
+pub fn closure_on_its_variable(alloc: Global) -> Result<TreeParts, AllocError> {
     let mut tree = Builder::new(alloc);
-    let x = tree.variable("x", 1, 23);
-    let body = tree.block([Stmt::Expr(x)], 23, 23);
-    tree.function("anon$1", &["x"], body);
+    define_closure(&mut tree);
     let start = tree.let_stmt("x", 5, int(1, 9), 1);
-    let shared = tree.share("x", 1, 23);
-    let args = [tree.pointer("anon$1", 1, 20), tree.variable("x", 1, 23)];
+    let shared = tree.share("x", 1, 25);
+    let args = [tree.pointer("anon$1", 1, 20), tree.variable("x", 1, 25)];
     let curried = tree.call("curry", 20, args);
-    let closure = Expr::Stmt(tree.block([shared, Stmt::Expr(curried)], 20, 23));
+    let closure = Expr::Stmt(tree.block([shared, Stmt::Expr(curried)], 20, 35));
     let f = tree.let_stmt("f", 16, closure, 12);
-    let x = tree.variable("x", 2, 39);
-    let body = tree.block([break_stmt(Some(x), 33)], 31, 42);
-    tree.finish_with_functions([start, f, loop_stmt(body, 26)])
+    let x = tree.variable("x", 2, 38);
+    let method = [tree.variable("f", 1, 45)];
+    let method = tree.method("call", 40, method);
+    let called = tree.dot(x, 39, method);
+    tree.finish_with_functions([start, f, Stmt::Expr(called)])
 }
 
-/// Builds `const x = 1;`, and then what shares `x`, `x`, `q` and `x`. Each stands two columns behind the one
-/// before.
-pub fn names_shared_in_order(alloc: Global) -> Result<Items<Stmt>, AllocError> {
+/// Defines the function of that closure.
+fn define_closure(tree: &mut Builder) {
+    let x = tree.variable("x", 1, 25);
+    let added = assign(Some(Token::Plus), 27, x, int(1, 30));
+    let x = tree.variable("x", 1, 33);
+    let body = tree.block([added, Stmt::Expr(x)], 23, 35);
+    tree.function("anon$1", &["x"], body);
+}
+
+/// Builds `let x = loop { break 7; }; x + 1`.
+pub fn value_of_a_loop(alloc: Global) -> Result<Items<Stmt>, AllocError> {
     let mut tree = Builder::new(alloc);
-    let x = tree.const_stmt("x", 7, int(1, 11), 1);
-    let mut variables = Items::new(alloc);
-    tree.add_shared(&mut variables, "x", 1, 14);
-    tree.add_shared(&mut variables, "x", 1, 16);
-    tree.add_shared(&mut variables, "q", 0, 18);
-    tree.add_shared(&mut variables, "x", 1, 20);
-    tree.finish([x, Stmt::Share(variables)])
+    let body = tree.block([break_stmt(Some(int(7, 22)), 16)], 14, 25);
+    let value = Expr::Stmt(tree.block([loop_stmt(body, 9)], 9, 25));
+    let start = tree.let_stmt("x", 5, value, 1);
+    let x = tree.variable("x", 1, 28);
+    let sum = tree.operator(Token::Plus, "+", 30, [x, int(1, 32)]);
+    tree.finish([start, Stmt::Expr(sum)])
+}
+
+/// Builds `const C = 1; C = 2;`.
+pub fn assignment_to_constant(alloc: Global) -> Result<Items<Stmt>, AllocError> {
+    let mut tree = Builder::new(alloc);
+    let declared = tree.const_stmt("C", 7, int(1, 11), 1);
+    let c = tree.variable("C", 1, 14);
+    tree.finish([declared, assign(None, 16, c, int(2, 18))])
 }
 
 /// Builds `let x = (); x?.foo`.

@@ -140,36 +140,6 @@ pub const MESSAGE_OF_WHAT_WAS_CAUGHT: &[Part<'_>] = &[
     Value,
 ];
 
-/// `try { try { throw 1; } catch (e) {} } catch { 2 }`
-pub const CAUGHT_IN_AN_EMPTY_BRANCH: &[Part<'_>] = &[
-    Int(1, 19),
-    ThrowValue(13),
-    Block(1, 11, 22),
-    Variable("e", 0, 31),
-    Block(0, 34, 35),
-    TryCatching(7),
-    Block(1, 5, 37),
-    Int(2, 47),
-    Value,
-    Block(1, 45, 49),
-    Try(1),
-];
-
-/// `try { throw 1; } catch { try { throw 2; } catch { throw; } }`
-pub const SECOND_ERROR_THROWN_AGAIN: &[Part<'_>] = &[
-    Int(1, 13),
-    ThrowValue(7),
-    Block(1, 5, 16),
-    Int(2, 38),
-    ThrowValue(32),
-    Block(1, 30, 41),
-    Throw(51),
-    Block(1, 49, 58),
-    Try(26),
-    Block(1, 24, 60),
-    Try(1),
-];
-
 /// Builds a `for` whose turns throw and catch.
 /// It is `for i in 0..1000000 { try { throw 1; } catch {} }`, with `turns` instead of the million.
 pub fn throws_in_turn(alloc: Global, turns: i64) -> Result<Items<Stmt>, AllocError> {

@@ -1,11 +1,11 @@
 //! Closures, and the variables that they share. A closure is a block with two statements: what it shares, and the
 //! pointer to its function with that in front of its arguments.
 
+use crate::parts::Part;
 use crate::parts::Part::{
-    Always, Array, Assign, AssignBy, Block, BlockValue, Call, Const, Dot, ForCounted, Function,
-    Int, Let, Method, Pointer, Share, Switch, Value, Variable,
+    AssignBy, Block, BlockValue, Call, Dot, Function, Int, Let, Method, Pointer, Share, Value,
+    Variable,
 };
-use crate::parts::{Case, Part};
 use rhai_tree::token::Token;
 
 /// `let x = 1; let f = || { x += 1; x }; f.call(); f.call(); x`
@@ -36,141 +36,5 @@ pub const CLOSURE_CALLED_TWICE: &[Part<'_>] = &[
     Dot(49),
     Value,
     Variable("x", 2, 58),
-    Value,
-];
-
-/// `let x = 1; let f = || { x += 1; x }; x.call(f)`
-pub const CLOSURE_ON_ITS_VARIABLE: &[Part<'_>] = &[
-    Variable("x", 1, 25),
-    Int(1, 30),
-    AssignBy(Token::Plus, 27),
-    Variable("x", 1, 33),
-    Value,
-    Block(2, 23, 35),
-    Function("anon$1", &["x"]),
-    Int(1, 9),
-    Let("x", 5, 1),
-    Share(&[("x", 1, 25)]),
-    Pointer("anon$1", 1, 20),
-    Variable("x", 1, 25),
-    Call("curry", 2, 20),
-    Value,
-    Block(2, 20, 35),
-    BlockValue,
-    Let("f", 16, 12),
-    Variable("x", 2, 38),
-    Variable("f", 1, 45),
-    Method("call", 1, 40),
-    Dot(39),
-    Value,
-];
-
-/// `let x = 1; let f = || x; switch 1 { 1 => x }`
-pub const SHARED_VARIABLE_CHOSEN: &[Part<'_>] = &[
-    Variable("x", 1, 23),
-    Value,
-    Block(1, 23, 23),
-    Function("anon$1", &["x"]),
-    Int(1, 9),
-    Let("x", 5, 1),
-    Share(&[("x", 1, 23)]),
-    Pointer("anon$1", 1, 20),
-    Variable("x", 1, 23),
-    Call("curry", 2, 20),
-    Value,
-    Block(2, 20, 23),
-    BlockValue,
-    Let("f", 16, 12),
-    Int(1, 33),
-    Always,
-    Variable("x", 2, 42),
-    Switch(1, &[Case::OfInt(1, &[0])], &[], None, 26),
-];
-
-/// `let x = 1; let f = || x; switch [x] { 1 => 5, _ => 6 }`
-pub const ARRAY_OF_A_SHARED_VARIABLE_CHOSEN: &[Part<'_>] = &[
-    Variable("x", 1, 23),
-    Value,
-    Block(1, 23, 23),
-    Function("anon$1", &["x"]),
-    Int(1, 9),
-    Let("x", 5, 1),
-    Share(&[("x", 1, 23)]),
-    Pointer("anon$1", 1, 20),
-    Variable("x", 1, 23),
-    Call("curry", 2, 20),
-    Value,
-    Block(2, 20, 23),
-    BlockValue,
-    Let("f", 16, 12),
-    Variable("x", 2, 34),
-    Array(1, 33),
-    Always,
-    Int(5, 44),
-    Always,
-    Int(6, 52),
-    Switch(2, &[Case::OfInt(1, &[0])], &[], Some(1), 26),
-];
-
-/// `const x = 1; let f = || { x = 2; }; f.call()`
-pub const SHARED_CONSTANT_ASSIGNED: &[Part<'_>] = &[
-    Variable("x", 1, 27),
-    Int(2, 31),
-    Assign(29),
-    Block(1, 25, 34),
-    Function("anon$1", &["x"]),
-    Int(1, 11),
-    Const("x", 7, 1),
-    Share(&[("x", 1, 27)]),
-    Pointer("anon$1", 1, 22),
-    Variable("x", 1, 27),
-    Call("curry", 2, 22),
-    Value,
-    Block(2, 22, 34),
-    BlockValue,
-    Let("f", 18, 14),
-    Variable("f", 1, 37),
-    Method("call", 0, 39),
-    Dot(38),
-    Value,
-];
-
-/// `let s = []; for (v, i) in [5, 6] { let f = || { v += 10; i += 100; v }; s = [f.call(), v, i]; } s`
-pub const TURNS_SHARED: &[Part<'_>] = &[
-    Variable("v", 2, 49),
-    Int(10, 54),
-    AssignBy(Token::Plus, 51),
-    Variable("i", 1, 58),
-    Int(100, 63),
-    AssignBy(Token::Plus, 60),
-    Variable("v", 2, 68),
-    Value,
-    Block(3, 47, 70),
-    Function("anon$1", &["v", "i"]),
-    Array(0, 9),
-    Let("s", 5, 1),
-    Int(5, 28),
-    Int(6, 31),
-    Array(2, 27),
-    Share(&[("v", 1, 49), ("i", 2, 58)]),
-    Pointer("anon$1", 2, 44),
-    Variable("v", 1, 49),
-    Variable("i", 2, 58),
-    Call("curry", 3, 44),
-    Value,
-    Block(2, 44, 70),
-    BlockValue,
-    Let("f", 40, 36),
-    Variable("s", 4, 73),
-    Variable("f", 1, 78),
-    Method("call", 0, 80),
-    Dot(79),
-    Variable("v", 2, 88),
-    Variable("i", 3, 91),
-    Array(3, 77),
-    Assign(75),
-    Block(2, 34, 95),
-    ForCounted("v", 18, "i", 21, 13),
-    Variable("s", 1, 97),
     Value,
 ];

@@ -2,8 +2,8 @@
 
 use crate::making::Making;
 use crate::parts::Part::{
-    Array, Assign, AssignBy, Block, BlockValue, Character, Const, Dot, DotUnlessUnit, Index,
-    IndexOn, Int, Let, Map, Method, Ones, Operator, Property, Text, Unit, Value, Variable, While,
+    Array, Assign, AssignBy, Block, BlockValue, Character, Const, Dot, DotUnlessUnit, Index, Int,
+    Let, Map, Ones, Operator, Property, Text, Unit, Value, Variable, While,
 };
 use crate::parts::{Part, statements_of};
 use rhai_tree::Items;
@@ -231,55 +231,6 @@ pub const MISSING_ENTRY: &[Part<'_>] = &[
     Value,
 ];
 
-/// `let m = #{}; m.x += 1;`
-pub const MISSING_ENTRY_INCREASED: &[Part<'_>] = &[
-    Map(&[], 9),
-    Let("m", 5, 1),
-    Variable("m", 1, 14),
-    Property("x", 16),
-    Dot(15),
-    Int(1, 21),
-    AssignBy(Token::Plus, 18),
-];
-
-/// `let a = [1]; a[0].inc(); a[0]`
-pub const METHOD_ON_AN_ITEM: &[Part<'_>] = &[
-    Int(1, 10),
-    Array(1, 9),
-    Let("a", 5, 1),
-    Variable("a", 1, 14),
-    Int(0, 16),
-    Method("inc", 0, 19),
-    Dot(18),
-    IndexOn(15),
-    Value,
-    Variable("a", 1, 26),
-    Int(0, 28),
-    Index(27),
-    Value,
-];
-
-/// `let a = [[1, 2], [3, 4]]; a[0][1] = 5; a`
-pub const ITEM_OF_AN_ITEM_ASSIGNED: &[Part<'_>] = &[
-    Int(1, 11),
-    Int(2, 14),
-    Array(2, 10),
-    Int(3, 19),
-    Int(4, 22),
-    Array(2, 18),
-    Array(2, 9),
-    Let("a", 5, 1),
-    Variable("a", 1, 27),
-    Int(0, 29),
-    Int(1, 32),
-    Index(31),
-    IndexOn(28),
-    Int(5, 37),
-    Assign(35),
-    Variable("a", 1, 40),
-    Value,
-];
-
 /// Builds a loop that increases the first item of an array by a variable, once in a turn or twice.
 /// It is `let a = [1]; let v = 1; let n = 1000000; while n > 0 { a[0] += v; n -= 1; }`, with `turns` instead of the
 /// million.
@@ -308,15 +259,15 @@ pub fn first_item_increased(
     ];
     let decrease = [Variable("n", 1, 67), Int(1, 72), AssignBy(Token::Minus, 69)];
     let mut making = Making::new(alloc);
-    making.add_all(&before)?;
-    making.add_all(&increase)?;
+    making.add_all(&before);
+    making.add_all(&increase);
     if is_twice {
-        making.add_all(&increase)?;
+        making.add_all(&increase);
     }
-    making.add_all(&decrease)?;
-    making.add(Block(if is_twice { 3 } else { 2 }, 54, 75))?;
-    making.add(While(42))?;
-    Ok(making.finish_statements())
+    making.add_all(&decrease);
+    making.add(Block(if is_twice { 3 } else { 2 }, 54, 75));
+    making.add(While(42));
+    making.finish_statements()
 }
 
 /// Builds a loop that increases the last item of an array.

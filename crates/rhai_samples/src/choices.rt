@@ -1,8 +1,6 @@
 //! `switch`.
 
-use crate::parts::Part::{
-    Always, Block, Character, For, Int, Operator, Switch, Text, Truth, Variable,
-};
+use crate::parts::Part::{Always, Block, Character, For, Int, Operator, Switch, Text, Variable};
 use crate::parts::{Case, Part, statements_of, tree_of};
 use rhai_build::functions::TreeParts;
 use rhai_tree::Items;
@@ -92,34 +90,6 @@ pub const CHARACTER_CHOSEN: &[Part<'_>] = &[
         Some(3),
         1,
     ),
-];
-
-/// `switch 1 { 1 if 2 => 3, _ => 4 }`
-pub const INTEGER_AS_A_CONDITION: &[Part<'_>] = &[
-    Int(1, 8),
-    Int(2, 17),
-    Int(3, 22),
-    Always,
-    Int(4, 30),
-    Switch(2, &[Case::OfInt(1, &[0])], &[], Some(1), 1),
-];
-
-/// `switch 1 { 1 if 1 == 1 => 2 }`
-pub const CASE_UNDER_A_TEST: &[Part<'_>] = &[
-    Int(1, 8),
-    Int(1, 17),
-    Int(1, 22),
-    Operator(Token::EqualsTo, 19),
-    Int(2, 27),
-    Switch(1, &[Case::OfInt(1, &[0])], &[], None, 1),
-];
-
-/// `switch 1 { _ if false => 7 }`
-pub const DEFAULT_UNDER_FALSE: &[Part<'_>] = &[
-    Int(1, 8),
-    Truth(false, 17),
-    Int(7, 26),
-    Switch(1, &[], &[], Some(0), 1),
 ];
 
 /// Builds a `for` whose turns have a `switch` of ten cases.

@@ -1,6 +1,6 @@
 //! Texts and arrays, and what is too large.
 
-use crate::parts::Part::{Array, Character, Int, Let, Ones, Operator, Text, Value, Variable};
+use crate::parts::Part::{Array, Int, Let, Ones, Operator, Value};
 use crate::parts::{Part, statements_of};
 use rhai_tree::Items;
 use rhai_tree::expr::Stmt;
@@ -15,19 +15,6 @@ pub const GREATEST_AND_ONE: &[Part<'_>] = &[
     Int(i64::MAX, 1),
     Int(1, 23),
     Operator(Token::Plus, 21),
-    Value,
-];
-
-/// `let t = "x"; [t, 'c', t + "y"]`
-pub const ITEMS_OF_TEXTS: &[Part<'_>] = &[
-    Text("x", 9),
-    Let("t", 5, 1),
-    Variable("t", 1, 15),
-    Character('c', 18),
-    Variable("t", 1, 23),
-    Text("y", 27),
-    Operator(Token::Plus, 25),
-    Array(3, 14),
     Value,
 ];
 

@@ -81,26 +81,6 @@ pub const PARAMETER_ASSIGNED: &[Part<'_>] = &[
     Value,
 ];
 
-/// `fn f() { this += 1; y } let a = [1]; a[0].f();`
-pub const METHOD_THAT_FAILS: &[Part<'_>] = &[
-    This(10),
-    Int(1, 18),
-    AssignBy(Token::Plus, 15),
-    Variable("y", 0, 21),
-    Value,
-    Block(2, 8, 23),
-    Function("f", &[]),
-    Int(1, 34),
-    Array(1, 33),
-    Let("a", 29, 25),
-    Variable("a", 1, 38),
-    Int(0, 40),
-    Method("f", 0, 43),
-    Dot(42),
-    IndexOn(39),
-    Value,
-];
-
 /// `fn e() {} e()`
 pub const EMPTY_FUNCTION: &[Part<'_>] = &[
     Block(0, 8, 9),
@@ -148,16 +128,6 @@ pub const CALLS_WITHOUT_END: &[Part<'_>] = &[
     Function("f", &["n"]),
     Int(0, 22),
     Call("f", 1, 20),
-    Value,
-];
-
-/// `fn f() { 1 } f()`
-pub const FUNCTION_OF_ONE: &[Part<'_>] = &[
-    Int(1, 10),
-    Value,
-    Block(1, 8, 12),
-    Function("f", &[]),
-    Call("f", 0, 14),
     Value,
 ];
 

@@ -2,8 +2,7 @@
 
 use crate::parts::Part;
 use crate::parts::Part::{
-    AssignBy, Block, BlockStatement, BlockValue, Call, Function, Import, ImportAs, Int, Let,
-    Operator, PrivateFunction, Text, ThrowValue, Try, Value, Variable,
+    AssignBy, Block, Call, Function, ImportAs, Int, PrivateFunction, Text, Value, Variable,
 };
 use rhai_tree::token::Token;
 
@@ -57,123 +56,13 @@ pub const IMPORTED: &[Part<'_>] = &[
     Value,
 ];
 
-/// `import "m" as z; import "n" as y; glo()`
-pub const NEWEST_IMPORTED: &[Part<'_>] = &[
-    Text("m", 8),
-    ImportAs("z", 15, 1),
-    Text("n", 25),
-    ImportAs("y", 32, 18),
-    Call("glo", 0, 35),
-    Value,
-];
-
-/// `fn f() { import "m" as z; glo() } f() + f()`
-pub const IMPORTED_IN_A_FUNCTION: &[Part<'_>] = &[
-    Text("m", 17),
-    ImportAs("z", 24, 10),
-    Call("glo", 0, 27),
-    Value,
-    Block(2, 8, 33),
-    Function("f", &[]),
-    Call("f", 0, 35),
-    Call("f", 0, 41),
-    Operator(Token::Plus, 39),
-    Value,
-];
-
-/// `import { nope() } as z;`
-pub const IMPORTED_BY_A_BLOCK: &[Part<'_>] = &[
-    Call("nope", 0, 10),
-    Value,
-    Block(1, 8, 17),
-    BlockValue,
-    ImportAs("z", 22, 1),
-];
-
-/// `{ import "m" as z; } import "m" as y; 1`
-pub const IMPORTED_AFTER_A_BLOCK: &[Part<'_>] = &[
-    Text("m", 10),
-    ImportAs("z", 17, 3),
-    Block(1, 1, 20),
-    BlockStatement,
-    Text("m", 29),
-    ImportAs("y", 36, 22),
-    Int(1, 39),
-    Value,
-];
-
-/// `try { import "m" as z; import "m" as y; } catch { 1 }`
-pub const IMPORTED_TWICE_IN_A_TRY: &[Part<'_>] = &[
-    Text("m", 14),
-    ImportAs("z", 21, 7),
-    Text("m", 31),
-    ImportAs("y", 38, 24),
-    Block(2, 5, 41),
-    Int(1, 51),
-    Value,
-    Block(1, 49, 53),
-    Try(1),
-];
-
 /// `import "no" as z;`
 pub const UNKNOWN_IMPORTED: &[Part<'_>] = &[Text("no", 8), ImportAs("z", 16, 1)];
-
-/// `import 1 as z;`
-pub const INTEGER_IMPORTED: &[Part<'_>] = &[Int(1, 8), ImportAs("z", 13, 1)];
-
-/// `{ import "m" as z; } glo()`
-pub const CALLED_AFTER_A_BLOCK: &[Part<'_>] = &[
-    Text("m", 10),
-    ImportAs("z", 17, 3),
-    Block(1, 1, 20),
-    BlockStatement,
-    Call("glo", 0, 22),
-    Value,
-];
 
 /// `import "m" as z; two()`
 pub const UNMARKED_CALLED: &[Part<'_>] = &[
     Text("m", 8),
     ImportAs("z", 15, 1),
     Call("two", 0, 18),
-    Value,
-];
-
-/// `import "m" as z; hid()`
-pub const PRIVATE_CALLED: &[Part<'_>] = &[
-    Text("m", 8),
-    ImportAs("z", 15, 1),
-    Call("hid", 0, 18),
-    Value,
-];
-
-/// `import "m"; glo()`
-pub const IMPORTED_WITHOUT_AN_ALIAS: &[Part<'_>] = &[
-    Text("m", 8),
-    Import(1),
-    Call("glo", 0, 13),
-    Value,
-];
-
-/// `let p = "m"; import p as z; glo()`
-pub const IMPORTED_BY_A_VARIABLE: &[Part<'_>] = &[
-    Text("m", 9),
-    Let("p", 5, 1),
-    Variable("p", 1, 21),
-    ImportAs("z", 26, 14),
-    Call("glo", 0, 29),
-    Value,
-];
-
-/// `try { import "m" as z; throw 1; } catch {} glo()`
-pub const CALLED_AFTER_A_TRY: &[Part<'_>] = &[
-    Text("m", 14),
-    ImportAs("z", 21, 7),
-    Int(1, 30),
-    ThrowValue(24),
-    Block(2, 5, 33),
-    Block(0, 41, 42),
-    Try(1),
-    Call("glo", 0, 44),
     Value,
 ];

@@ -1,9 +1,8 @@
-//! Trees of the worked examples, each of the text that stands above it: lists of their parts (`parts`), or what
-//! the builder makes (`built`).
+//! Trees of the worked examples, each of the text that stands above it: lists of their parts (`parts`), what the builder
+//! makes (`built`), or lines of a file (`read`).
 #![tactic(auto)]
 
 pub mod built;
-pub mod called;
 pub mod calls;
 pub mod caught;
 pub mod cells;
@@ -12,17 +11,16 @@ pub mod checked;
 pub mod choices;
 pub mod constants;
 pub mod data;
-pub mod exports;
 pub mod functions;
 pub mod globals;
 pub mod imports;
 pub mod loops;
 mod making;
 pub mod operators;
-pub mod order;
 pub mod pairs;
 pub mod parts;
 pub mod paths;
+pub mod read;
 pub mod refused;
 pub mod thrown;
 pub mod variables;

@@ -1,9 +1,6 @@
 //! Loops, and what ends them early.
 
-use crate::parts::Part::{
-    AssignBy, Block, BlockValue, Break, BreakWith, Call, Int, Let, Loop, Operator, Value, Variable,
-    While,
-};
+use crate::parts::Part::{AssignBy, Block, Call, Int, Let, Loop, Operator, Value, Variable, While};
 use crate::parts::{Part, statements_of};
 use rhai_tree::Items;
 use rhai_tree::expr::Stmt;
@@ -28,24 +25,6 @@ pub const THREE_TURNS: &[Part<'_>] = &[
     Variable("n", 1, 36),
     Value,
 ];
-
-/// `let x = loop { break 7; }; x + 1`
-pub const VALUE_OF_A_LOOP: &[Part<'_>] = &[
-    Int(7, 22),
-    BreakWith(16),
-    Block(1, 14, 25),
-    Loop(9),
-    Block(1, 9, 25),
-    BlockValue,
-    Let("x", 5, 1),
-    Variable("x", 1, 28),
-    Int(1, 32),
-    Operator(Token::Plus, 30),
-    Value,
-];
-
-/// `break;`
-pub const BREAK_AT_THE_TOP: &[Part<'_>] = &[Break(1)];
 
 /// Builds a loop that calls a native of one argument.
 /// It is `let n = 1000000; while n > 0 { double(n); n -= 1; }`, with `turns` instead of the million.

@@ -113,13 +113,13 @@ pub enum Case<'a> {
 /// Builds the statements of a tree without functions.
 pub fn statements_of(alloc: Global, parts: &[Part<'_>]) -> Result<Items<Stmt>, AllocError> {
     let mut making = Making::new(alloc);
-    making.add_all(parts)?;
-    Ok(making.finish_statements())
+    making.add_all(parts);
+    making.finish_statements()
 }
 
 /// Builds the statements of a tree and the functions beside them.
 pub fn tree_of(alloc: Global, parts: &[Part<'_>]) -> Result<TreeParts, AllocError> {
     let mut making = Making::new(alloc);
-    making.add_all(parts)?;
-    Ok(making.finish())
+    making.add_all(parts);
+    making.finish()
 }

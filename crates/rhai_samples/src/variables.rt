@@ -1,9 +1,7 @@
 //! Variables and blocks.
 
 use crate::parts::Part;
-use crate::parts::Part::{
-    Assign, Block, BlockStatement, Const, IfElse, Int, Let, Operator, Value, Variable,
-};
+use crate::parts::Part::{Block, BlockStatement, IfElse, Int, Let, Operator, Value, Variable};
 use rhai_tree::token::Token;
 
 /// `let x = 40; { let x = 1; } if x == 40 { x + 2 } else { 0 }`
@@ -38,13 +36,4 @@ pub const HIDDEN_IN_A_BLOCK: &[Part<'_>] = &[
     BlockStatement,
     Variable("x", 1, 27),
     Value,
-];
-
-/// `const C = 1; C = 2;`
-pub const ASSIGNMENT_TO_CONSTANT: &[Part<'_>] = &[
-    Int(1, 11),
-    Const("C", 7, 1),
-    Variable("C", 1, 14),
-    Int(2, 18),
-    Assign(16),
 ];

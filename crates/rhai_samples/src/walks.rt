@@ -1,8 +1,8 @@
 //! `for`, over ranges, arrays and texts.
 
 use crate::parts::Part::{
-    Array, Assign, AssignBy, Block, Call, Continue, For, ForCounted, If, Int, Let, Ones, Operator,
-    Text, Value, Variable,
+    Array, Assign, AssignBy, Block, For, ForCounted, Int, Let, Ones, Operator, Text, Value,
+    Variable,
 };
 use crate::parts::{Part, statements_of};
 use rhai_tree::Items;
@@ -62,77 +62,6 @@ pub const EMPTY_RANGE_WALKED: &[Part<'_>] = &[
     Operator(Token::ExclusiveRange, 11),
     Block(0, 15, 16),
     For("v", 5, 1),
-];
-
-/// `let n = 0; for x in 9223372036854775806..=9223372036854775807 { n += 1; } n`
-pub const GREATEST_INTEGERS_WALKED: &[Part<'_>] = &[
-    Int(0, 9),
-    Let("n", 5, 1),
-    Int(i64::MAX - 1, 21),
-    Int(i64::MAX, 43),
-    Operator(Token::InclusiveRange, 40),
-    Variable("n", 2, 65),
-    Int(1, 70),
-    AssignBy(Token::Plus, 67),
-    Block(1, 63, 73),
-    For("x", 16, 12),
-    Variable("n", 1, 75),
-    Value,
-];
-
-/// `for x in 1..=3 {}`
-pub const THREE_EMPTY_TURNS: &[Part<'_>] = &[
-    Int(1, 10),
-    Int(3, 14),
-    Operator(Token::InclusiveRange, 11),
-    Block(0, 16, 17),
-    For("x", 5, 1),
-];
-
-/// `for x in 1 + 1 {}`
-pub const SUM_WALKED: &[Part<'_>] = &[
-    Int(1, 10),
-    Int(1, 14),
-    Operator(Token::Plus, 12),
-    Block(0, 16, 17),
-    For("x", 5, 1),
-];
-
-/// `for x in nope() {}`
-pub const UNKNOWN_CALL_WALKED: &[Part<'_>] = &[
-    Call("nope", 0, 10),
-    Block(0, 17, 18),
-    For("x", 5, 1),
-];
-
-/// `let n = 0; for (x, i) in 5..8 { if i == 1 { continue; } n = n * 100 + x * 10 + i; } n`
-pub const ITEM_SKIPPED: &[Part<'_>] = &[
-    Int(0, 9),
-    Let("n", 5, 1),
-    Int(5, 26),
-    Int(8, 29),
-    Operator(Token::ExclusiveRange, 27),
-    Variable("i", 2, 36),
-    Int(1, 41),
-    Operator(Token::EqualsTo, 38),
-    Continue(45),
-    Block(1, 43, 55),
-    If(33),
-    Variable("n", 3, 57),
-    Variable("n", 3, 61),
-    Int(100, 65),
-    Operator(Token::Multiply, 63),
-    Variable("x", 1, 71),
-    Int(10, 75),
-    Operator(Token::Multiply, 73),
-    Operator(Token::Plus, 69),
-    Variable("i", 2, 80),
-    Operator(Token::Plus, 78),
-    Assign(59),
-    Block(2, 31, 83),
-    ForCounted("x", 17, "i", 20, 12),
-    Variable("n", 1, 85),
-    Value,
 ];
 
 /// Builds a `for` that sums up a range.

@@ -7,14 +7,15 @@ use crate::trees;
 use rhai_check::check::CheckFault;
 use rhai_tree::position::Position;
 
-/// Writes a fault of the checker, an operator, or what a tree is refused for. The call is `fault NAME
-/// POSITION`, `operator OP` or `check TREE`.
+/// Writes a fault of the checker, an operator, or what a tree or a function is refused for. The call is `fault
+/// NAME POSITION`, `operator OP`, `check TREE`, or `function TREE` for one that has the tree for its body.
 pub fn answer(line: &mut Reader<'_>, out: &mut Sheet) {
     match line.word() {
         "fault" => out.fault(fault(line)),
         "operator" => out.write(operator(line).as_str()),
         "check" => trees::answer(line, out),
-        _ => line.want("fault, operator or check"),
+        "function" => trees::answer_of_function(line, out),
+        _ => line.want("fault, operator, check or function"),
     }
 }
 

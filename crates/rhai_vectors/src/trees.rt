@@ -3,14 +3,17 @@
 use crate::modules;
 use crate::reader::Reader;
 use crate::sheet::Sheet;
-use rhai_check::check::{CheckFault, check_tree};
+use rhai_build::functions::script_function;
+use rhai_check::check::{CheckFault, check_function, check_tree};
 use rhai_samples::built::{dot_that_ends_and_goes_on, method_of_a_module};
 use rhai_samples::parts::statements_of;
 use rhai_samples::refused::{
     INTEGER_ASSIGNED, INTEGER_BEHIND_A_DOT, METHOD_ASSIGNED, PROPERTY_ALONE,
 };
 use rhai_tree::Items;
-use rhai_tree::expr::Stmt;
+use rhai_tree::expr::{Stmt, StmtBlock};
+use rhai_tree::function::{FnAccess, ScriptFuncDef};
+use rhai_tree::position::Position;
 use std::alloc::{AllocError, Global};
 
 /// Writes the fault for which the checker refuses the tree of a name, and its position, or that it passed.
@@ -20,6 +23,32 @@ pub fn answer(line: &mut Reader<'_>, out: &mut Sheet) {
         Ok(Some(statements)) => check(line, statements, out),
         Ok(None) => line.want("the name of a tree"),
         Err(AllocError) => line.lack_memory(),
+    }
+}
+
+/// Writes why the checker refuses a function whose body is the tree of a name, or that it passed.
+pub fn answer_of_function(line: &mut Reader<'_>, out: &mut Sheet) {
+    let alloc = line.allocator();
+    let name = line.word();
+    match function_of(alloc, name) {
+        Ok(Some(def)) => tell(line, check_function(alloc, def).err(), out),
+        Ok(None) => line.want("the name of a tree"),
+        Err(AllocError) => line.lack_memory(),
+    }
+}
+
+/// Builds a function that has the tree of a name for its body.
+fn function_of(alloc: Global, name: &str) -> Result<Option<ScriptFuncDef>, AllocError> {
+    match tree_of(alloc, name)? {
+        Some(statements) => {
+            let body = StmtBlock {
+                statements,
+                position: Position::NONE,
+                end_position: Position::NONE,
+            };
+            script_function(alloc, FnAccess::Public, None, "f", &[], body).map(Some)
+        }
+        None => Ok(None),
     }
 }
 
@@ -54,7 +83,13 @@ fn tree_with_modules(alloc: Global, name: &str) -> Result<Option<Items<Stmt>>, A
 
 fn check(line: &mut Reader<'_>, statements: Items<Stmt>, out: &mut Sheet) {
     let alloc = line.allocator();
-    match check_tree(alloc, statements, Items::new(alloc)).err() {
+    let fault = check_tree(alloc, statements, Items::new(alloc)).err();
+    tell(line, fault, out);
+}
+
+/// Writes a fault, or that there was none.
+fn tell(line: &mut Reader<'_>, fault: Option<CheckFault>, out: &mut Sheet) {
+    match fault {
         None => out.write("passed"),
         Some(CheckFault::NoMemory) => line.lack_memory(),
         Some(fault) => out.fault(fault),

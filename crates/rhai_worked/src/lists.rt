@@ -1,63 +1,115 @@
-//! The lists of scripts that a program runs.
+//! The scripts that no row has: lines of a file, as `tree kept 1 = int 1 10, array 1 9, let a 5 1`.
 
-use crate::scripts::{write_number, write_ways};
-use rhai_rows::runner::Runner;
-use rhai_rows::sample::Sample;
-use std::alloc::Global;
+mod setting;
+
+use crate::lists::setting::setting_of;
+use rhai_build::functions::TreeParts;
+use rhai_rows::sample::Script;
+use rhai_rows::settings::Setting;
+use rhai_samples::read::{Fault, read_tree};
+use std::alloc::{AllocError, Global};
 use std::io;
 use std::io::Write;
 
-/// The lists of a program. What they refer to is in the program then, and nothing else is.
-pub trait Lists {
-    /// Finds the scripts of a list, None where there is none of its name.
-    fn scripts_of(list: &str) -> Option<&'static [Sample]>;
+/// The name of the file, in the folder where the program runs.
+pub const FILE: &str = "lists.txt";
 
-    /// Returns the lists whose scripts run with their requests for memory refused.
-    fn refused() -> &'static [&'static str];
+/// A script of a list, as its line tells it.
+#[derive(Clone, Copy)]
+pub struct Listed<'a> {
+    pub list: &'a str,
+    /// Its number in the list, counted from 1.
+    pub number: usize,
+    setting: Setting,
+    /// The parts of its tree.
+    tree: &'a str,
 }
 
-/// Writes the answer of a call:
-///
-/// - `scripts LIST`: how many scripts a list has
-/// - `ends LIST N`, `charges LIST N`, `leaves LIST N`, `says LIST N`: the line of a script of a list, counted
-///   from 1, its operations, its variables, and what its error says beside its position
-/// - `fixes LIST N`, `shares LIST N`, `exports LIST N`, `reads LIST N`: the names of its constants, the
-///   values of its cells, its variables with their aliases, and its error as a user reads it
-/// - `loads LIST N`, `imports LIST N`: how many modules it loads, and the names of the imports that it leaves
-/// - `above ends LIST N` and so on: what is answered above a scope of 300 other variables
-pub fn write_answer<L: Lists, R: Runner>(
-    alloc: Global,
-    call: &str,
-    out: &mut Vec<u8>,
-) -> io::Result<()> {
-    let (form, rest) = call.split_once(' ').unwrap_or((call, ""));
-    match form {
-        "scripts" => write_number(L::scripts_of(rest), out),
-        "above" => {
-            let (form, rest) = rest.split_once(' ').unwrap_or((rest, ""));
-            write_one::<L, R>(alloc, 300, form, rest, out)
+impl<'a> Listed<'a> {
+    /// Reads what stands behind `tree` in a line.
+    fn read(line: &'a str) -> Result<Listed<'a>, Fault> {
+        let Some((name, tree)) = line.split_once(" = ") else {
+            return Err(Fault::Wanted("a tree after ` = `"));
+        };
+        let (list, rest) = name.split_once(' ').unwrap_or((name, ""));
+        let (number, setting) = rest.split_once(' ').unwrap_or((rest, ""));
+        let number = number.parse().unwrap_or(0);
+        match setting_of(setting) {
+            Some(setting) if number > 0 => Ok(Listed {
+                list,
+                number,
+                setting,
+                tree,
+            }),
+            Some(_) => Err(Fault::Wanted("a number in the list")),
+            None => Err(Fault::Wanted("a setting, or none,")),
         }
-        _ => write_one::<L, R>(alloc, 0, form, rest, out),
+    }
+
+    /// Makes the script, or says that memory ran out.
+    pub fn script(self, alloc: Global) -> Result<Script, AllocError> {
+        // The line was read before, so there is no other fault.
+        let Ok(tree) = read_tree(alloc, self.tree) else {
+            return Err(AllocError);
+        };
+        let TreeParts {
+            statements,
+            functions,
+        } = tree;
+        Ok(Script {
+            statements,
+            functions,
+            settings: self.setting.settings(),
+        })
+    }
+
+    /// Tells whether its requests for memory are refused: not where it is there for the checker alone.
+    pub fn is_refused(self) -> bool {
+        self.list != "checked" && self.list != "outside"
     }
 }
 
-/// Writes what a script, as `26 1`, comes to above so many other variables.
-fn write_one<L: Lists, R: Runner>(
+/// Finds the script with a number in a list.
+pub fn find<'a>(scripts: &[Listed<'a>], list: &str, number: usize) -> Option<Listed<'a>> {
+    scripts
+        .iter()
+        .copied()
+        .find(|script| script.list == list && script.number == number)
+}
+
+/// Reads the trees among the lines of a file. Tells each that cannot be read, or whose name is given before, and
+/// answers None where there is one.
+pub fn read<'a, W: Write>(
     alloc: Global,
-    others: usize,
-    form: &str,
-    name: &str,
-    out: &mut Vec<u8>,
-) -> io::Result<()> {
-    let (list, number) = name.split_once(' ').unwrap_or((name, ""));
-    match sample_at(L::scripts_of(list), number) {
-        Some(sample) => write_ways::<R>(alloc, others, form, list, sample, out),
-        None => write!(out, "no script"),
+    lines: &'a str,
+    out: &mut W,
+) -> io::Result<Option<Vec<Listed<'a>>>> {
+    let mut scripts = Vec::new(alloc);
+    let mut is_well = true;
+    for (at, line) in lines.lines().enumerate() {
+        let Some(line) = line.strip_prefix("tree ") else {
+            continue;
+        };
+        match read_line(alloc, line, scripts.as_slice()) {
+            Ok(script) => scripts.push(script)?,
+            Err(Fault::NoMemory) => return Err(io::Error::from(AllocError)),
+            Err(Fault::Wanted(wanted)) => {
+                is_well = false;
+                let number = at.saturating_add(1);
+                writeln!(&mut *out, "{FILE}:{number}: {wanted} is wanted")?;
+            }
+        }
     }
+    Ok(if is_well { Some(scripts) } else { None })
 }
 
-/// Finds the script with a number among those of a list, counted from 1.
-fn sample_at(scripts: Option<&'static [Sample]>, number: &str) -> Option<Sample> {
-    let number: usize = number.parse().unwrap_or(0);
-    scripts?.get(number.checked_sub(1)?).copied()
+/// Reads a line behind those that were read before, with its tree.
+fn read_line<'a>(alloc: Global, line: &'a str, before: &[Listed<'a>]) -> Result<Listed<'a>, Fault> {
+    let script = Listed::read(line)?;
+    if find(before, script.list, script.number).is_some() {
+        return Err(Fault::Wanted("a name that is not given before"));
+    }
+    let tree = read_tree(alloc, script.tree)?;
+    drop(tree);
+    Ok(script)
 }

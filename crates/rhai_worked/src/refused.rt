@@ -1,21 +1,29 @@
-//! Runs each script of a program's lists in each way, first with all memory granted, and then with the first,
-//! the second, the third .. request for memory refused, alone and with all after it, until none is left to
-//! refuse, and sees to what holds after each run. Refusing needs something outside of the program; without it
+//! Runs each script of the rows and the lists in each way, first with all memory granted, and then with the
+//! first, the second, the third .. request for memory refused, alone and with all after it, until none is left
+//! to refuse, and sees to what holds after each run. Refusing needs something outside of the program; without it
 //! all memory is granted in every run.
 
 mod chain;
 mod part;
 mod refuser;
 
-use crate::lists::Lists;
+use crate::lists::Listed;
 use crate::refused::part::{Part, Report};
 use crate::refused::refuser::Refusal;
+use crate::scripts::Source;
+use rhai_rows::rows::scripts_of;
 use rhai_rows::runner::Runner;
-use rhai_rows::sample::Sample;
 use rhai_rows::settings::Way;
 use std::alloc::Global;
 use std::io;
 use std::io::Write;
+
+/// The rows whose requests are refused: all but 3, which calls too often, and 25, which has no scripts.
+const ROWS: [&str; 37] = [
+    "1", "2", "4", "5", "6", "7", "8", "9", "10", "11", "12", "13", "14", "15", "16", "17", "18",
+    "19", "20", "21", "22", "23", "24", "26", "27", "28", "29", "30", "31", "32", "33", "34", "35",
+    "36", "37", "38", "39",
+];
 
 /// How many parts, runs, refusals and faults there were.
 #[derive(Clone, Copy, Default)]
@@ -32,31 +40,65 @@ struct Tally {
     wrong: u64,
 }
 
-/// Prints what does not hold after a run, and how many runs there were. Tells whether all holds.
-pub fn are_all_well<L: Lists, R: Runner, W: Write>(alloc: Global, out: &mut W) -> io::Result<bool> {
+/// Prints what does not hold after a run, and how many runs there were, of the rows and of the lists. Tells whether
+/// all holds.
+pub fn are_all_well<R: Runner, W: Write>(
+    alloc: Global,
+    lists: &[Listed<'_>],
+    out: &mut W,
+) -> io::Result<bool> {
+    let rows = tally_rows::<R, _>(alloc, &mut *out)?;
+    rows.write("rows", &mut *out)?;
+    let lists = tally_lists::<R, _>(alloc, lists, &mut *out)?;
+    lists.write("lists", &mut *out)?;
+    Ok(rows.wrong == 0 && lists.wrong == 0)
+}
+
+/// Runs the scripts of the rows, and the assignment through a chain.
+fn tally_rows<R: Runner, W: Write>(alloc: Global, out: &mut W) -> io::Result<Tally> {
     let mut tally = Tally::default();
-    for list in L::refused() {
-        if let Some(scripts) = L::scripts_of(*list) {
-            run_list::<R, _>(alloc, *list, scripts, &mut tally, &mut *out)?;
-        }
+    for row in ROWS {
+        run_row::<R, _>(alloc, row, &mut tally, &mut *out)?;
     }
     for refusal in Refusal::BOTH {
         run_chain::<R, _>(alloc, refusal, &mut tally, &mut *out)?;
     }
-    tally.write(&mut *out)?;
-    Ok(tally.wrong == 0)
+    Ok(tally)
+}
+
+/// Runs the scripts of the lists, but for those that are there for the checker alone.
+fn tally_lists<R: Runner, W: Write>(
+    alloc: Global,
+    lists: &[Listed<'_>],
+    out: &mut W,
+) -> io::Result<Tally> {
+    let mut tally = Tally::default();
+    for &script in lists {
+        if script.is_refused() {
+            let source = Source::List(script);
+            run_script::<R, _>(
+                alloc,
+                script.list,
+                script.number,
+                source,
+                &mut tally,
+                &mut *out,
+            )?;
+        }
+    }
+    Ok(tally)
 }
 
 impl Tally {
-    fn write<W: Write>(&self, out: &mut W) -> io::Result<()> {
+    fn write<W: Write>(&self, name: &str, out: &mut W) -> io::Result<()> {
         writeln!(
             out,
-            "{} parts, {} runs, {} requests refused",
+            "{name}: {} parts, {} runs, {} requests refused",
             self.parts, self.runs, self.refused
         )?;
         writeln!(
             out,
-            "{} not reached, {} out of memory, {} unharmed, {} wrong",
+            "{name}: {} not reached, {} out of memory, {} unharmed, {} wrong",
             self.not_made, self.ran_out, self.unharmed, self.wrong
         )
     }
@@ -65,7 +107,7 @@ impl Tally {
     /// refused in it, or 0.
     fn tell<W: Write>(
         &mut self,
-        part: Part,
+        part: Part<'_>,
         refusal: Refusal,
         number: usize,
         wrong: Option<&'static str>,
@@ -81,33 +123,46 @@ impl Tally {
             way,
             ..
         } = part;
-        writeln!(
-            out,
-            "{list} part {place} {way:?} {refusal:?} {number}: {what}"
-        )
+        writeln!(out, "{list} {place} {way:?} {refusal:?} {number}: {what}")
     }
 }
 
-/// Runs the scripts of a list, each in each way, with their requests refused in turn.
-fn run_list<R: Runner, W: Write>(
+/// Runs the scripts of a row.
+fn run_row<R: Runner, W: Write>(
     alloc: Global,
-    list: &'static str,
-    scripts: &[Sample],
+    row: &str,
     tally: &mut Tally,
     out: &mut W,
 ) -> io::Result<()> {
-    for (place, sample) in scripts.iter().enumerate() {
-        tally.parts = tally.parts.saturating_add(1);
-        for way in Way::ALL {
-            let part = Part {
-                list,
-                place,
-                sample: *sample,
-                way,
-            };
-            for refusal in Refusal::BOTH {
-                run_part::<R, _>(alloc, part, refusal, tally, out)?;
-            }
+    let Some(scripts) = scripts_of(row) else {
+        return Ok(());
+    };
+    for (at, sample) in scripts.iter().enumerate() {
+        let source = Source::Row(*sample);
+        run_script::<R, _>(alloc, row, at.saturating_add(1), source, tally, out)?;
+    }
+    Ok(())
+}
+
+/// Runs a script in each way, with its requests refused in turn.
+fn run_script<R: Runner, W: Write>(
+    alloc: Global,
+    list: &str,
+    place: usize,
+    source: Source<'_>,
+    tally: &mut Tally,
+    out: &mut W,
+) -> io::Result<()> {
+    tally.parts = tally.parts.saturating_add(1);
+    for way in Way::ALL {
+        let part = Part {
+            list,
+            place,
+            source,
+            way,
+        };
+        for refusal in Refusal::BOTH {
+            run_part::<R, _>(alloc, part, refusal, tally, out)?;
         }
     }
     Ok(())
@@ -116,7 +171,7 @@ fn run_list<R: Runner, W: Write>(
 /// Runs a script with all memory granted, and with its requests refused in turn.
 fn run_part<R: Runner, W: Write>(
     alloc: Global,
-    part: Part,
+    part: Part<'_>,
     refusal: Refusal,
     tally: &mut Tally,
     out: &mut W,

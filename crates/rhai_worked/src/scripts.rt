@@ -1,21 +1,57 @@
-//! What scripts come to.
+//! Scripts of rows and of lists, and what they come to.
 
+use crate::lists::{Listed, find};
 use rhai_eval_base::base::{AccessMode, Dynamic, Scope, Union};
 use rhai_rows::linked_pointer::scope_for;
 use rhai_rows::outcomes::write_outcome;
+use rhai_rows::rows::scripts_of;
 use rhai_rows::runner::Runner;
-use rhai_rows::sample::Sample;
+use rhai_rows::sample::{Sample, Script};
 use rhai_rows::settings::Way;
 use rhai_tables::host::Pair;
 use std::alloc::{AllocError, Global};
 use std::io;
 use std::io::Write;
 
-/// Writes how many scripts a list has.
-pub fn write_number(scripts: Option<&[Sample]>, out: &mut Vec<u8>) -> io::Result<()> {
-    match scripts {
-        Some(scripts) => write!(out, "{}", scripts.len()),
-        None => write!(out, "no list"),
+/// Where a script comes from.
+#[derive(Clone, Copy)]
+pub enum Source<'a> {
+    Row(Sample),
+    List(Listed<'a>),
+}
+
+impl Source<'_> {
+    /// Makes the script, or says that memory ran out.
+    pub fn script(self, alloc: Global) -> Result<Script, AllocError> {
+        match self {
+            Source::Row(sample) => sample.script(alloc),
+            Source::List(listed) => listed.script(alloc),
+        }
+    }
+}
+
+/// Finds the script with a number in a row or a list, counted from 1.
+pub fn script_named<'a>(lists: &[Listed<'a>], list: &str, number: &str) -> Option<Source<'a>> {
+    let number: usize = number.parse().unwrap_or(0);
+    match scripts_of(list) {
+        Some(row) => row
+            .get(number.checked_sub(1)?)
+            .map(|sample| Source::Row(*sample)),
+        None => find(lists, list, number).map(|listed| Source::List(listed)),
+    }
+}
+
+/// Counts the scripts of a row or a list, None where none has the name.
+pub fn count_of(lists: &[Listed<'_>], list: &str) -> Option<usize> {
+    match scripts_of(list) {
+        Some(row) => Some(row.len()),
+        None => {
+            let scripts = lists.iter().filter(|script| script.list == list);
+            match scripts.count() {
+                0 => None,
+                count => Some(count),
+            }
+        }
     }
 }
 
@@ -26,13 +62,13 @@ pub fn write_ways<R: Runner>(
     others: usize,
     form: &str,
     list: &str,
-    sample: Sample,
+    source: Source<'_>,
     out: &mut Vec<u8>,
 ) -> io::Result<()> {
-    write_way::<R>(alloc, others, form, list, sample, Way::USUAL, out)?;
+    write_way::<R>(alloc, others, form, list, source, Way::USUAL, out)?;
     for way in Way::ALL {
         let mut other = Vec::new(alloc);
-        write_way::<R>(alloc, others, form, list, sample, way, &mut other)?;
+        write_way::<R>(alloc, others, form, list, source, way, &mut other)?;
         if other.as_slice() != out.as_slice() {
             write!(out, " or ")?;
             out.write_all(other.as_slice())?;
@@ -47,11 +83,11 @@ fn write_way<R: Runner>(
     others: usize,
     form: &str,
     list: &str,
-    sample: Sample,
+    source: Source<'_>,
     way: Way,
     out: &mut Vec<u8>,
 ) -> io::Result<()> {
-    let script = sample.script(alloc)?;
+    let script = source.script(alloc)?;
     let outcome = R::run_above(alloc, script, way, scope_of(alloc, others, list)?)?;
     let wrote = write_outcome(alloc, others, form, &outcome, out);
     drop(outcome);

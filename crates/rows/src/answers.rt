@@ -1,6 +1,5 @@
 //! What the calls of lines answer.
 
-use crate::numbered::Numbered;
 use crate::program::{write_refusals, write_run};
 use rhai_bench::Bench;
 use rhai_bench::searches::write_search;
@@ -9,7 +8,8 @@ use rhai_hosted::handles::write_handled;
 use rhai_rows::errors::write_shown;
 use rhai_rows::signatures::write_told;
 use rhai_rows::values::write_sample;
-use rhai_worked::lists;
+use rhai_worked::answers;
+use rhai_worked::lists::Listed;
 use std::alloc::Global;
 use std::io;
 use std::io::Write;
@@ -26,14 +26,20 @@ use std::io::Write;
 /// - `shows VARIANT [PART] ..`: an error as a user reads it; behind `nowhere`, without its position
 /// - `tells metadata`, `tells signature`, `tells surroundings`: what is told of a function without its
 ///   body, and what it finds around it
-/// - `ends 26 1` and so on: what is told of a script of a row, counted from 1 (`rhai_worked::lists`)
-pub fn answer(alloc: Global, call: &str) -> io::Result<Vec<u8>> {
+/// - `faults [LINE] ..`: what is told of the lines of a file of lists, with `: ` for ` = `
+/// - `ends 26 1` and so on: what is told of a script of a row, counted from 1 (`rhai_worked::answers`)
+pub fn answer(alloc: Global, lists: &[Listed<'_>], call: &str) -> io::Result<Vec<u8>> {
     let mut out = Vec::new(alloc);
-    write_answer(alloc, call, &mut out)?;
+    write_answer(alloc, lists, call, &mut out)?;
     Ok(out)
 }
 
-fn write_answer(alloc: Global, call: &str, out: &mut Vec<u8>) -> io::Result<()> {
+fn write_answer(
+    alloc: Global,
+    lists: &[Listed<'_>],
+    call: &str,
+    out: &mut Vec<u8>,
+) -> io::Result<()> {
     let (form, rest) = call.split_once(' ').unwrap_or((call, ""));
     match form {
         "run" => write_run(alloc, rest, out),
@@ -45,6 +51,7 @@ fn write_answer(alloc: Global, call: &str, out: &mut Vec<u8>) -> io::Result<()> 
         "handles" => write_handled::<Bench>(alloc, rest, out),
         "shows" => write_shown(alloc, rest, out),
         "tells" => write_told(alloc, rest, out),
-        _ => lists::write_answer::<Numbered, Bench>(alloc, call, out),
+        "faults" => answers::write_faults(alloc, rest, out),
+        _ => answers::write_answer::<Bench>(alloc, lists, call, out),
     }
 }

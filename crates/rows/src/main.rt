@@ -1,24 +1,100 @@
-//! Compares what the scripts of the rows, the program `tree_run` and a host's own calls come to with a file of
-//! worked lines, as `ends 26 1 = ok 42`, and what the functions of the leaves answer with files of worked vectors,
-//! as `binary + 1 2 = 3`. Then it runs the scripts with all memory granted, and, where something outside of the
-//! program refuses memory, with each request of theirs refused in turn, and sees to what holds after each.
+//! Compares what scripts, the program `tree_run` and a host's own calls come to with files of worked lines, as
+//! `ends 26 1 = ok 42`, and what the functions of the leaves answer with files of worked vectors, as
+//! `binary + 1 2 = 3`. Then it times a function that calls itself, and runs the scripts with all memory granted. The
+//! files stand in the folder where the program runs; one of them has scripts that no row has. The status is 1 where a
+//! line differs or cannot be read, or where something does not hold.
 //!
-//! The files stand in the folder of the first argument, or where the program runs. After `refused` nothing is
-//! compared.
+//! - `rows refused` compares nothing. Where something outside of the program refuses memory, it runs the scripts with
+//!   each request of theirs refused in turn, and sees to what holds after each.
+//! - `rows WORK [NUMBER]` times a work (`work`). The number says how long it is.
 #![tactic(auto)]
 
 mod answers;
-mod numbered;
 mod program;
 mod topic;
+mod work;
 
-use crate::numbered::Numbered;
 use crate::topic::Topic;
+use crate::work::Work;
 use rhai_bench::Bench;
-use rhai_worked::program::run;
-use std::io;
+use rhai_bench::command::WRONG_ARGUMENTS;
+use rhai_worked::program::{do_all_agree, do_all_hold, read_lists, text_of_lists};
 use std::process::ExitCode;
+use std::rt::Env;
+use std::{env, io};
+
+/// What the program is asked to do.
+#[derive(Clone, Copy)]
+enum Request {
+    /// To compare every line, time a function and run the scripts.
+    Everything,
+    /// To run the scripts with their requests for memory refused.
+    Refused,
+    /// To time a work of a length.
+    Timed(Work, u32),
+}
 
 fn main(rt: HostRuntime) -> io::Result<ExitCode> {
-    run::<Topic, Numbered, Bench, HostRuntime>(&rt, &Topic::ALL)
+    match read_request(&rt)? {
+        Some(Request::Everything) => Ok(status(do_all(&rt)?)),
+        Some(Request::Refused) => Ok(status(refuse_requests(&rt)?)),
+        Some(Request::Timed(work, number)) => {
+            work.run(&rt, number)?;
+            Ok(ExitCode::SUCCESS)
+        }
+        None => {
+            eprintln!(&rt;
+                "usage: rows [refused|loop|array|native|natives|item|increase|increase-twice|fib|range|walk|switch|throw [NUMBER]]"
+            )?;
+            Ok(ExitCode::from(WRONG_ARGUMENTS))
+        }
+    }
+}
+
+/// Reads what the arguments ask for, None where it is nothing that the program does.
+fn read_request<R: Env + AllocGlobal>(rt: &R) -> io::Result<Option<Request>> {
+    let Some(word) = env::args(rt)?.nth(1) else {
+        return Ok(Some(Request::Everything));
+    };
+    if word.as_str() == "refused" {
+        return Ok(Some(Request::Refused));
+    }
+    let Some(work) = Work::named(word.as_str()) else {
+        return Ok(None);
+    };
+    match env::args(rt)?.nth(2) {
+        Some(number) => Ok(
+            number
+                .parse::<u32>()
+                .ok()
+                .map(|number| Request::Timed(work, number)),
+        ),
+        None => Ok(Some(Request::Timed(work, work.usual_length()))),
+    }
+}
+
+/// Compares all lines, times a function and runs the scripts. Tells whether no line differs and all holds.
+fn do_all(rt: &HostRuntime) -> io::Result<bool> {
+    let text = text_of_lists(rt)?;
+    let Some(lists) = read_lists(rt, text.as_str())? else {
+        return Ok(false);
+    };
+    let topics = Topic::all(lists.as_slice());
+    let do_agree = do_all_agree(rt, &topics)?;
+    Work::Fib.run(rt, Work::Fib.usual_length())?;
+    let do_hold = do_all_hold::<Bench, _>(rt, lists.as_slice())?;
+    Ok(do_agree && do_hold)
+}
+
+/// Runs the scripts, and tells whether all holds.
+fn refuse_requests(rt: &HostRuntime) -> io::Result<bool> {
+    let text = text_of_lists(rt)?;
+    match read_lists(rt, text.as_str())? {
+        Some(lists) => do_all_hold::<Bench, _>(rt, lists.as_slice()),
+        None => Ok(false),
+    }
+}
+
+fn status(is_well: bool) -> ExitCode {
+    ExitCode::from(u8::from(!is_well))
 }

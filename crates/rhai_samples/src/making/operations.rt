@@ -1,103 +1,133 @@
 //! Expressions that are made of others.
 
-use crate::making::{Making, at_column, shared, take_last};
+use crate::making::{Making, at_column};
 use crate::parts::Part;
 use bitflags::Flags;
 use rhai_tree::expr::{Expr, FnCallExpr, MapEntry};
 use rhai_tree::flags::ASTFlags;
 use rhai_tree::literal::Literal;
 use rhai_tree::token::Token;
-use rhai_tree::{Boxed, Items, Table};
-use std::alloc::{AllocError, Global};
-
-/// Builds so many ones, which all stand at one position.
-fn ones(alloc: Global, count: u32, column: u16) -> Result<Items<Expr>, AllocError> {
-    let mut items = Items::new(alloc);
-    for _ in 0..count {
-        items.push(Expr::IntegerConstant(1, at_column(column)))?;
-    }
-    Ok(items)
-}
+use rhai_tree::{Items, Table};
 
 impl Making {
     /// Adds an expression that is made of others.
-    pub(super) fn add_operation(&mut self, part: Part<'_>) -> Result<(), AllocError> {
-        let made = match part {
-            Part::Array(count, column) => Expr::Array(self.exprs(count)?, at_column(column)),
+    pub(super) fn add_operation(&mut self, part: Part<'_>) {
+        match part {
+            Part::Array(count, column) => {
+                let items = self.exprs(count);
+                self.push_expr(Expr::Array(items, at_column(column)));
+            }
             Part::Ones(count, at_item, column) => {
-                Expr::Array(ones(self.alloc, count, at_item)?, at_column(column))
+                let items = self.ones(count, at_item);
+                self.push_expr(Expr::Array(items, at_column(column)));
             }
-            Part::Map(names, column) => self.map(names, column)?,
-            Part::And(column) => Expr::And(self.exprs(2)?, at_column(column)),
-            Part::Coalesce(column) => Expr::Coalesce(self.exprs(2)?, at_column(column)),
+            Part::Map(names, column) => self.add_map(names, column),
+            Part::And(column) => {
+                let operands = self.exprs(2);
+                self.push_expr(Expr::And(operands, at_column(column)));
+            }
+            Part::Coalesce(column) => {
+                let operands = self.exprs(2);
+                self.push_expr(Expr::Coalesce(operands, at_column(column)));
+            }
             Part::Operator(token, column) => {
-                let call = self.call(token.as_str(), 2, Some(token))?;
-                Expr::FnCall(call, at_column(column))
+                self.add_call(token.as_str(), 2, Some(token), column);
             }
-            Part::Call(name, count, column) => {
-                Expr::FnCall(self.call(name, count, None)?, at_column(column))
+            Part::Call(name, count, column) => self.add_call(name, count, None, column),
+            Part::Method(name, count, column) => self.add_method(name, count, column),
+            _ => self.add_chain(part),
+        }
+    }
+
+    /// Adds a dot, an index, or a block as an expression.
+    fn add_chain(&mut self, part: Part<'_>) {
+        match part {
+            Part::Dot(column) => self.add_dot(ASTFlags::empty(), column),
+            Part::DotUnlessUnit(column) => self.add_dot(ASTFlags::NEGATED, column),
+            Part::Index(column) => self.add_index(ASTFlags::BREAK, column),
+            Part::IndexOn(column) => self.add_index(ASTFlags::empty(), column),
+            Part::BlockValue => {
+                let block = self.block();
+                self.push_expr(Expr::Stmt(block));
             }
-            Part::Method(name, count, column) => {
-                Expr::MethodCall(self.call(name, count, None)?, at_column(column))
-            }
-            Part::Dot(column) => self.dot(ASTFlags::empty(), column)?,
-            Part::DotUnlessUnit(column) => self.dot(ASTFlags::NEGATED, column)?,
-            Part::Index(column) => self.index(ASTFlags::BREAK, column)?,
-            Part::IndexOn(column) => self.index(ASTFlags::empty(), column)?,
-            Part::BlockValue => Expr::Stmt(self.block()),
-            _ => return self.add_stmt(part),
-        };
-        self.exprs.push(made)
+            _ => self.add_stmt(part),
+        }
     }
 
     /// Takes so many expressions.
-    fn exprs(&mut self, count: usize) -> Result<Items<Expr>, AllocError> {
-        take_last(self.alloc, &mut self.exprs, count)
+    fn exprs(&mut self, count: usize) -> Items<Expr> {
+        self.memory.take_last(&mut self.exprs, count)
     }
 
-    /// Builds a call with so many arguments.
-    fn call(
-        &mut self,
-        name: &str,
-        count: usize,
-        op_token: Option<Token>,
-    ) -> Result<FnCallExpr, AllocError> {
-        let args = self.exprs(count)?;
-        Ok(FnCallExpr {
-            namespace: self.path(),
-            name: shared(self.alloc, name)?,
-            args,
-            op_token,
-            capture_parent_scope: false,
-        })
-    }
-
-    /// Builds a map with a value for each of its names.
-    fn map(&mut self, names: &[&str], column: u16) -> Result<Expr, AllocError> {
-        let mut entries = Items::new(self.alloc);
-        let mut template = Table::new(self.alloc);
-        for name in names.iter().rev() {
-            template.insert(shared(self.alloc, name)?, Literal::Unit)?;
-            let key = shared(self.alloc, name)?;
-            let value = self.expr();
-            entries.insert(0, MapEntry { key, value })?;
+    /// Makes so many ones, which all stand at one position.
+    fn ones(&mut self, count: u32, column: u16) -> Items<Expr> {
+        let mut items = self.memory.no_items();
+        for _ in 0..count {
+            let one = Expr::IntegerConstant(1, at_column(column));
+            self.memory.push(&mut items, one);
         }
-        Ok(Expr::Map(entries, template, at_column(column)))
+        items
     }
 
-    fn dot(&mut self, options: ASTFlags, column: u16) -> Result<Expr, AllocError> {
-        let rest = self.expr();
-        let rest = Boxed::new(self.alloc, rest)?;
-        let object = self.expr();
-        let object = Boxed::new(self.alloc, object)?;
-        Ok(Expr::Dot(object, rest, options, at_column(column)))
+    fn add_call(&mut self, name: &str, count: usize, op_token: Option<Token>, column: u16) {
+        if let Some(call) = self.call(name, count, op_token) {
+            self.push_expr(Expr::FnCall(call, at_column(column)));
+        }
     }
 
-    fn index(&mut self, options: ASTFlags, column: u16) -> Result<Expr, AllocError> {
+    fn add_method(&mut self, name: &str, count: usize, column: u16) {
+        if let Some(call) = self.call(name, count, None) {
+            self.push_expr(Expr::MethodCall(call, at_column(column)));
+        }
+    }
+
+    /// Makes a call with so many arguments, None where there was no memory for its name.
+    fn call(&mut self, name: &str, count: usize, op_token: Option<Token>) -> Option<FnCallExpr> {
+        match self.memory.shared(name) {
+            Some(name) => Some(FnCallExpr {
+                namespace: self.path(),
+                name,
+                args: self.exprs(count),
+                op_token,
+                capture_parent_scope: false,
+            }),
+            None => None,
+        }
+    }
+
+    /// Adds a map with a value for each of its names.
+    fn add_map(&mut self, names: &[&str], column: u16) {
+        let mut entries = self.memory.no_items();
+        let mut template = Table::new(self.memory.allocator());
+        for name in names.iter().rev() {
+            if let Some(name) = self.memory.shared(name) {
+                self.memory.remember(template.insert(name, Literal::Unit));
+            }
+            if let Some(key) = self.memory.shared(name) {
+                let value = self.expr();
+                self.memory.put_first(&mut entries, MapEntry { key, value });
+            }
+        }
+        self.push_expr(Expr::Map(entries, template, at_column(column)));
+    }
+
+    fn add_dot(&mut self, options: ASTFlags, column: u16) {
         let rest = self.expr();
-        let rest = Boxed::new(self.alloc, rest)?;
         let object = self.expr();
-        let object = Boxed::new(self.alloc, object)?;
-        Ok(Expr::Index(object, rest, options, at_column(column)))
+        if let Some(rest) = self.memory.boxed(rest) {
+            if let Some(object) = self.memory.boxed(object) {
+                self.push_expr(Expr::Dot(object, rest, options, at_column(column)));
+            }
+        }
+    }
+
+    fn add_index(&mut self, options: ASTFlags, column: u16) {
+        let rest = self.expr();
+        let object = self.expr();
+        if let Some(rest) = self.memory.boxed(rest) {
+            if let Some(object) = self.memory.boxed(object) {
+                self.push_expr(Expr::Index(object, rest, options, at_column(column)));
+            }
+        }
     }
 }

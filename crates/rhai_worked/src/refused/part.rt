@@ -1,6 +1,7 @@
-//! A script of a list, made, checked and run in a way, and what holds after its run.
+//! A script of a row or a list, made, checked and run in a way, and what holds after its run.
 
 use crate::refused::refuser;
+use crate::scripts::Source;
 use rhai_eval_base::base::{CellId, Dynamic, EvalAltResult, Items, Scope, Union};
 use rhai_eval_base::cells::CellStore;
 use rhai_eval_base::check::{CheckFault, CheckedTree, check_tree};
@@ -12,7 +13,7 @@ use rhai_rows::modules::add_library;
 use rhai_rows::outcome::Ending;
 use rhai_rows::print::write_ending;
 use rhai_rows::runner::Runner;
-use rhai_rows::sample::{Sample, Script};
+use rhai_rows::sample::Script;
 use rhai_rows::settings::{Settings, Way};
 use rhai_samples::operators::SUM;
 use rhai_samples::parts::statements_of;
@@ -22,12 +23,12 @@ use std::alloc::Global;
 use std::io;
 use std::io::Write;
 
-/// A script with its list and its position there, and a way to run it.
+/// A script with its row or list and its number there, and a way to run it.
 #[derive(Clone, Copy)]
-pub struct Part {
-    pub list: &'static str,
+pub struct Part<'a> {
+    pub list: &'a str,
     pub place: usize,
-    pub sample: Sample,
+    pub source: Source<'a>,
     pub way: Way,
 }
 
@@ -62,11 +63,11 @@ impl Drop for Report {
     }
 }
 
-impl Part {
+impl Part<'_> {
     /// Makes the script and runs it. None where the script or the state of its run could not be made.
     pub fn run<R: Runner>(self, alloc: Global) -> io::Result<Option<Report>> {
         let (Ok(script), Ok(global), Ok(scope)) = (
-            self.sample.script(alloc),
+            self.source.script(alloc),
             GlobalRuntimeState::new(alloc),
             scope_for(alloc, self.list),
         ) else {
@@ -112,6 +113,7 @@ impl Run {
             functions,
             settings,
         } = script;
+        let variables = self.scope.len();
         let (ending, is_restored) = match check_tree(alloc, statements, functions) {
             Err(fault) => (Ending::Refused(fault), true),
             Ok(tree) => {
@@ -127,7 +129,7 @@ impl Run {
         // What is asked for from here on is granted.
         refuser::end(alloc);
         let mut line = Vec::new(alloc);
-        write_ending(&mut line, &ending)?;
+        write_ending(alloc, &ending, &mut line)?;
         let has_run_out = found_no_memory(&ending);
         drop(ending);
         let num_operations = self.global.num_operations;
@@ -135,7 +137,7 @@ impl Run {
         let names = names_of(alloc, &self.scope)?;
         let imports = imports_of(alloc, &self.global)?;
         let wrong = if is_restored {
-            self.what_is_wrong::<R>(alloc, settings)
+            self.what_is_wrong::<R>(alloc, settings, variables)
         } else {
             Some("libraries or levels are not what they were")
         };
@@ -177,15 +179,20 @@ impl Run {
         }
     }
 
-    /// Tells what does not hold after a run.
+    /// Tells what does not hold after a run that began with so many variables.
     fn what_is_wrong<R: Runner>(
         &mut self,
         alloc: Global,
         settings: Settings,
+        variables: usize,
     ) -> Option<&'static str> {
         let limit = settings.limits.max_operations;
         if limit > 0 && self.global.num_operations > limit {
             Some("the count is past its limit")
+        } else if self.global.num_operations == 0 && self.has_done_something(variables) {
+            Some("nothing is counted, and something was done")
+        } else if self.scope.len() < variables {
+            Some("variables are gone that were there")
         } else if self.scope.len() > settings.limits.max_variables {
             Some("there are more variables than may be")
         } else if self.global.num_modules_loaded > settings.limits.max_modules {
@@ -199,6 +206,13 @@ impl Run {
         } else {
             None
         }
+    }
+
+    /// Tells whether a run that began with so many variables left a trace of what is charged.
+    fn has_done_something(&self, variables: usize) -> bool {
+        self.scope.len() > variables
+            || self.table.natives.counter > 0
+            || !self.global.imports.is_empty()
     }
 
     /// Evaluates `40 + 2` over what the run left.

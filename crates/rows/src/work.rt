@@ -1,4 +1,17 @@
-//! The works that are timed.
+//! The works that are timed. Each prints how each of its scripts ended and how many operations it charged, and on standard
+//! error how many of them a second had:
+//!
+//! - `loop`: a loop of so many decrements
+//! - `array`: an array of so many literals, and one of twice as many
+//! - `native`: so many calls of a native of one argument, in a loop that counts down
+//! - `natives`: the same, and so many calls of one of two arguments
+//! - `item`: so many additions to the last item of an array of a thousand items, and of a hundred thousand
+//! - `increase`, `increase-twice`: so many turns with an addition of a variable to the first item of an array, or two
+//! - `fib`: a function that calls itself twice, with that number
+//! - `range`: a `for` over a range of so many integers
+//! - `walk`: so many turns of a `for` over an array of a thousand items, and of a hundred thousand
+//! - `switch`: so many turns with a `switch` of ten cases
+//! - `throw`: so many turns with a value that is thrown and caught
 
 use rhai_bench::timing::time_run;
 use rhai_rows::sample::MadeStatements::{
