@@ -1,15 +1,40 @@
 //! A host's own calls, over the bench's table of natives.
 
 use crate::Bench;
-use rhai_eval::base::Position;
+use rhai_eval::base::{Position, Scope};
 use rhai_eval::check::CheckedFn;
 use rhai_eval::engine::Engine;
 use rhai_eval::script::FnKey;
 use rhai_eval::target::{Part, Target};
-use rhai_hosted::caller::{Answer, Caller, Calls, fours};
+use rhai_hosted::caller::{Answer, Caller, Calls, Manner, fours};
+use rhai_tables::host::Pair;
 use rhai_values::base::value::{Dynamic, Union};
 use std::alloc::{AllocError, Global};
 use std::mem::replace;
+
+/// Calls a function by its name, on the variables of a scope if there is one.
+fn exec(
+    alloc: Global,
+    caller: &mut Caller,
+    scope: Option<&mut Scope<Pair>>,
+    name: &str,
+    manner: Manner,
+) -> Answer {
+    Engine::new(alloc).exec_fn_call(
+        alloc,
+        &mut caller.global,
+        &mut caller.caches,
+        &mut caller.table,
+        scope,
+        name,
+        None,
+        Some(&mut caller.object),
+        caller.args.as_mut_slice(),
+        manner.is_ref,
+        manner.is_method,
+        Position::new(1, 1),
+    )
+}
 
 impl Calls for Bench {
     fn call_function(
@@ -41,44 +66,15 @@ impl Calls for Bench {
         }
     }
 
-    fn call_named(
-        alloc: Global,
-        caller: &mut Caller,
-        name: &str,
-        is_ref: bool,
-        is_method: bool,
-    ) -> Answer {
-        Engine::new(alloc).exec_fn_call(
-            alloc,
-            &mut caller.global,
-            &mut caller.caches,
-            &mut caller.table,
-            None,
-            name,
-            None,
-            Some(&mut caller.object),
-            caller.args.as_mut_slice(),
-            is_ref,
-            is_method,
-            Position::new(1, 1),
-        )
-    }
-
-    fn call_captured(alloc: Global, caller: &mut Caller, name: &str, is_method: bool) -> Answer {
-        Engine::new(alloc).exec_fn_call(
-            alloc,
-            &mut caller.global,
-            &mut caller.caches,
-            &mut caller.table,
-            Some(&mut caller.scope),
-            name,
-            None,
-            Some(&mut caller.object),
-            caller.args.as_mut_slice(),
-            false,
-            is_method,
-            Position::new(1, 1),
-        )
+    fn call_named(alloc: Global, caller: &mut Caller, name: &str, manner: Manner) -> Answer {
+        if manner.has_variables {
+            let mut scope = replace(&mut caller.scope, Scope::new(alloc));
+            let answer = exec(alloc, caller, Some(&mut scope), name, manner);
+            drop(replace(&mut caller.scope, scope));
+            answer
+        } else {
+            exec(alloc, caller, None, name, manner)
+        }
     }
 
     fn call_native(alloc: Global, caller: &mut Caller, name: &str) -> Answer {

@@ -73,7 +73,7 @@ fn show_function<W: Write>(alloc: Global, out: &mut W) -> io::Result<u8>
     ensures { IfOk result (λ s. s ≤ 2) }
 {
     let ending = Ending::Value(function_text(alloc)?);
-    let wrote = write_line(out, &ending);
+    let wrote = write_line(alloc, &ending, out);
     let status = ending.status();
     drop(ending);
     wrote.map(|()| status)
@@ -108,7 +108,7 @@ fn run_script<W: Write>(alloc: Global, row: &str, script: Sample, out: &mut W) -
 {
     let scope = scope_for(alloc, row)?;
     let outcome = run_above(alloc, script.script(alloc)?, Way::USUAL, scope)?;
-    let wrote = write_line(out, &outcome.ending);
+    let wrote = write_line(alloc, &outcome.ending, out);
     let status = outcome.ending.status();
     drop(outcome);
     wrote.map(|()| status)

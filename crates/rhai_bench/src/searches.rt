@@ -6,36 +6,25 @@ ghost use Rattle.rhai_state.specs.Scope.{entries_of, in_use, Fits};
 ghost use Rattle.rhai_steps.specs.Offsets.{offset_in};
 ghost use Rattle.rhai_eval.specs.Search.{is_variable};
 
-use rhai_eval::base::{
-    AccessMode, Dynamic, Expr, Items, Namespace, Position, Scope, Shared, Text, Union,
-};
+use rhai_eval::base::{Dynamic, Expr, Items, Namespace, Position, Scope, Shared, Text, Union};
 use rhai_eval::engine::Engine;
 use rhai_eval::state::{Caches, GlobalRuntimeState};
+use rhai_rows::maker::Maker;
 use rhai_rows::outcome::Ending;
-use rhai_rows::print::{write_ending, write_value};
+use rhai_rows::sheet::Sheet;
 use rhai_tables::host::Pair;
 use rhai_tables::tables::NoNatives;
 use std::alloc::{AllocError, Global};
 use std::io;
-use std::io::Write;
 use std::num::NonZeroUsize;
 
 /// Makes the scope of `a` with 1, `b` with 2 and `a` with 3.
-fn scope_of_three(alloc: Global) -> Result<Scope<Pair>, AllocError> {
-    let mut scope = Scope::new(alloc);
-    push(alloc, &mut scope, "a", 1)?;
-    push(alloc, &mut scope, "b", 2)?;
-    push(alloc, &mut scope, "a", 3)?;
-    Ok(scope)
-}
-
-fn push(alloc: Global, scope: &mut Scope<Pair>, name: &str, number: i64) -> Result<(), AllocError> {
-    let name = String::from_str(alloc, name)?;
-    scope.push_entry(
-        name,
-        AccessMode::ReadWrite,
-        Dynamic::new(Union::Int(number)),
-    )
+fn scope_of_three(maker: &mut Maker) -> Scope<Pair> {
+    let mut scope = Scope::new(maker.allocator());
+    maker.declare(&mut scope, "a", Dynamic::new(Union::Int(1)));
+    maker.declare(&mut scope, "b", Dynamic::new(Union::Int(2)));
+    maker.declare(&mut scope, "a", Dynamic::new(Union::Int(3)));
+    scope
 }
 
 fn variable(alloc: Global, name: &str, offset: Option<NonZeroUsize>) -> Result<Expr, AllocError>
@@ -66,58 +55,85 @@ fn is_within(offset: Option<NonZeroUsize>, length: usize) -> bool
 }
 
 /// Writes what is found for a name and an offset, 0 for none.
-pub fn write_search<W: Write>(
+pub fn write_search(
     alloc: Global,
     words: &str,
     always_search_scope: bool,
-    out: &mut W,
+    out: &mut Vec<u8>,
 ) -> io::Result<()> {
     let (name, offset) = words.split_once(' ').unwrap_or((words, "0"));
     let offset = NonZeroUsize::new(offset.parse::<usize>().unwrap_or(0));
-    write_found(alloc, name, offset, always_search_scope, out)
+    let mut sheet = Sheet::new(alloc);
+    tell_search(name, offset, always_search_scope, &mut sheet);
+    sheet.hand_to(out)
 }
 
-/// Writes where a variable of this name and offset stands, if the offset tells, and its value or the error.
+/// Tells where a variable of this name and offset stands, if the offset tells, and its value or the error.
 /// The scope has `a` with 1, `b` with 2 and `a` with 3.
-fn write_found<W: Write>(
-    alloc: Global,
+fn tell_search(
     name: &str,
     offset: Option<NonZeroUsize>,
     always_search_scope: bool,
-    out: &mut W,
-) -> io::Result<()> {
-    let mut scope = scope_of_three(alloc)?;
-    if !is_within(offset, scope.len()) {
-        return write!(out, "no such offset");
+    sheet: &mut Sheet,
+) {
+    let mut scope = scope_of_three(&mut sheet.maker);
+    if is_within(offset, scope.len()) {
+        let global = GlobalRuntimeState::new(sheet.maker.allocator());
+        if let Some(mut global) = sheet.maker.kept(global) {
+            global.always_search_scope = always_search_scope;
+            tell_variable(name, offset, &mut global, &mut scope, sheet);
+            drop(global);
+        }
+    } else {
+        sheet.write("no such offset");
     }
-    let expr = variable(alloc, name, offset)?;
-    let mut global = GlobalRuntimeState::new(alloc)?;
-    global.always_search_scope = always_search_scope;
-    write_index(
-        out,
-        Engine::<Pair>::new(alloc).scope_index(&global, &expr, scope.len()),
-    )?;
-    write_value_found(alloc, &mut global, &mut scope, &expr, out)
+    drop(scope);
 }
 
-fn write_index<W: Write>(out: &mut W, index: Option<usize>) -> io::Result<()> {
+fn tell_variable(
+    name: &str,
+    offset: Option<NonZeroUsize>,
+    global: &mut GlobalRuntimeState<Pair>,
+    scope: &mut Scope<Pair>,
+    sheet: &mut Sheet,
+)
+    requires { (searches : Bool) → Fits (in_use searches offset) (length (entries_of scope.old)) }
+{
+    match variable(sheet.maker.allocator(), name, offset) {
+        Ok(expr) => {
+            let engine = Engine::<Pair>::new(sheet.maker.allocator());
+            let index = engine.scope_index(&*global, &expr, scope.len());
+            drop(engine);
+            tell_index(index, sheet);
+            tell_value(global, scope, &expr, sheet);
+            drop(expr);
+        }
+        Err(AllocError) => sheet.maker.lack_memory(),
+    }
+}
+
+fn tell_index(index: Option<usize>, sheet: &mut Sheet) {
     match index {
-        Some(index) => write!(out, "at {index}: "),
-        None => write!(out, "by name: "),
+        Some(index) => {
+            sheet.write("at ");
+            sheet.show(&index);
+        }
+        None => sheet.write("by name"),
     }
+    sheet.write(": ");
 }
 
-fn write_value_found<W: Write>(
-    alloc: Global,
+fn tell_value(
     global: &mut GlobalRuntimeState<Pair>,
     scope: &mut Scope<Pair>,
     expr: &Expr,
-    out: &mut W,
-) -> io::Result<()>
+    sheet: &mut Sheet,
+)
     requires variable { is_variable (out-Expr expr.now) ≡ true }
     requires fits { Fits (offset_in global.old.always_search_scope (out-Expr expr.now))
         (length (entries_of scope.old)) }
 {
+    let alloc = sheet.maker.allocator();
     let mut caches = Caches::new(alloc);
     let mut table = NoNatives;
     let found = Engine::new(alloc).search_scope_only(
@@ -130,7 +146,11 @@ fn write_value_found<W: Write>(
         expr,
     );
     match found {
-        Ok(target) => write_value(out, target.as_ref()),
-        Err(error) => write_ending(out, &Ending::Error(error)),
+        Ok(target) => sheet.value(target.as_ref()),
+        Err(error) => {
+            let ending = Ending::Error(error);
+            sheet.end(&ending);
+            drop(ending);
+        }
     }
 }

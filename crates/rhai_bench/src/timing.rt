@@ -5,11 +5,11 @@ ghost use Rattle.std.specs.Duration.{as_nanos};
 
 use crate::script::run;
 use rhai_rows::outcome::Outcome;
-use rhai_rows::print::write_line;
 use rhai_rows::sample::Script;
 use rhai_rows::settings::Way;
+use rhai_rows::sheet::Sheet;
+use std::alloc::{AllocError, Global};
 use std::io;
-use std::io::Write;
 use std::rt::Clock;
 use std::time::{Duration, Instant};
 
@@ -24,16 +24,21 @@ pub fn time_run<R: AllocGlobal + Clock + Print + Eprint>(
     let outcome = run(rt.alloc(), script, Way::USUAL)?;
     let elapsed = begun.elapsed(rt)?;
     let count = outcome.num_operations;
-    let wrote = write_outcome(&mut io::writer(rt), &outcome);
+    let told = told(rt.alloc(), &outcome);
     drop(outcome);
-    wrote?;
+    let told = told?;
+    print!(rt; "{told}")?;
     print_speed(rt, what, count, elapsed)
 }
 
-/// Writes how a script ended, and how many operations it charged.
-fn write_outcome<W: Write>(out: &mut W, outcome: &Outcome) -> io::Result<()> {
-    write_line(out, &outcome.ending)?;
-    writeln!(out, "{} charges", outcome.num_operations)
+/// Tells how a script ended, and how many operations it charged.
+fn told(alloc: Global, outcome: &Outcome) -> Result<String, AllocError> {
+    let mut sheet = Sheet::new(alloc);
+    sheet.end(&outcome.ending);
+    sheet.write("\n");
+    sheet.show(&outcome.num_operations);
+    sheet.write(" charges\n");
+    sheet.finish()
 }
 
 /// Prints on standard error how many charges a second had, and nothing where no time has passed.

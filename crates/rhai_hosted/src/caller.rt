@@ -3,17 +3,19 @@
 ghost use Rattle.std.specs.Prelude.{◌≡◌, IfOk, length};
 ghost use Rattle.rhai_values.specs.Cells.{IsNoHandle};
 
-use rhai_eval_base::base::{AccessMode, CellId, Dynamic, EvalAltResult, Items, Scope, Union};
+use rhai_eval_base::base::{CellId, Dynamic, Items, Scope, Union};
+use rhai_eval_base::cells::CellStore;
 use rhai_eval_base::check::CheckedFn;
 use rhai_eval_base::state::{Caches, GlobalRuntimeState};
 use rhai_natives::Natives;
+use rhai_rows::maker::Maker;
+use rhai_state::error::EvalAltResult;
 use rhai_tables::host::Pair;
 use rhai_tables::tables::counting::Counting;
 use std::alloc::{AllocError, Global};
 use std::mem::replace;
 
 /// What a host has for its calls.
-#[derive(Drop)]
 pub struct Caller {
     pub global: GlobalRuntimeState<Pair>,
     pub caches: Caches<Pair>,
@@ -26,6 +28,20 @@ pub struct Caller {
     pub args: Items<Dynamic<Pair>>,
 }
 
+// Written by hand, so that what lets go of it calls this, and need not go through its parts.
+impl Drop for Caller {
+    fn drop(self) {
+        let Caller {
+            global: _,
+            caches: _,
+            table: _,
+            scope: _,
+            object: _,
+            args: _,
+        } = self;
+    }
+}
+
 /// A value with whether it may have changed the object.
 pub type Answer = Result<(Dynamic<Pair>, bool), EvalAltResult<Pair>>;
 
@@ -36,8 +52,18 @@ fn int(value: i64) -> Dynamic<Pair>
 }
 
 /// Makes a handle of the first cell.
-fn handle() -> Dynamic<Pair> {
+pub(crate) fn handle() -> Dynamic<Pair> {
     Dynamic::new(Union::Cell(CellId { number: 0 }))
+}
+
+/// Adds a cell with a value.
+pub(crate) fn add_cell(maker: &mut Maker, cells: &mut CellStore<Pair>, value: Dynamic<Pair>)
+    requires { IsNoHandle value.value }
+{
+    if let Err((value, _)) = cells.add(value) {
+        maker.lack_memory();
+        drop(value);
+    }
 }
 
 /// Makes so many arguments, each of them 4.
@@ -54,31 +80,72 @@ pub fn fours(alloc: Global, count: usize) -> Result<Items<Dynamic<Pair>>, AllocE
 impl Caller {
     /// Makes a caller with so many arguments.
     pub fn new(alloc: Global, count: usize) -> Result<Caller, AllocError> {
+        let args = fours(alloc, count)?;
+        let global = GlobalRuntimeState::new(alloc)?;
+        let mut maker = Maker::new(alloc);
         let mut scope = Scope::new(alloc);
-        let name = String::from_str(alloc, "x")?;
-        scope.push_entry(name, AccessMode::ReadWrite, int(1))?;
-        Ok(Caller {
-            global: GlobalRuntimeState::new(alloc)?,
+        maker.declare(&mut scope, "x", int(1));
+        maker.finish(Caller {
+            global,
             caches: Caches::new(alloc),
             table: Counting::table(alloc),
             scope,
             object: int(1),
-            args: fours(alloc, count)?,
+            args,
         })
     }
 
     /// Adds a cell with 1, as the object has it, and makes the object and the arguments handles of it.
-    pub fn share(&mut self) -> Result<(), AllocError> {
-        if let Err((value, error)) = self.global.cells.add(int(1)) {
-            drop(value);
-            return Err(error);
-        }
+    pub fn share(&mut self, maker: &mut Maker) {
+        add_cell(maker, &mut self.global.cells, int(1));
         drop(replace(&mut self.object, handle()));
         'arguments: for arg in self.args.as_mut_slice() {
             drop(replace(arg, handle()));
         }
-        Ok(())
     }
+}
+
+/// How a call by a name is made.
+#[derive(Clone, Copy)]
+pub struct Manner {
+    /// Whether it is made on the caller's variables.
+    pub has_variables: bool,
+    /// Whether the object is lent as the first argument.
+    pub is_ref: bool,
+    pub is_method: bool,
+}
+
+impl Manner {
+    /// With the object as the first argument.
+    pub const VALUE: Manner = Manner {
+        has_variables: false,
+        is_ref: false,
+        is_method: false,
+    };
+
+    /// With the object lent as the first argument.
+    pub const REFERENCE: Manner = Manner {
+        is_ref: true,
+        ..Manner::VALUE
+    };
+
+    /// As a method of the object.
+    pub const METHOD: Manner = Manner {
+        is_method: true,
+        ..Manner::VALUE
+    };
+
+    /// On the caller's variables, with the object as the first argument.
+    pub const ON_VARIABLES: Manner = Manner {
+        has_variables: true,
+        ..Manner::VALUE
+    };
+
+    /// On the caller's variables, as a method of the object.
+    pub const METHOD_ON_VARIABLES: Manner = Manner {
+        has_variables: true,
+        ..Manner::METHOD
+    };
 }
 
 /// Makes a host's own calls, each with the object and the arguments of a caller.
@@ -93,17 +160,8 @@ pub trait Calls {
         rewinds: bool,
     ) -> Result<Answer, AllocError>;
 
-    /// Calls a function by its name, on the object before the arguments.
-    fn call_named(
-        alloc: Global,
-        caller: &mut Caller,
-        name: &str,
-        is_ref: bool,
-        is_method: bool,
-    ) -> Answer;
-
-    /// Calls a function by its name on the variables, with the object before the arguments or as a method's.
-    fn call_captured(alloc: Global, caller: &mut Caller, name: &str, is_method: bool) -> Answer;
+    /// Calls a function by its name, in a manner.
+    fn call_named(alloc: Global, caller: &mut Caller, name: &str, manner: Manner) -> Answer;
 
     /// Calls a native by its name, on the object before the arguments.
     fn call_native(alloc: Global, caller: &mut Caller, name: &str) -> Answer;

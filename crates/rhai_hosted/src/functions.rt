@@ -1,22 +1,20 @@
 //! What a host's own calls of functions answer, and what they leave.
 
-use crate::caller::{Answer, Caller, Calls};
-use rhai_eval_base::base::Shared;
+use crate::caller::{Answer, Caller, Calls, Manner};
 use rhai_eval_base::check::{CheckedFn, CheckedTree, check_tree};
-use rhai_rows::errors::write_error;
+use rhai_rows::maker::Maker;
 use rhai_rows::modules::add_library;
 use rhai_rows::outcome::Ending;
-use rhai_rows::print::{write_ending, write_value};
 use rhai_rows::sample::MadeTree::VariableOfTheCallerIncreased;
 use rhai_rows::sample::Tree::{Parts, WithFunctions};
 use rhai_rows::sample::{Sample, Script, Tree};
 use rhai_rows::settings::Setting::Usual;
+use rhai_rows::sheet::Sheet;
 use rhai_samples::functions::{
     EMPTY_FUNCTION, METHOD_THAT_CHANGES_AN_ITEM, PARAMETER_ASSIGNED, VARIABLE_DECLARED,
 };
 use std::alloc::{AllocError, Global};
 use std::io;
-use std::io::Write;
 
 /// A call by its name: the tree with its function, how many arguments the caller has, and its form.
 #[derive(Clone, Copy)]
@@ -27,14 +25,8 @@ struct Call(&'static str, Tree, usize, Form);
 enum Form {
     /// The function itself, at a level, and whether all of its variables go.
     Function(usize, bool),
-    /// A name, as a method.
-    Method(&'static str),
-    /// A name, with the object lent as its first argument.
-    Reference(&'static str),
-    /// A name, with the object as its first argument.
-    Value(&'static str),
-    /// A name on the variables, and whether as a method.
-    OnVariables(&'static str, bool),
+    /// A name, in a manner.
+    Named(&'static str, Manner),
     /// A name, as a method, where object and arguments are handles.
     MethodOnHandles(&'static str),
     /// The name of a native, where object and arguments are handles. What the error says is written.
@@ -80,26 +72,31 @@ const CALLS: &[Call] = &[
         "a method",
         Parts(METHOD_THAT_CHANGES_AN_ITEM),
         1,
-        Form::Method("add"),
+        Form::Named("add", Manner::METHOD),
     ),
     Call(
         "a reference",
         Parts(PARAMETER_ASSIGNED),
         0,
-        Form::Reference("chg"),
+        Form::Named("chg", Manner::REFERENCE),
     ),
-    Call("a value", Parts(PARAMETER_ASSIGNED), 0, Form::Value("chg")),
+    Call(
+        "a value",
+        Parts(PARAMETER_ASSIGNED),
+        0,
+        Form::Named("chg", Manner::VALUE),
+    ),
     Call(
         "the scope",
         WithFunctions(VariableOfTheCallerIncreased),
         0,
-        Form::OnVariables("bump", false),
+        Form::Named("bump", Manner::ON_VARIABLES),
     ),
     Call(
         "a method on the scope",
         WithFunctions(VariableOfTheCallerIncreased),
         1,
-        Form::OnVariables("bump", true),
+        Form::Named("bump", Manner::METHOD_ON_VARIABLES),
     ),
     Call(
         "a racing method",
@@ -131,73 +128,96 @@ const CALLS: &[Call] = &[
 
 /// Writes what a call of a name comes to, and what it leaves.
 pub fn write_call<C: Calls>(alloc: Global, name: &str, out: &mut Vec<u8>) -> io::Result<()> {
-    for call in CALLS {
-        if call.0 == name {
-            return write_made::<C>(alloc, *call, out);
-        }
+    let mut sheet = Sheet::new(alloc);
+    match call_of(name) {
+        Some(call) => tell_call::<C>(call, &mut sheet),
+        None => sheet.write("no call"),
     }
-    write!(out, "no call")
+    sheet.hand_to(out)
 }
 
-fn write_made<C: Calls>(alloc: Global, call: Call, out: &mut Vec<u8>) -> io::Result<()> {
+/// Finds the call of a name.
+fn call_of(name: &str) -> Option<Call> {
+    for call in CALLS {
+        if call.0 == name {
+            return Some(*call);
+        }
+    }
+    None
+}
+
+fn tell_call<C: Calls>(call: Call, sheet: &mut Sheet) {
     let Call(_, tree, count, form) = call;
+    let script = Sample(tree, Usual).script(sheet.maker.allocator());
+    if let Some(script) = sheet.maker.kept(script) {
+        tell_script::<C>(count, form, script, sheet);
+    }
+}
+
+fn tell_script<C: Calls>(count: usize, form: Form, script: Script, sheet: &mut Sheet) {
     let Script {
         statements,
         functions,
         settings: _,
-    } = Sample(tree, Usual).script(alloc)?;
-    match check_tree(alloc, statements, functions) {
-        Ok(tree) => match tree.functions() {
-            [function] => write_called::<C>(alloc, count, form, &tree, function, out),
-            _ => write!(out, "no function"),
-        },
-        Err(_) => write!(out, "no tree"),
+    } = script;
+    match check_tree(sheet.maker.allocator(), statements, functions) {
+        Ok(tree) => {
+            match tree.functions() {
+                [function] => tell_called::<C>(count, form, &tree, function.get(), sheet),
+                _ => sheet.write("no function"),
+            }
+            drop(tree);
+        }
+        Err(_) => sheet.write("no tree"),
     }
 }
 
-fn write_called<C: Calls>(
-    alloc: Global,
+fn tell_called<C: Calls>(
     count: usize,
     form: Form,
     tree: &CheckedTree,
-    function: &Shared<CheckedFn>,
-    out: &mut Vec<u8>,
-) -> io::Result<()> {
-    let mut caller = Caller::new(alloc, count)?;
-    add_library(alloc, &mut caller.global, tree)?;
-    let answer = answer_of::<C>(alloc, &mut caller, form, function.get())?;
-    match form {
-        Form::NativeOnHandles(_) => write_text(alloc, answer, out),
-        _ => write_left(&caller, answer, out),
+    def: &CheckedFn,
+    sheet: &mut Sheet,
+) {
+    let caller = Caller::new(sheet.maker.allocator(), count);
+    if let Some(mut caller) = sheet.maker.kept(caller) {
+        let added = add_library(sheet.maker.allocator(), &mut caller.global, tree);
+        sheet.maker.remember(added);
+        tell_answer::<C>(form, &mut caller, def, sheet);
+        drop(caller);
     }
 }
 
-/// Writes what the error of a call says.
-fn write_text(alloc: Global, answer: Answer, out: &mut Vec<u8>) -> io::Result<()> {
-    match answer {
-        Ok(_) => write!(out, "no error"),
-        Err(error) => write_error(alloc, error, out),
+/// Calls, and tells what the call answered, and what it left or what its error says.
+fn tell_answer<C: Calls>(form: Form, caller: &mut Caller, def: &CheckedFn, sheet: &mut Sheet) {
+    let answer = answer_of::<C>(form, caller, def, &mut sheet.maker);
+    if let Some(answer) = sheet.maker.kept(answer) {
+        match form {
+            Form::NativeOnHandles(_) => tell_text(answer, sheet),
+            _ => {
+                tell_end(answer, sheet);
+                tell_left(caller, sheet);
+            }
+        }
     }
 }
 
 fn answer_of<C: Calls>(
-    alloc: Global,
-    caller: &mut Caller,
     form: Form,
+    caller: &mut Caller,
     def: &CheckedFn,
+    maker: &mut Maker,
 ) -> Result<Answer, AllocError> {
+    let alloc = maker.allocator();
     match form {
         Form::Function(level, rewinds) => C::call_function(alloc, caller, def, level, rewinds),
-        Form::Method(name) => Ok(C::call_named(alloc, caller, name, false, true)),
-        Form::Reference(name) => Ok(C::call_named(alloc, caller, name, true, false)),
-        Form::Value(name) => Ok(C::call_named(alloc, caller, name, false, false)),
-        Form::OnVariables(name, is_method) => Ok(C::call_captured(alloc, caller, name, is_method)),
+        Form::Named(name, manner) => Ok(C::call_named(alloc, caller, name, manner)),
         Form::MethodOnHandles(name) => {
-            caller.share()?;
-            Ok(C::call_named(alloc, caller, name, false, true))
+            caller.share(maker);
+            Ok(C::call_named(alloc, caller, name, Manner::METHOD))
         }
         Form::NativeOnHandles(name) => {
-            caller.share()?;
+            caller.share(maker);
             Ok(C::call_native(alloc, caller, name))
         }
         Form::OnTarget(name) => Ok(C::call_method(alloc, caller, name)),
@@ -205,21 +225,39 @@ fn answer_of<C: Calls>(
     }
 }
 
-/// Writes what a call answered, and what it left: the object, the arguments and the variables.
-fn write_left(caller: &Caller, answer: Answer, out: &mut Vec<u8>) -> io::Result<()> {
+/// Tells what the error of a call says.
+fn tell_text(answer: Answer, sheet: &mut Sheet) {
     match answer {
-        Ok((value, _)) => write_ending(out, &Ending::Value(value))?,
-        Err(error) => write_ending(out, &Ending::Error(error))?,
+        Ok((value, _)) => {
+            drop(value);
+            sheet.write("no error");
+        }
+        Err(error) => sheet.tell_error(error),
     }
-    write!(out, "; ")?;
-    write_value(out, &caller.object)?;
+}
+
+/// Tells how a call ended.
+fn tell_end(answer: Answer, sheet: &mut Sheet) {
+    let ending = match answer {
+        Ok((value, _)) => Ending::Value(value),
+        Err(error) => Ending::Error(error),
+    };
+    sheet.end(&ending);
+    drop(ending);
+}
+
+/// Tells what a call left: the object, the arguments and the variables.
+fn tell_left(caller: &Caller, sheet: &mut Sheet) {
+    sheet.write("; ");
+    sheet.value(&caller.object);
     for arg in caller.args.as_slice() {
-        write!(out, ", ")?;
-        write_value(out, arg)?;
+        sheet.write(", ");
+        sheet.value(arg);
     }
     for entry in caller.scope.entries() {
-        write!(out, "; {} = ", entry.name.get().as_str())?;
-        write_value(out, &entry.value)?;
+        sheet.write("; ");
+        sheet.write(entry.name.get().as_str());
+        sheet.write(" = ");
+        sheet.value(&entry.value);
     }
-    Ok(())
 }

@@ -1,29 +1,24 @@
 //! Methods on handles of a cell, which is held until the chain is left.
 
-ghost use Rattle.std.specs.Prelude.{IfOk};
 ghost use Rattle.rhai_values.specs.Cells.{IsNoHandle};
 
-use rhai_eval_base::base::{
-    AccessMode, Boxed, CellId, Dynamic, FnPtr, FnPtrKind, Items, NativeId, Scope, Table, Union,
-};
-use rhai_eval_base::cells::CellStore;
-use rhai_eval_base::check::check_tree;
+use crate::caller::{add_cell, handle};
+use rhai_eval_base::base::{Dynamic, FnPtrKind, Items, NativeId, Scope, Table, Union};
+use rhai_eval_base::check::{CheckedTree, check_tree};
 use rhai_eval_base::state::GlobalRuntimeState;
-use rhai_rows::errors::write_error;
+use rhai_rows::maker::Maker;
 use rhai_rows::modules::add_library;
-use rhai_rows::print::write_value;
 use rhai_rows::runner::Runner;
 use rhai_rows::settings::{Settings, Way};
+use rhai_rows::sheet::Sheet;
 use rhai_samples::parts::Part::{
     Assign, Block, Dot, Function, Index, Int, Method, Value, Variable,
 };
 use rhai_samples::parts::{Part, tree_of};
-use rhai_state::errors::shared_text;
 use rhai_tables::host::Pair;
 use rhai_tables::tables::counting::Counting;
-use std::alloc::{AllocError, Global};
+use std::alloc::Global;
 use std::io;
-use std::io::Write;
 
 /// A chain on handles.
 #[derive(Clone, Copy)]
@@ -200,126 +195,149 @@ const POINTER_CALLED_ON_A_VARIABLE: &[Part<'_>] = &[
 /// Writes what a chain on handles comes to in every way of running. Behind it stand its charges, and what
 /// stands in the cell then. Where two ways differ both are written.
 pub fn write_handled<R: Runner>(alloc: Global, name: &str, out: &mut Vec<u8>) -> io::Result<()> {
+    let mut sheet = Sheet::new(alloc);
+    match chain_of(name) {
+        Some(chain) => tell_ways::<R>(chain, &mut sheet),
+        None => sheet.write("no chain"),
+    }
+    sheet.hand_to(out)
+}
+
+/// Finds the chain of a name.
+fn chain_of(name: &str) -> Option<Chain> {
     for chain in CHAINS {
         if chain.name == name {
-            return write_ways::<R>(alloc, *chain, out);
+            return Some(*chain);
         }
     }
-    write!(out, "no chain")
+    None
 }
 
-fn write_ways<R: Runner>(alloc: Global, chain: Chain, out: &mut Vec<u8>) -> io::Result<()> {
-    write_way::<R>(alloc, chain, Way::USUAL, out)?;
+fn tell_ways<R: Runner>(chain: Chain, sheet: &mut Sheet) {
+    tell_way::<R>(chain, Way::USUAL, sheet);
     for way in Way::ALL {
-        let mut other = Vec::new(alloc);
-        write_way::<R>(alloc, chain, way, &mut other)?;
-        if other.as_slice() != out.as_slice() {
-            write!(out, " or ")?;
-            out.write_all(other.as_slice())?;
-        }
+        let mut other = Sheet::new(sheet.maker.allocator());
+        tell_way::<R>(chain, way, &mut other);
+        sheet.add_other(other);
     }
-    Ok(())
 }
 
-fn write_way<R: Runner>(
-    alloc: Global,
-    chain: Chain,
-    way: Way,
-    out: &mut Vec<u8>,
-) -> io::Result<()> {
-    let parts = tree_of(alloc, chain.tree)?;
-    let mut global = GlobalRuntimeState::new(alloc)?;
-    global.always_search_scope = way.always_search_scope;
-    add_cell(alloc, &mut global.cells, chain.cell)?;
-    let mut scope = scope_of(alloc, chain)?;
-    match check_tree(alloc, parts.statements, parts.functions) {
-        Err(fault) => write!(out, "{fault}")?,
-        Ok(tree) => {
-            add_library(alloc, &mut global, &tree)?;
-            match R::eval_tree(
-                alloc,
-                &Settings::USUAL,
-                &mut global,
-                &mut way.caches(alloc),
-                &mut Counting::table(alloc),
-                &mut scope,
-                &tree,
-            )? {
-                Ok(value) => write_value(out, &value)?,
-                Err(error) => write_error(alloc, error, out)?,
+fn tell_way<R: Runner>(chain: Chain, way: Way, sheet: &mut Sheet) {
+    let alloc = sheet.maker.allocator();
+    let parts = tree_of(alloc, chain.tree);
+    if let Some(parts) = sheet.maker.kept(parts) {
+        match check_tree(alloc, parts.statements, parts.functions) {
+            Err(fault) => sheet.show(&fault),
+            Ok(tree) => {
+                tell_tree::<R>(chain, way, &tree, sheet);
+                drop(tree);
             }
         }
     }
-    write!(out, ", {} charges, ", global.num_operations)?;
-    match global.cells.get(CellId { number: 0 }) {
-        Some(value) => write_value(out, value),
-        None => write!(out, "held"),
+}
+
+fn tell_tree<R: Runner>(chain: Chain, way: Way, tree: &CheckedTree, sheet: &mut Sheet) {
+    let alloc = sheet.maker.allocator();
+    let global = GlobalRuntimeState::new(alloc);
+    if let Some(mut global) = sheet.maker.kept(global) {
+        global.always_search_scope = way.always_search_scope;
+        let content = content(&mut sheet.maker, chain.cell);
+        add_cell(&mut sheet.maker, &mut global.cells, content);
+        let added = add_library(alloc, &mut global, tree);
+        sheet.maker.remember(added);
+        tell_run::<R>(chain, way, tree, &mut global, sheet);
+        sheet.write(", ");
+        sheet.show(&global.num_operations);
+        sheet.write(" charges, ");
+        sheet.content(&global.cells, 0);
+        drop(global);
     }
 }
 
-fn handle() -> Dynamic<Pair> {
-    Dynamic::new(Union::Cell(CellId { number: 0 }))
+fn tell_run<R: Runner>(
+    chain: Chain,
+    way: Way,
+    tree: &CheckedTree,
+    global: &mut GlobalRuntimeState<Pair>,
+    sheet: &mut Sheet,
+) {
+    let alloc = sheet.maker.allocator();
+    let mut scope = scope_of(&mut sheet.maker, chain);
+    let mut caches = way.caches(alloc);
+    let mut table = Counting::table(alloc);
+    let answer = R::eval_tree(
+        alloc,
+        &Settings::USUAL,
+        global,
+        &mut caches,
+        &mut table,
+        &mut scope,
+        tree,
+    );
+    drop(scope);
+    drop(caches);
+    drop(table);
+    match sheet.maker.kept(answer) {
+        Some(Ok(value)) => sheet.tell_value(value),
+        Some(Err(error)) => sheet.tell_error(error),
+        None => {}
+    }
 }
 
-fn pointer_of(alloc: Global, pointer: Pointer) -> Result<Dynamic<Pair>, AllocError>
-    ensures { IfOk result (λ value. IsNoHandle value.value) }
+fn pointer_of(maker: &mut Maker, pointer: Pointer) -> Dynamic<Pair>
+    ensures { IsNoHandle result.value }
 {
     let Pointer(name, kind, has_handle) = pointer;
-    let mut curry = Items::new(alloc);
+    let mut curry = Items::new(maker.allocator());
     if has_handle {
-        curry.push(handle())?;
+        maker.push(&mut curry, handle());
     }
-    let kind = match kind {
-        Kind::Name => FnPtrKind::Name,
-        Kind::Native(number) => FnPtrKind::Native(NativeId { number }),
-        Kind::Arity(count) => FnPtrKind::Arity(count),
-    };
-    let name = shared_text(alloc, name)?;
-    Ok(Dynamic::new(Union::FnPtr(Boxed::new(alloc, FnPtr { name, curry, kind })?)))
+    maker.pointer(name, curry, kind.led_to())
+}
+
+impl Kind {
+    fn led_to(self) -> FnPtrKind<Pair> {
+        match self {
+            Kind::Name => FnPtrKind::Name,
+            Kind::Native(number) => FnPtrKind::Native(NativeId { number }),
+            Kind::Arity(count) => FnPtrKind::Arity(count),
+        }
+    }
 }
 
 /// Makes a map with a value under a name.
-fn map(alloc: Global, name: &str, value: Dynamic<Pair>) -> Result<Dynamic<Pair>, AllocError>
-    ensures { IfOk result (λ map. IsNoHandle map.value) }
+fn map(maker: &mut Maker, name: &str, value: Dynamic<Pair>) -> Dynamic<Pair>
+    ensures { IsNoHandle result.value }
 {
-    let mut map = Table::new(alloc);
-    map.insert(shared_text(alloc, name)?, value)?;
-    Ok(Dynamic::new(Union::Map(Boxed::new(alloc, map)?)))
+    let mut entries = Table::new(maker.allocator());
+    maker.insert(&mut entries, name, value);
+    maker.map(entries)
 }
 
 /// Makes the value that the cell has.
-fn content(alloc: Global, cell: Cell) -> Result<Dynamic<Pair>, AllocError>
-    ensures { IfOk result (λ value. IsNoHandle value.value) }
+fn content(maker: &mut Maker, cell: Cell) -> Dynamic<Pair>
+    ensures { IsNoHandle result.value }
 {
     match cell {
-        Cell::One => Ok(Dynamic::new(Union::Int(1))),
-        Cell::Pointer(own) => pointer_of(alloc, own),
-        Cell::MapOfHandle(name) => map(alloc, name, handle()),
-        Cell::MapOfPointer(own) => map(alloc, own.0, pointer_of(alloc, own)?),
-    }
-}
-
-/// Adds the cell.
-fn add_cell(alloc: Global, cells: &mut CellStore<Pair>, cell: Cell) -> Result<(), AllocError> {
-    match cells.add(content(alloc, cell)?) {
-        Ok(_) => Ok(()),
-        Err((value, error)) => {
-            drop(value);
-            Err(error)
+        Cell::One => Dynamic::new(Union::Int(1)),
+        Cell::Pointer(own) => pointer_of(maker, own),
+        Cell::MapOfHandle(name) => map(maker, name, handle()),
+        Cell::MapOfPointer(own) => {
+            let pointer = pointer_of(maker, own);
+            map(maker, own.0, pointer)
         }
     }
 }
 
 /// Makes the variables: the root, which is the handle, an array of it as `a`, and a pointer as `p`.
-fn scope_of(alloc: Global, chain: Chain) -> Result<Scope<Pair>, AllocError> {
-    let mut items = Items::new(alloc);
-    items.push(handle())?;
-    let array = Dynamic::new(Union::Array(Boxed::new(alloc, items)?));
-    let called = pointer_of(alloc, chain.called)?;
-    let mut scope = Scope::new(alloc);
-    let root = String::from_str(alloc, chain.root)?;
-    scope.push_entry(root, AccessMode::ReadWrite, handle())?;
-    scope.push_entry(String::from_str(alloc, "a")?, AccessMode::ReadWrite, array)?;
-    scope.push_entry(String::from_str(alloc, "p")?, AccessMode::ReadWrite, called)?;
-    Ok(scope)
+fn scope_of(maker: &mut Maker, chain: Chain) -> Scope<Pair> {
+    let mut items = Items::new(maker.allocator());
+    maker.push(&mut items, handle());
+    let array = maker.array(items);
+    let called = pointer_of(maker, chain.called);
+    let mut scope = Scope::new(maker.allocator());
+    maker.declare(&mut scope, chain.root, handle());
+    maker.declare(&mut scope, "a", array);
+    maker.declare(&mut scope, "p", called);
+    scope
 }

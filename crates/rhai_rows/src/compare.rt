@@ -33,7 +33,7 @@ enum Verdict {
 }
 
 /// Compares the lines of a file. Prints those that differ, with their numbers, and totals, and answers how
-/// many differ. Empty lines and lines that begin with `//` say nothing.
+/// many differ. Empty lines, lines that begin with `//`, and those of trees are not compared.
 pub fn compare_lines<S: Subject, W: Write>(
     alloc: Global,
     subject: S,
@@ -43,7 +43,7 @@ pub fn compare_lines<S: Subject, W: Write>(
     let mut tally = Tally::default();
     let name = subject.name();
     for (at, line) in lines.lines().enumerate() {
-        if line.is_empty() || line.starts_with("//") {
+        if line.is_empty() || line.starts_with("//") || line.starts_with("tree ") {
             continue;
         }
         let verdict = judge(alloc, subject, line)?;

@@ -5,6 +5,7 @@
 pub mod compare;
 pub mod errors;
 pub mod linked_pointer;
+pub mod maker;
 pub mod modules;
 pub mod outcome;
 pub mod outcomes;
@@ -13,5 +14,6 @@ pub mod rows;
 pub mod runner;
 pub mod sample;
 pub mod settings;
+pub mod sheet;
 pub mod signatures;
 pub mod values;

@@ -1,57 +1,60 @@
 //! The variables above which rows run, one of them a pointer whose function finds others than the script's.
 
-use crate::modules::{checked, library};
-use rhai_eval_base::base::{
-    AccessMode, Boxed, Dynamic, FnPtr, FnPtrKind, Items, Scope, Shared, Text, Union,
-};
+use crate::maker::Maker;
+use crate::modules::checked;
+use rhai_eval_base::base::{Dynamic, FnPtrKind, Items, Scope, Shared};
 use rhai_eval_base::check::CheckedFn;
 use rhai_eval_base::script::EncapsulatedEnviron;
 use rhai_samples::functions::{FUNCTION_G, FUNCTION_H};
-use rhai_samples::parts::tree_of;
 use rhai_tables::host::Pair;
 use std::alloc::{AllocError, Global};
 
 /// Makes the variables above which the scripts of a row run: of most rows none.
 pub fn scope_for(alloc: Global, row: &str) -> Result<Scope<Pair>, AllocError> {
+    let mut maker = Maker::new(alloc);
+    let mut scope = Scope::new(alloc);
     if row == "15" {
-        pointer_with_a_library(alloc)
-    } else {
-        Ok(Scope::new(alloc))
+        let pointer = maker.pointer_with_a_library();
+        maker.declare(&mut scope, "p", pointer);
+    }
+    maker.finish(scope)
+}
+
+impl Maker {
+    /// Makes a pointer to `fn h() { g() }` with an environment. The environment's library has `fn g() { 1 }`.
+    fn pointer_with_a_library(&mut self) -> Dynamic<Pair> {
+        let kind = self.function_h();
+        self.pointer("h", Items::new(self.allocator()), kind)
+    }
+
+    /// Makes the function with what is around it: a library with the other.
+    fn function_h(&mut self) -> FnPtrKind<Pair> {
+        let environ = self.environ_of_g();
+        let environ = self.shared(environ);
+        let function = checked_h(self.allocator());
+        match self.kept(function) {
+            Some(function) => FnPtrKind::Script(function, environ),
+            None => {
+                drop(environ);
+                FnPtrKind::Name
+            }
+        }
+    }
+
+    fn environ_of_g(&mut self) -> EncapsulatedEnviron<Pair> {
+        let mut lib = Items::new(self.allocator());
+        let library = self.library(FUNCTION_G);
+        self.push_module(&mut lib, library);
+        EncapsulatedEnviron {
+            lib,
+            imports: Items::new(self.allocator()),
+            constants: 0,
+        }
     }
 }
 
-/// Makes a scope with `p`, a pointer to `fn h() { g() }` with an environment. The environment's library has
-/// `fn g() { 1 }`.
-fn pointer_with_a_library(alloc: Global) -> Result<Scope<Pair>, AllocError> {
-    let environ = Shared::new(alloc, environ_of_g(alloc)?)?;
-    let pointer = FnPtr {
-        name: Shared::new(alloc, Text::from_str(alloc, "h")?)?,
-        curry: Items::new(alloc),
-        kind: FnPtrKind::Script(checked_h(alloc)?, Some(environ)),
-    };
-    let pointer = Dynamic::new(Union::FnPtr(Boxed::new(alloc, pointer)?));
-    let mut scope = Scope::new(alloc);
-    scope.push_entry(
-        String::from_str(alloc, "p")?,
-        AccessMode::ReadWrite,
-        pointer,
-    )?;
-    Ok(scope)
-}
-
-/// Makes what is around the function: a library with the other.
-fn environ_of_g(alloc: Global) -> Result<EncapsulatedEnviron<Pair>, AllocError> {
-    let mut lib = Items::new(alloc);
-    lib.push(Shared::new(alloc, library(alloc, FUNCTION_G)?)?)?;
-    Ok(EncapsulatedEnviron {
-        lib,
-        imports: Items::new(alloc),
-        constants: 0,
-    })
-}
-
 fn checked_h(alloc: Global) -> Result<Shared<CheckedFn>, AllocError> {
-    let tree = checked(alloc, tree_of(alloc, FUNCTION_H)?)?;
+    let tree = checked(alloc, FUNCTION_H)?;
     match tree.functions() {
         [function, ..] => function.share(),
         [] => Err(AllocError),

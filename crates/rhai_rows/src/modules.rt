@@ -2,15 +2,15 @@
 
 ghost use Rattle.std.specs.Prelude.{◌≡◌};
 
+use crate::maker::Maker;
 use rhai_build::functions::TreeParts;
-use rhai_eval_base::base::{Boxed, Dynamic, Items, Shared, Table, Union};
+use rhai_eval_base::base::{Dynamic, Items, Shared, Table, Union};
 use rhai_eval_base::check::{CheckedTree, check_tree};
 use rhai_eval_base::state::{GlobalRuntimeState, Module, ModuleFn, ModuleTable};
 use rhai_library::library_of;
 use rhai_samples::globals::FUNCTIONS_OF_A_GLOBAL_MODULE;
 use rhai_samples::imports::{FUNCTIONS_OF_D, FUNCTIONS_OF_M, FUNCTIONS_OF_N};
 use rhai_samples::parts::{Part, tree_of};
-use rhai_state::errors::shared_text;
 use rhai_tables::host::Pair;
 use std::alloc::{AllocError, Global};
 
@@ -34,133 +34,163 @@ pub fn add_library(
 /// functions, and in a module `s` a module `d` with a constant `E` of 10 and a function. Every function but
 /// `two` is global.
 pub fn modules_to_import(alloc: Global) -> Result<ModuleTable<Pair>, AllocError> {
+    let mut maker = Maker::new(alloc);
     let mut modules = Table::new(alloc);
-    add_module(alloc, &mut modules, "m", module_m(alloc)?)?;
-    add_module(alloc, &mut modules, "n", module_n(alloc)?)?;
-    Ok(ModuleTable { modules })
+    let module = maker.module_m();
+    maker.add_module(&mut modules, "m", module);
+    let module = maker.module_n();
+    maker.add_module(&mut modules, "n", module);
+    maker.finish(ModuleTable { modules })
 }
 
 /// Makes the modules of an engine whose names are not needed. One has a constant `X` of `[1]`, and one an `X`
 /// of 2, a `Y` of 3 and a function that is not global.
 pub fn global_modules(alloc: Global) -> Result<Items<Shared<Module<Pair>>>, AllocError> {
+    let mut maker = Maker::new(alloc);
     let mut modules = Items::new(alloc);
-    modules.push(global_module_of_x(alloc)?)?;
-    modules.push(global_module_of_x_and_y(alloc)?)?;
-    Ok(modules)
-}
-
-/// Makes the module with a constant alone.
-fn global_module_of_x(alloc: Global) -> Result<Shared<Module<Pair>>, AllocError> {
-    let mut module = Module::new(alloc);
-    add_constant(alloc, &mut module, "X", integers(alloc, &[1])?)?;
-    Shared::new(alloc, module)
-}
-
-/// Makes the module with two constants and a function.
-fn global_module_of_x_and_y(alloc: Global) -> Result<Shared<Module<Pair>>, AllocError> {
-    let mut module = library(alloc, FUNCTIONS_OF_A_GLOBAL_MODULE)?;
-    add_constant(alloc, &mut module, "X", integer(2))?;
-    add_constant(alloc, &mut module, "Y", integer(3))?;
-    Shared::new(alloc, module)
+    let module = maker.global_module_of_x();
+    maker.push_module(&mut modules, module);
+    let module = maker.global_module_of_x_and_y();
+    maker.push_module(&mut modules, module);
+    maker.finish(modules)
 }
 
 /// Makes the modules of an engine that have names: under `g` the module that is imported as `m`.
 pub fn global_sub_modules(alloc: Global) -> Result<Table<Shared<Module<Pair>>>, AllocError> {
+    let mut maker = Maker::new(alloc);
     let mut modules = Table::new(alloc);
-    add_module(alloc, &mut modules, "g", module_m(alloc)?)?;
-    Ok(modules)
+    let module = maker.module_m();
+    maker.add_module(&mut modules, "g", module);
+    maker.finish(modules)
 }
 
 fn integer(value: i64) -> Dynamic<Pair> {
     Dynamic::new(Union::Int(value))
 }
 
-/// Makes an array of integers.
-fn integers(alloc: Global, values: &[i64]) -> Result<Dynamic<Pair>, AllocError> {
-    let mut items = Items::new(alloc);
-    for value in values {
-        items.push(integer(*value))?;
+impl Maker {
+    /// Makes an array of integers.
+    fn integers(&mut self, values: &[i64]) -> Dynamic<Pair> {
+        let mut items = Items::new(self.allocator());
+        for value in values {
+            self.push(&mut items, integer(*value));
+        }
+        self.array(items)
     }
-    Ok(Dynamic::new(Union::Array(Boxed::new(alloc, items)?)))
+
+    /// Adds a module under a name.
+    fn add_module(
+        &mut self,
+        modules: &mut Table<Shared<Module<Pair>>>,
+        name: &str,
+        module: Module<Pair>,
+    ) {
+        if let Some(module) = self.shared(module) {
+            self.insert(modules, name, module);
+        }
+    }
+
+    /// Appends a module to a list.
+    pub(crate) fn push_module(
+        &mut self,
+        modules: &mut Items<Shared<Module<Pair>>>,
+        module: Module<Pair>,
+    ) {
+        if let Some(module) = self.shared(module) {
+            self.push(modules, module);
+        }
+    }
+
+    /// Gives a module a constant.
+    fn add_constant(&mut self, module: &mut Module<Pair>, name: &str, value: Dynamic<Pair>) {
+        self.insert(&mut module.constants, name, value);
+    }
+
+    /// Makes the module with a constant alone.
+    fn global_module_of_x(&mut self) -> Module<Pair> {
+        let mut module = Module::new(self.allocator());
+        let value = self.integers(&[1]);
+        self.add_constant(&mut module, "X", value);
+        module
+    }
+
+    /// Makes the module with two constants and a function.
+    fn global_module_of_x_and_y(&mut self) -> Module<Pair> {
+        let mut module = self.library(FUNCTIONS_OF_A_GLOBAL_MODULE);
+        self.add_constant(&mut module, "X", integer(2));
+        self.add_constant(&mut module, "Y", integer(3));
+        module
+    }
+
+    /// Makes the module under `m`.
+    fn module_m(&mut self) -> Module<Pair> {
+        let mut module = self.module_of(FUNCTIONS_OF_M);
+        self.add_constant(&mut module, "K", integer(7));
+        let within = self.module_s_of_m();
+        self.add_module(&mut module.sub_modules, "s", within);
+        module
+    }
+
+    /// Makes the module `s` within that under `m`.
+    fn module_s_of_m(&mut self) -> Module<Pair> {
+        let mut module = Module::new(self.allocator());
+        self.add_constant(&mut module, "K", integer(8));
+        module
+    }
+
+    /// Makes the module under `n`.
+    fn module_n(&mut self) -> Module<Pair> {
+        let mut module = self.module_of(FUNCTIONS_OF_N);
+        let value = self.integers(&[1, 2]);
+        self.add_constant(&mut module, "A", value);
+        let within = self.module_s_of_n();
+        self.add_module(&mut module.sub_modules, "s", within);
+        module
+    }
+
+    /// Makes the module `s` within that under `n`.
+    fn module_s_of_n(&mut self) -> Module<Pair> {
+        let mut module = Module::new(self.allocator());
+        let within = self.module_d();
+        self.add_module(&mut module.sub_modules, "d", within);
+        module
+    }
+
+    /// Makes the module `d` within that.
+    fn module_d(&mut self) -> Module<Pair> {
+        let mut module = self.module_of(FUNCTIONS_OF_D);
+        self.add_constant(&mut module, "E", integer(10));
+        module
+    }
+
+    /// Makes a module of functions alone, all of them but `two` global.
+    fn module_of(&mut self, parts: &[Part<'_>]) -> Module<Pair> {
+        let mut module = self.library(parts);
+        make_global(module.functions.as_mut_slice());
+        module
+    }
+
+    /// Makes a module of the functions of a tree, none of them global.
+    pub(crate) fn library(&mut self, parts: &[Part<'_>]) -> Module<Pair> {
+        let library = library(self.allocator(), parts);
+        match self.kept(library) {
+            Some(library) => library,
+            None => Module::new(self.allocator()),
+        }
+    }
 }
 
-/// Adds a module under a name.
-fn add_module(
-    alloc: Global,
-    modules: &mut Table<Shared<Module<Pair>>>,
-    name: &str,
-    module: Module<Pair>,
-) -> Result<(), AllocError> {
-    let module = Shared::new(alloc, module)?;
-    modules.insert(shared_text(alloc, name)?, module)
-}
-
-/// Gives a module a constant.
-fn add_constant(
-    alloc: Global,
-    module: &mut Module<Pair>,
-    name: &str,
-    value: Dynamic<Pair>,
-) -> Result<(), AllocError> {
-    module.constants.insert(shared_text(alloc, name)?, value)
-}
-
-/// Makes the module under `m`.
-fn module_m(alloc: Global) -> Result<Module<Pair>, AllocError> {
-    let mut module = module_of(alloc, FUNCTIONS_OF_M)?;
-    add_constant(alloc, &mut module, "K", integer(7))?;
-    add_module(alloc, &mut module.sub_modules, "s", module_s_of_m(alloc)?)?;
-    Ok(module)
-}
-
-/// Makes the module `s` within that under `m`.
-fn module_s_of_m(alloc: Global) -> Result<Module<Pair>, AllocError> {
-    let mut module = Module::new(alloc);
-    add_constant(alloc, &mut module, "K", integer(8))?;
-    Ok(module)
-}
-
-/// Makes the module under `n`.
-fn module_n(alloc: Global) -> Result<Module<Pair>, AllocError> {
-    let mut module = module_of(alloc, FUNCTIONS_OF_N)?;
-    add_constant(alloc, &mut module, "A", integers(alloc, &[1, 2])?)?;
-    add_module(alloc, &mut module.sub_modules, "s", module_s_of_n(alloc)?)?;
-    Ok(module)
-}
-
-/// Makes the module `s` within that under `n`.
-fn module_s_of_n(alloc: Global) -> Result<Module<Pair>, AllocError> {
-    let mut module = Module::new(alloc);
-    add_module(alloc, &mut module.sub_modules, "d", module_d(alloc)?)?;
-    Ok(module)
-}
-
-/// Makes the module `d` within that.
-fn module_d(alloc: Global) -> Result<Module<Pair>, AllocError> {
-    let mut module = module_of(alloc, FUNCTIONS_OF_D)?;
-    add_constant(alloc, &mut module, "E", integer(10))?;
-    Ok(module)
-}
-
-/// Makes a module of functions alone, all of them but `two` global.
-fn module_of(alloc: Global, parts: &[Part<'_>]) -> Result<Module<Pair>, AllocError> {
-    let mut module = library(alloc, parts)?;
-    make_global(module.functions.as_mut_slice());
-    Ok(module)
-}
-
-/// Makes a module of the functions of a tree, none of them global.
-pub(crate) fn library(alloc: Global, parts: &[Part<'_>]) -> Result<Module<Pair>, AllocError> {
-    let tree = checked(alloc, tree_of(alloc, parts)?)?;
+fn library(alloc: Global, parts: &[Part<'_>]) -> Result<Module<Pair>, AllocError> {
+    let tree = checked(alloc, parts)?;
     library_of(alloc, &tree)
 }
 
 /// Checks the tree of parts that are well formed.
-pub(crate) fn checked(alloc: Global, parts: TreeParts) -> Result<CheckedTree, AllocError> {
+pub(crate) fn checked(alloc: Global, parts: &[Part<'_>]) -> Result<CheckedTree, AllocError> {
     let TreeParts {
         statements,
         functions,
-    } = parts;
+    } = tree_of(alloc, parts)?;
     check_tree(alloc, statements, functions).map_err(|_| AllocError)
 }
 

@@ -1,15 +1,14 @@
 //! What scripts come to, as it is written.
 
-use crate::errors::write_lines;
 use crate::outcome::{Ending, Outcome};
-use crate::print::{write_ending, write_value};
-use rhai_eval_base::base::{AccessMode, CellId, EvalAltResult, Scope, Shared, Text};
+use crate::sheet::Sheet;
+use rhai_eval_base::base::{AccessMode, CellId, EvalAltResult, Scope, ScopeEntry, Shared, Text};
 use rhai_eval_base::cells::CellStore;
 use rhai_eval_base::state::Import;
+use rhai_state::error::Bounds;
 use rhai_tables::host::Pair;
 use std::alloc::Global;
 use std::io;
-use std::io::Write;
 
 /// Writes what is asked of what a script came to above so many other variables: how it ended, its operations,
 /// its variables, the constant ones, those with aliases, its cells, the modules that it loaded, its imports,
@@ -21,152 +20,173 @@ pub fn write_outcome(
     outcome: &Outcome,
     out: &mut Vec<u8>,
 ) -> io::Result<()> {
+    let mut sheet = Sheet::new(alloc);
     match form {
-        "ends" => write_ending(out, &outcome.ending),
-        "charges" => write!(out, "{}", outcome.num_operations),
-        "leaves" => write_variables(others, &outcome.scope, out),
-        "fixes" => write_constants(&outcome.scope, out),
-        "shares" => write_cells(&outcome.cells, out),
-        "exports" => write_aliases(&outcome.scope, out),
-        "loads" => write!(out, "{}", outcome.num_modules_loaded),
-        "imports" => write_imports(outcome.imports.as_slice(), out),
-        "says" => write_said(&outcome.ending, out),
-        "reads" => write_read(alloc, &outcome.ending, out),
-        _ => write!(out, "no form"),
+        "ends" => sheet.end(&outcome.ending),
+        "charges" => sheet.show(&outcome.num_operations),
+        "loads" => sheet.show(&outcome.num_modules_loaded),
+        "says" => sheet.said(&outcome.ending),
+        "reads" => sheet.read(&outcome.ending),
+        _ => sheet.left(others, form, outcome),
     }
+    sheet.hand_to(out)
 }
 
-/// Writes the variables above so many others with their values, as `x = 1; y = 2;`, or `nothing`.
-fn write_variables(others: usize, scope: &Scope<Pair>, out: &mut Vec<u8>) -> io::Result<()> {
-    if scope.len() <= others {
-        return write!(out, "nothing");
-    }
-    for (i, entry) in scope.entries().iter().enumerate() {
-        if i < others {
-            continue;
+impl Sheet {
+    /// Appends what a script left: its variables, the constant ones, those with aliases, its cells or its imports.
+    fn left(&mut self, others: usize, form: &str, outcome: &Outcome) {
+        match form {
+            "leaves" => self.variables(others, &outcome.scope),
+            "fixes" => self.constants(&outcome.scope),
+            "shares" => self.cells(&outcome.cells),
+            "exports" => self.aliases(&outcome.scope),
+            "imports" => self.imports(outcome.imports.as_slice()),
+            _ => self.write("no form"),
         }
-        if i > others {
-            write!(out, " ")?;
-        }
-        write!(out, "{} = ", entry.name.get().as_str())?;
-        write_value(out, &entry.value)?;
-        write!(out, ";")?;
     }
-    Ok(())
-}
 
-/// Writes the names of the variables that are constant, each with a `;`, or `nothing`.
-fn write_constants(scope: &Scope<Pair>, out: &mut Vec<u8>) -> io::Result<()> {
-    let mut separator = "";
-    for entry in scope.entries() {
-        if entry.value.access_mode() == AccessMode::ReadOnly {
-            write!(out, "{separator}{};", entry.name.get().as_str())?;
+    /// Appends `nothing` where a list ended before a separator was due.
+    fn end_list(&mut self, separator: &str) {
+        if separator.is_empty() {
+            self.write("nothing");
+        }
+    }
+
+    /// Appends the variables above so many others with their values, as `x = 1; y = 2;`, or `nothing`.
+    fn variables(&mut self, others: usize, scope: &Scope<Pair>) {
+        if scope.len() <= others {
+            self.write("nothing");
+        }
+        for (at, entry) in scope.entries().iter().enumerate() {
+            if at >= others {
+                self.separate(at - others, " ");
+                self.variable(entry);
+            }
+        }
+    }
+
+    /// Appends a variable with its value, as `x = 1;`.
+    fn variable(&mut self, entry: &ScopeEntry<Pair>) {
+        self.write(entry.name.get().as_str());
+        self.write(" = ");
+        self.value(&entry.value);
+        self.write(";");
+    }
+
+    /// Appends the names of the variables that are constant, each with a `;`, or `nothing`.
+    fn constants(&mut self, scope: &Scope<Pair>) {
+        let mut separator = "";
+        for entry in scope.entries() {
+            if entry.value.access_mode() == AccessMode::ReadOnly {
+                self.write(separator);
+                self.write(entry.name.get().as_str());
+                self.write(";");
+                separator = " ";
+            }
+        }
+        self.end_list(separator);
+    }
+
+    /// Appends the variables that have aliases with them, as `x as y, z;`, or `nothing`.
+    fn aliases(&mut self, scope: &Scope<Pair>) {
+        let mut separator = "";
+        for entry in scope.entries() {
+            if !entry.aliases.as_slice().is_empty() {
+                self.write(separator);
+                self.write(entry.name.get().as_str());
+                self.write(" as");
+                self.names(entry.aliases.as_slice());
+                separator = " ";
+            }
+        }
+        self.end_list(separator);
+    }
+
+    /// Appends names behind a space each, with commas between them and a `;` behind them.
+    fn names(&mut self, names: &[Shared<Text>]) {
+        let mut separator = " ";
+        for name in names {
+            self.write(separator);
+            self.write(name.get().as_str());
+            separator = ", ";
+        }
+        self.write(";");
+    }
+
+    /// Appends the names of imports in quotes, each with a `;`, or `nothing`.
+    fn imports(&mut self, imports: &[Import<Pair>]) {
+        let mut separator = "";
+        for import in imports {
+            self.write(separator);
+            self.quote_text(import.name.get().as_str());
+            self.write(";");
             separator = " ";
         }
+        self.end_list(separator);
     }
-    if separator == "" {
-        write!(out, "nothing")?;
-    }
-    Ok(())
-}
 
-/// Writes the variables that have aliases with them, as `x as y, z;`, or `nothing`.
-fn write_aliases(scope: &Scope<Pair>, out: &mut Vec<u8>) -> io::Result<()> {
-    let mut separator = "";
-    for entry in scope.entries() {
-        if !entry.aliases.as_slice().is_empty() {
-            write!(out, "{separator}{} as", entry.name.get().as_str())?;
-            write_names(entry.aliases.as_slice(), out)?;
-            separator = " ";
+    /// Appends the values of the cells, as `1; [2];`, or `nothing`.
+    fn cells(&mut self, cells: &CellStore<Pair>) {
+        if cells.len() == 0 {
+            self.write("nothing");
+        }
+        for number in 0..cells.len() {
+            self.separate(number, " ");
+            self.content(cells, number);
+            self.write(";");
         }
     }
-    if separator == "" {
-        write!(out, "nothing")?;
-    }
-    Ok(())
-}
 
-/// Writes names behind a space each, with commas between them and a `;` behind them.
-fn write_names(names: &[Shared<Text>], out: &mut Vec<u8>) -> io::Result<()> {
-    let mut separator = "";
-    for name in names {
-        write!(out, "{separator} {}", name.get().as_str())?;
-        separator = ",";
-    }
-    write!(out, ";")
-}
-
-/// Writes the names of imports in quotes, each with a `;`, or `nothing`.
-fn write_imports(imports: &[Import<Pair>], out: &mut Vec<u8>) -> io::Result<()> {
-    if imports.is_empty() {
-        return write!(out, "nothing");
-    }
-    let mut separator = "";
-    for import in imports {
-        write!(out, "{separator}\"{}\";", import.name.get().as_str())?;
-        separator = " ";
-    }
-    Ok(())
-}
-
-/// Writes the values of the cells, as `1; [2];`, or `nothing`.
-fn write_cells(cells: &CellStore<Pair>, out: &mut Vec<u8>) -> io::Result<()> {
-    if cells.len() == 0 {
-        return write!(out, "nothing");
-    }
-    for number in 0..cells.len() {
-        if number > 0 {
-            write!(out, " ")?;
-        }
+    /// Appends the value of a cell, or `held`.
+    pub fn content(&mut self, cells: &CellStore<Pair>, number: usize) {
         match cells.get(CellId { number }) {
-            Some(value) => write_value(out, value)?,
-            None => write!(out, "held")?,
+            Some(value) => self.value(value),
+            None => self.write("held"),
         }
-        write!(out, ";")?;
     }
-    Ok(())
-}
 
-/// Writes an error as a user reads it, or `no error`.
-fn write_read(alloc: Global, ending: &Ending, out: &mut Vec<u8>) -> io::Result<()> {
-    match ending {
-        Ending::Error(error) => {
-            let shown = format!(in alloc; "{error}")?;
-            write_lines(shown.as_str(), out)
+    /// Appends an error as a user reads it, or `no error`.
+    fn read(&mut self, ending: &Ending) {
+        match ending {
+            Ending::Error(error) => self.read_error(error),
+            _ => self.write("no error"),
         }
-        _ => write!(out, "no error"),
     }
-}
 
-/// Writes what an error of these scripts says beside its position, or `nothing`.
-fn write_said(ending: &Ending, out: &mut Vec<u8>) -> io::Result<()> {
-    match ending {
-        Ending::Error(
+    /// Appends what an error of these scripts says beside its position, or `nothing`.
+    fn said(&mut self, ending: &Ending) {
+        match ending {
+            Ending::Error(error) => self.said_by(error),
+            _ => self.write("nothing"),
+        }
+    }
+
+    fn said_by(&mut self, error: &EvalAltResult<Pair>) {
+        match error {
             EvalAltResult::ErrorArrayBounds(bounds, _)
-            | EvalAltResult::ErrorStringBounds(bounds, _),
-        ) => {
-            let bounds = bounds.get();
-            write!(out, "{} and {}", bounds.length, bounds.index)
+            | EvalAltResult::ErrorStringBounds(bounds, _) => self.bounds(bounds.get()),
+            _ => self.write(text_of(error)),
         }
-        _ => write!(out, "{}", text_of(ending)),
+    }
+
+    fn bounds(&mut self, bounds: &Bounds) {
+        self.show(&bounds.length);
+        self.write(" and ");
+        self.show(&bounds.index);
     }
 }
 
 /// Returns the text of an error, or `nothing`.
-fn text_of(ending: &Ending) -> &str {
-    match ending {
-        Ending::Error(EvalAltResult::ErrorFunctionNotFound(text, _)) => text.get().as_str(),
-        Ending::Error(EvalAltResult::ErrorVariableNotFound(text, _)) => text.get().as_str(),
-        Ending::Error(EvalAltResult::ErrorModuleNotFound(text, _)) => text.get().as_str(),
-        Ending::Error(EvalAltResult::ErrorAssignmentToConstant(text, _)) => text.get().as_str(),
-        Ending::Error(EvalAltResult::ErrorDotExpr(text, _)) => text.get().as_str(),
-        Ending::Error(EvalAltResult::ErrorNonPureMethodCallOnConstant(text, _)) => {
-            text.get().as_str()
-        }
-        Ending::Error(EvalAltResult::ErrorMismatchDataType(types, _)) => types.get().found.as_str(),
-        Ending::Error(EvalAltResult::ErrorInFunctionCall(call, _)) => {
-            call.get().name.get().as_str()
-        }
+fn text_of(error: &EvalAltResult<Pair>) -> &str {
+    match error {
+        EvalAltResult::ErrorFunctionNotFound(text, _)
+        | EvalAltResult::ErrorVariableNotFound(text, _)
+        | EvalAltResult::ErrorModuleNotFound(text, _)
+        | EvalAltResult::ErrorAssignmentToConstant(text, _)
+        | EvalAltResult::ErrorDotExpr(text, _)
+        | EvalAltResult::ErrorNonPureMethodCallOnConstant(text, _) => text.get().as_str(),
+        EvalAltResult::ErrorMismatchDataType(types, _) => types.get().found.as_str(),
+        EvalAltResult::ErrorInFunctionCall(call, _) => call.get().name.get().as_str(),
         _ => "nothing",
     }
 }

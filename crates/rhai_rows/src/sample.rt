@@ -6,11 +6,11 @@ ghost use Rattle.rhai_rows.specs.Settings.{settings_of};
 use crate::settings::{Setting, Settings};
 use rhai_build::functions::TreeParts;
 use rhai_samples::built::{
-    continued_until, decrements, functions_for_types, integer_and_true, integer_walked,
-    items_and_counter_summed, items_of_three_types, joined_parts, method_that_throws,
-    names_shared_in_order, property_of_unit, range_after_a_case, return_at_the_top,
-    shared_variable_at_a_break, thrown_value_caught, true_or_integer, truth_chosen,
-    unit_or_integer, variable_of_the_caller_increased,
+    assignment_to_constant, closure_on_its_variable, continued_until, decrements,
+    functions_for_types, integer_and_true, integer_walked, items_and_counter_summed,
+    items_of_three_types, joined_parts, method_that_throws, property_of_unit, range_after_a_case,
+    return_at_the_top, thrown_value_caught, true_or_integer, truth_chosen, unit_or_integer,
+    value_of_a_loop, variable_of_the_caller_increased,
 };
 use rhai_samples::caught::throws_in_turn;
 use rhai_samples::chains::{first_item_increased, increments};
@@ -49,7 +49,8 @@ pub enum Tree {
 #[derive(Clone, Copy)]
 pub enum MadeStatements {
     ThrownValueCaught,
-    NamesSharedInOrder,
+    ValueOfALoop,
+    AssignmentToConstant,
     PropertyOfUnit,
     TruthChosen,
     RangeAfterACase,
@@ -87,7 +88,7 @@ pub enum MadeStatements {
 /// Statements with functions beside them that a function of `rhai_samples` makes, with its argument.
 #[derive(Clone, Copy)]
 pub enum MadeTree {
-    SharedVariableAtABreak,
+    ClosureOnItsVariable,
     VariableOfTheCallerIncreased,
     FunctionsForTypes,
     MethodThatThrows,
@@ -133,7 +134,8 @@ impl MadeStatements {
     fn statements(self, alloc: Global) -> Result<Items<Stmt>, AllocError> {
         match self {
             MadeStatements::ThrownValueCaught => thrown_value_caught(alloc),
-            MadeStatements::NamesSharedInOrder => names_shared_in_order(alloc),
+            MadeStatements::ValueOfALoop => value_of_a_loop(alloc),
+            MadeStatements::AssignmentToConstant => assignment_to_constant(alloc),
             MadeStatements::PropertyOfUnit => property_of_unit(alloc),
             MadeStatements::TruthChosen => truth_chosen(alloc),
             MadeStatements::RangeAfterACase => range_after_a_case(alloc),
@@ -165,7 +167,7 @@ impl MadeStatements {
 impl MadeTree {
     fn parts(self, alloc: Global) -> Result<TreeParts, AllocError> {
         match self {
-            MadeTree::SharedVariableAtABreak => shared_variable_at_a_break(alloc),
+            MadeTree::ClosureOnItsVariable => closure_on_its_variable(alloc),
             MadeTree::VariableOfTheCallerIncreased => variable_of_the_caller_increased(alloc),
             MadeTree::FunctionsForTypes => functions_for_types(alloc),
             MadeTree::MethodThatThrows => method_that_throws(alloc),

@@ -1,37 +1,85 @@
 //! Each kind of value as it is printed, and positions.
 
-use crate::print::{write_position, write_value};
-use rhai_eval_base::base::{Boxed, CellId, Dynamic, FnPtr, FnPtrKind, Items, Position, Union};
-use rhai_state::errors::shared_text;
+use crate::maker::Maker;
+use crate::sheet::Sheet;
+use rhai_eval_base::base::{CellId, Dynamic, FnPtrKind, Items, Position, Union};
 use rhai_tables::host::Pair;
-use std::alloc::{AllocError, Global};
+use std::alloc::Global;
 use std::io;
-use std::io::Write;
 
 /// Writes the value or the position of a name.
 pub fn write_sample(alloc: Global, name: &str, out: &mut Vec<u8>) -> io::Result<()> {
+    let mut sheet = Sheet::new(alloc);
     match name {
-        "place" => write_position(out, Position::new(1, 6)),
-        "no place" => write_position(out, Position::NONE),
-        _ => match plain_value(name) {
-            Some(value) => write_union(value, out),
-            None => write_with_parts(alloc, name, out),
-        },
+        "place" => sheet.position(Position::new(1, 6)),
+        "no place" => sheet.position(Position::NONE),
+        _ => sheet.named_value(name),
+    }
+    sheet.hand_to(out)
+}
+
+impl Sheet {
+    /// Appends the value of a name, or `no value`.
+    fn named_value(&mut self, name: &str) {
+        match self.maker.named_value(name) {
+            Some(value) => self.tell_value(value),
+            None => self.write("no value"),
+        }
+    }
+
+    /// Appends a value, and lets go of it.
+    pub fn tell_value(&mut self, value: Dynamic<Pair>) {
+        self.value(&value);
+        drop(value);
     }
 }
 
-fn write_with_parts(alloc: Global, name: &str, out: &mut Vec<u8>) -> io::Result<()> {
-    match value_with_parts(alloc, name)? {
-        Some(value) => write_union(value, out),
-        None => write!(out, "no value"),
+impl Maker {
+    /// Makes the value of a name.
+    fn named_value(&mut self, name: &str) -> Option<Dynamic<Pair>> {
+        match plain_value(name) {
+            Some(value) => Some(Dynamic::new(value)),
+            None => self.value_with_parts(name),
+        }
     }
-}
 
-fn write_union(value: Union<Pair>, out: &mut Vec<u8>) -> io::Result<()> {
-    let value = Dynamic::new(value);
-    let wrote = write_value(out, &value);
-    drop(value);
-    wrote
+    /// Makes a value with parts.
+    fn value_with_parts(&mut self, name: &str) -> Option<Dynamic<Pair>> {
+        match name {
+            "a text" => Some(self.text("a\"b")),
+            "an array" => Some(self.array_of_two()),
+            "an empty array" => Some(self.array(Items::new(self.allocator()))),
+            "bytes" => Some(self.bytes()),
+            "a pointer" => Some(self.pointer("f", Items::new(self.allocator()), FnPtrKind::Name)),
+            "a pair" => Some(self.pair()),
+            _ => None,
+        }
+    }
+
+    fn array_of_two(&mut self) -> Dynamic<Pair> {
+        let mut items = Items::new(self.allocator());
+        self.push(&mut items, Dynamic::new(Union::Int(1)));
+        let text = self.text("x");
+        self.push(&mut items, text);
+        self.array(items)
+    }
+
+    fn bytes(&mut self) -> Dynamic<Pair> {
+        let mut bytes = Items::new(self.allocator());
+        self.push(&mut bytes, 1);
+        self.push(&mut bytes, 255);
+        match self.boxed(bytes) {
+            Some(bytes) => Dynamic::new(Union::Blob(bytes)),
+            None => Dynamic::new(Union::Unit),
+        }
+    }
+
+    fn pair(&mut self) -> Dynamic<Pair> {
+        match self.boxed(Pair(1, 2)) {
+            Some(pair) => Dynamic::new(Union::Host(pair)),
+            None => Dynamic::new(Union::Unit),
+        }
+    }
 }
 
 /// Makes a value without parts.
@@ -47,46 +95,4 @@ fn plain_value(name: &str) -> Option<Union<Pair>> {
         "a cell" => Some(Union::Cell(CellId { number: 7 })),
         _ => None,
     }
-}
-
-/// Makes a value with parts.
-fn value_with_parts(alloc: Global, name: &str) -> Result<Option<Union<Pair>>, AllocError> {
-    let value = match name {
-        "a text" => shared_text(alloc, "a\"b").map(Union::Str),
-        "an array" => array(alloc),
-        "an empty array" => array_of(alloc, Items::new(alloc)),
-        "bytes" => bytes(alloc),
-        "a pointer" => pointer(alloc),
-        "a pair" => pair(alloc),
-        _ => return Ok(None),
-    };
-    value.map(Some)
-}
-
-fn array(alloc: Global) -> Result<Union<Pair>, AllocError> {
-    let text = Union::Str(shared_text(alloc, "x")?);
-    let items = Vec::from_array(alloc, [Dynamic::new(Union::Int(1)), Dynamic::new(text)])?;
-    array_of(alloc, Items::from_vec(items))
-}
-
-fn array_of(alloc: Global, items: Items<Dynamic<Pair>>) -> Result<Union<Pair>, AllocError> {
-    Ok(Union::Array(Boxed::new(alloc, items)?))
-}
-
-fn bytes(alloc: Global) -> Result<Union<Pair>, AllocError> {
-    let bytes = Items::from_slice(alloc, &[1, 255])?;
-    Ok(Union::Blob(Boxed::new(alloc, bytes)?))
-}
-
-fn pointer(alloc: Global) -> Result<Union<Pair>, AllocError> {
-    let pointer = FnPtr {
-        name: shared_text(alloc, "f")?,
-        curry: Items::new(alloc),
-        kind: FnPtrKind::Name,
-    };
-    Ok(Union::FnPtr(Boxed::new(alloc, pointer)?))
-}
-
-fn pair(alloc: Global) -> Result<Union<Pair>, AllocError> {
-    Ok(Union::Host(Boxed::new(alloc, Pair(1, 2))?))
 }

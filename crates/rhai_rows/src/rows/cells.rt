@@ -1,10 +1,11 @@
 //! Closures, and the cells that they share with variables.
 
 use crate::rows::{Row, scripts_in};
+use crate::sample::MadeTree::ClosureOnItsVariable;
 use crate::sample::Sample;
-use crate::sample::Tree::Parts;
+use crate::sample::Tree::{Parts, WithFunctions};
 use crate::settings::Setting::Usual;
-use rhai_samples::cells::{CLOSURE_CALLED_TWICE, CLOSURE_ON_ITS_VARIABLE};
+use rhai_samples::cells::CLOSURE_CALLED_TWICE;
 
 /// The scripts of this file, by the number of their row.
 const ROWS: &[Row] = &[Row("13", CLOSURES)];
@@ -12,7 +13,7 @@ const ROWS: &[Row] = &[Row("13", CLOSURES)];
 /// A closure that changes a variable, and one that is called on the variable which it shares.
 const CLOSURES: &[Sample] = &[
     Sample(Parts(CLOSURE_CALLED_TWICE), Usual),
-    Sample(Parts(CLOSURE_ON_ITS_VARIABLE), Usual),
+    Sample(WithFunctions(ClosureOnItsVariable), Usual),
 ];
 
 /// Finds the scripts of a row of this file, None where it has no such row.

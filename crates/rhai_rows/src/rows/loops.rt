@@ -2,12 +2,12 @@
 
 use crate::rows::{Row, scripts_in};
 use crate::sample::MadeStatements::{
-    ContinuedUntil, IntegerAndTrue, ReturnAtTheTop, TrueOrInteger,
+    ContinuedUntil, IntegerAndTrue, ReturnAtTheTop, TrueOrInteger, ValueOfALoop,
 };
 use crate::sample::Sample;
 use crate::sample::Tree::{Parts, Statements};
 use crate::settings::Setting::{MaxOperations, Usual};
-use rhai_samples::loops::{THREE_TURNS, VALUE_OF_A_LOOP};
+use rhai_samples::loops::THREE_TURNS;
 
 /// The scripts of this file, by the numbers of their rows.
 const ROWS: &[Row] = &[
@@ -27,7 +27,7 @@ const TURNS_UNDER_LIMITS: &[Sample] = &[
 
 /// A loop's value, a `return` at the top, and operands that are not reached or of a wrong type.
 const LEFT_EARLY: &[Sample] = &[
-    Sample(Parts(VALUE_OF_A_LOOP), Usual),
+    Sample(Statements(ValueOfALoop), Usual),
     Sample(Statements(ReturnAtTheTop), Usual),
     Sample(Statements(TrueOrInteger), Usual),
     Sample(Statements(IntegerAndTrue), Usual),

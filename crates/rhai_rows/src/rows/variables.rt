@@ -1,10 +1,11 @@
 //! Variables and blocks.
 
 use crate::rows::{Row, scripts_in};
+use crate::sample::MadeStatements::AssignmentToConstant;
 use crate::sample::Sample;
-use crate::sample::Tree::Parts;
+use crate::sample::Tree::{Parts, Statements};
 use crate::settings::Setting::{MaxOperations, Usual};
-use rhai_samples::variables::{ASSIGNMENT_TO_CONSTANT, BLOCK_AND_BRANCH, HIDDEN_IN_A_BLOCK};
+use rhai_samples::variables::{BLOCK_AND_BRANCH, HIDDEN_IN_A_BLOCK};
 
 /// The scripts of this file, by the numbers of their rows.
 const ROWS: &[Row] = &[
@@ -15,7 +16,7 @@ const ROWS: &[Row] = &[
 /// A variable that a block hides, and a constant that is assigned to.
 const HIDDEN_AND_CONSTANT: &[Sample] = &[
     Sample(Parts(HIDDEN_IN_A_BLOCK), Usual),
-    Sample(Parts(ASSIGNMENT_TO_CONSTANT), Usual),
+    Sample(Statements(AssignmentToConstant), Usual),
 ];
 
 /// A block that hides a variable, and an `if` after it: twelve operations are one too few.
