@@ -1,6 +1,6 @@
 //! The built-in operators.
 
-ghost use Rattle.rhai_operators.specs.Answers.{IsAnswer, binary_of, unary_of};
+ghost use Rattle.rhai_operators.specs.Answers.{IsAnswer, unary_of};
 
 use rhai_state::error::EvalAltResult;
 use rhai_tree::token::Token;
@@ -16,16 +16,4 @@ pub fn builtin_unary<H: Host>(
     ensures { IsAnswer result (unary_of op x.now) }
 {
     rhai_operators::builtin_unary(alloc, op, x)
-}
-
-/// Repeats clauses of `rhai_operators::builtin_binary`, and calls it.
-pub fn builtin_binary<H: Host>(
-    alloc: Global,
-    op: Token,
-    x: &Dynamic<H>,
-    y: &Dynamic<H>,
-) -> Option<Result<Dynamic<H>, EvalAltResult<H>>>
-    ensures { IsAnswer result (binary_of op x.now y.now) }
-{
-    rhai_operators::builtin_binary(alloc, op, x, y)
 }

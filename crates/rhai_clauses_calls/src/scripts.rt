@@ -1,13 +1,11 @@
-//! Whole scripts and functions of scripts.
+//! Functions of scripts.
 
 ghost use Rattle.rhai_tree.specs.Names.{Begins};
-ghost use Rattle.rhai_eval_core.specs.Memory.{may_ask};
 ghost use Rattle.rhai_eval.specs.States.{under};
-ghost use Rattle.rhai_laws.specs.Kept.{Grown, Kept};
-ghost use Rattle.rhai_state.specs.Errors.{is_out_of_memory};
+ghost use Rattle.rhai_laws.specs.Kept.{Kept};
 ghost use Rattle.rhai_state.specs.Scope.{names_in};
 ghost use Rattle.rhai_steps.specs.States.{holding, state_of};
-ghost use Rattle.std.specs.Prelude.{IfErr, IsTrue, None, Some, length, true, ◌<◌, ◌≡◌, ◌≤◌};
+ghost use Rattle.std.specs.Prelude.{IsTrue, Some, length, ◌≡◌, ◌≤◌};
 
 use rhai_eval::engine::Engine;
 use rhai_state::caches::Caches;
@@ -15,41 +13,10 @@ use rhai_state::error::EvalAltResult;
 use rhai_state::scope::Scope;
 use rhai_state::state::GlobalRuntimeState;
 use rhai_state::table::NativeTable;
-use rhai_tree::checked::{CheckedFn, CheckedTree};
+use rhai_tree::checked::CheckedFn;
 use rhai_tree::position::Position;
 use rhai_values::base::value::{Dynamic, EncapsulatedEnviron, Host};
 use std::alloc::Global;
-
-/// Repeats clauses of `Engine::eval_global_statements`, and calls it.
-pub fn eval_global_statements<H: Host, T: NativeTable<H>>(
-    engine: &Engine<H>,
-    alloc: Global,
-    global: &mut GlobalRuntimeState<H>,
-    caches: &mut Caches<H>,
-    table: &mut T,
-    scope: &mut Scope<H>,
-    tree: &CheckedTree,
-    map_exit_to_return_value: bool,
-) -> Result<Dynamic<H>, EvalAltResult<H>>
-    ensures memory { IfErr result (λ error. is_out_of_memory error ≡ true → IsTrue (may_ask tree.now.0)) }
-    ensures kept { Grown (under H.name_of engine.now T.natives)
-        (state_of (T.state table.old) global.old scope.old (holding None))
-        (state_of (T.state table.new) global.new scope.new (holding None)) }
-    ensures begins { Begins (names_in scope.old) (names_in scope.new) }
-    ensures variables { length (names_in scope.old) ≤ engine.now.max_variables →
-        length (names_in scope.new) ≤ engine.now.max_variables }
-{
-    let outcome = engine.eval_global_statements(
-        alloc,
-        global,
-        caches,
-        table,
-        scope,
-        tree,
-        map_exit_to_return_value,
-    );
-    outcome
-}
 
 /// Repeats clauses of `Engine::call_script_fn`, and calls it on a `this`.
 pub fn call_script_fn<H: Host, T: NativeTable<H>>(

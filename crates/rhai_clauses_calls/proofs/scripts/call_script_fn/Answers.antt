@@ -1,4 +1,4 @@
-use Rattle.rhai_clauses_scripts.proofs.scripts.call_script_fn.Goals as goal
+use Rattle.rhai_clauses_calls.proofs.scripts.call_script_fn.Goals as goal
 
 pub returns-clause-kept : goal.returns-clause-kept
 returns-clause-kept g c = c.call_script_fn-outcome.ensures.kept
