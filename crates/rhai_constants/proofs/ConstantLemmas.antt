@@ -23,7 +23,7 @@ use Rattle.rhai_places.specs.declared.spot.Spot.TheVariants as spot
 use Rattle.rhai_places.specs.Parts.{value_in, value_at, with_value_in, with_value, part_in, part_of}
 use Rattle.rhai_machine.specs.language.Places.{is_constant}
 use Rattle.rhai_constants.specs.Constants.{IsConstant}
-use Rattle.rhai_constants.specs.Laws.{ConstIsConstant, ConstantIsReadOnly}
+use Rattle.rhai_constants.specs.Laws.{ConstIsConstant, ConstantIsReadOnly, ReadOnlyIsConstant}
 
 set_same : {X : Type 0} → (xs : List X) (n : ℕ) (x : X) → slice_get xs n ≡ Some x → slice_set xs n x ≡ xs
 set_same [] n x is = refl
@@ -132,6 +132,50 @@ module _ {H : Type 0} where
   pub part_no_handle : (w : Dynamic H) (at : Spot) → IsNoHandle (part_of w at).value
   part_no_handle w at = part_in_no_handle (layer_of w) at
 
+  -- ---- read-only part by part
+
+  -- an array, a map, or what a mode leaves as it is
+  data Kind (u : Union H) : Type 0 where
+    is_array : (items : List (Dynamic H)) → u ≡ value.Array items → Kind u
+    is_map : (entries : List (List ℕ) × List (Dynamic H)) → u ≡ value.Map entries → Kind u
+    is_plain : union_with_mode ReadOnly u ≡ u → Kind u
+
+  kind_of : (u : Union H) → Kind u
+  unfolding out-Union denote.Hole.Carrier.out
+  kind_of (Array' shape row) = is_array _ (array_by (Array' shape row) _ refl)
+  kind_of (Map' shape row) = is_map _ (map_by (Map' shape row) _ refl)
+  kind_of _ = is_plain refl
+
+  constant_items : (xs : List (Dynamic H)) → ((n : ℕ) (u : Dynamic H) → slice_get xs n ≡ Some u → IsConstant u) →
+      map (with_mode ReadOnly) xs ≡ xs
+  constant_items [] each = refl
+  constant_items (x ∷ xs) each =
+      let rest : map (with_mode ReadOnly) xs ≡ xs = constant_items xs (λ n u there. each (suc n) u there) in
+      λ i. each zero x refl i ∷ rest i
+
+  -- what an array has, and what a map has, stands in the value
+  item_there : (v : Dynamic H) (items : List (Dynamic H)) → v.value ≡ value.Array items → (n : ℕ) →
+      value_at v (spot.Item n) ≡ slice_get items n
+  item_there v items is n =
+      ap (λ u. value_in (out-Union H u) (spot.Item n)) is ∙ ap (λ l. value_in l (spot.Item n)) (outs-Array items)
+
+  entry_there : (v : Dynamic H) (entries : List (List ℕ) × List (Dynamic H)) → v.value ≡ value.Map {X1 = H} entries → (n : ℕ) →
+      value_at v (spot.Value n) ≡ slice_get entries.1 n
+  entry_there v entries is n =
+      ap (λ u. value_in (out-Union H u) (spot.Value n)) is ∙ ap (λ l. value_in l (spot.Value n)) (outs-Map entries)
+
+  constant_union : (v : Dynamic H) → ((at : Spot) (u : Dynamic H) → value_at v at ≡ Some u → IsConstant u) → Kind v.value →
+      union_with_mode ReadOnly v.value ≡ v.value
+  constant_union v inside (is_array items is) =
+      let same : map (with_mode ReadOnly) items ≡ items =
+      constant_items items (λ n u there. inside (spot.Item n) u (item_there v items is n ∙ there)) in
+      ap (union_with_mode ReadOnly) is ∙ mode-Array ReadOnly items ∙ ap (λ xs. value.Array xs) same ∙ sym is
+  constant_union v inside (is_map entries is) =
+      let same : map (with_mode ReadOnly) entries.1 ≡ entries.1 =
+      constant_items entries.1 (λ n u there. inside (spot.Value n) u (entry_there v entries is n ∙ there)) in
+      ap (union_with_mode ReadOnly) is ∙ mode-Map ReadOnly entries ∙ ap (λ xs. value.Map {X1 = H} (entries.0, xs)) same ∙ sym is
+  constant_union v inside (is_plain same) = same
+
 module _ {H : Type 0} (mode : AccessMode) where
   -- a mode is set once for all
   mutual
@@ -157,3 +201,8 @@ const_is_constant H name v = ap (λ u. record { value = u; mode = ReadOnly }) (t
 
 pub constant_is_read_only : (H : Type 0) → ConstantIsReadOnly H
 constant_is_read_only H v c = record { mode = sym (ap (λ d. d.mode) c); inside = λ at u there. constant_at v at u c there }
+
+pub read_only_is_constant : (H : Type 0) → ReadOnlyIsConstant H
+read_only_is_constant H v h =
+    let same : union_with_mode ReadOnly v.value ≡ v.value = constant_union v h.inside (kind_of v.value) in
+    ap (λ u. record { value = u; mode = ReadOnly }) same ∙ ap (λ m. record { value = v.value; mode = m }) (sym h.mode)

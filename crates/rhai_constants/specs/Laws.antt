@@ -29,6 +29,10 @@ pub record ReadOnlyThroughout {H : Type 0} (v : Dynamic H) : Type 0 where
 abbrev pub ConstantIsReadOnly : Type 0 → Type 0
 ConstantIsReadOnly H = (v : Dynamic H) → IsConstant v → ReadOnlyThroughout v
 
+-- and what is read-only throughout is a constant, whoever made its parts so
+abbrev pub ReadOnlyIsConstant : Type 0 → Type 0
+ReadOnlyIsConstant H = (v : Dynamic H) → ReadOnlyThroughout v → IsConstant v
+
 module _ {S H : Type 0} (rules : Rules S H) where
   -- one of the machine's own steps from a point to another shares the entry at a place, or writes it by a `let` with an index
   pub record IsReplaced (index : ℕ) (p q : Point S (Core H)) : Type 0 where

@@ -3,6 +3,7 @@
 
 ghost use Rattle.rhai_machine.specs.language.Setting.{Offer, rules_of};
 ghost use Rattle.rhai_constants.specs.Laws.{ConstIsConstant, ConstantIsReadOnly, ConstantsStay};
+ghost use Rattle.rhai_constants.specs.Laws.{ReadOnlyIsConstant};
 
 use rhai_state::limits::Limits;
 use rhai_state::table::NativeTable;
@@ -17,6 +18,12 @@ pub fn const_is_constant<H: Host>(of: PhantomData<H>)
 /// Shows that what is read-only throughout is so itself, and each value in it is read-only throughout.
 pub fn constant_is_read_only<H: Host>(of: PhantomData<H>)
     ensures { ConstantIsReadOnly H }
+{}
+
+/// Shows that what is read-only itself, with each value in it read-only throughout, is read-only throughout.
+/// So `script_constants_stay` speaks of it, also where a host made it so part by part.
+pub fn read_only_is_constant<H: Host>(of: PhantomData<H>)
+    ensures { ReadOnlyIsConstant H }
 {}
 
 /// Shows that a variable that is read-only throughout when a run starts has the same value when it ends.

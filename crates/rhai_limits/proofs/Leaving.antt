@@ -1,13 +1,12 @@
 -- An error that comes down to the lowest frames leaves them.
-use Rattle.std.proofs.Common.{refl, ◌∙◌, ap, arith, length-append}
-use Rattle.std.specs.Prelude.{◌≡◌, ◌+◌, ℕ, Bool, true, false, List, [], ◌∷◌, ◌++◌, length, Option, Some, None, Result, Ok, Err}
+use Rattle.std.proofs.Common.{refl, inl, inr, ◌∙◌, ap, arith, length-append}
+use Rattle.std.specs.Prelude.{◌≡◌, ◌⊎◌, ◌+◌, ℕ, Bool, true, false, List, [], ◌∷◌, ◌++◌, length, Option, Some, None, Result, Ok, Err}
 use Rattle.rhai_tree.specs.declared.expr.Expr.{out-Expr, Expr}
 use Rattle.rhai_tree.specs.declared.expr.Ident.{Ident}
 use Rattle.rhai_tree.specs.declared.expr.StmtBlock.{StmtBlock}
 use Rattle.rhai_tree.specs.declared.position.Position.{Position}
 use Rattle.rhai_values.specs.declared.base.value.Dynamic.{Dynamic}
 use Rattle.rhai_state.specs.declared.error.EvalAltResult.{EvalAltResult}
-use Rattle.rhai_state.specs.declared.error.EvalAltResult.TheVariants as error
 use Rattle.rhai_state.specs.Errors.{is_catchable, is_system}
 use Rattle.rhai_machine.specs.machine.Point.{Point, after}
 use Rattle.rhai_machine.specs.machine.Memory.{Leads, here, next, out_before_step, out_in_native}
@@ -23,7 +22,8 @@ use Rattle.rhai_machine.specs.language.Unwinding.{down_core, got_none}
 use Rattle.rhai_machine.specs.language.Values.{unit_value}
 use Rattle.rhai_machine.specs.language.Language.{machine}
 use Rattle.rhai_machine.specs.language.Runs.{at}
-use Rattle.rhai_limits.specs.Charging.{IsBeneath, StaysBeneath}
+use Rattle.rhai_limits.specs.Charging.{IsBeneath, IsStopped, StaysBeneath}
+use Rattle.rhai_limits.proofs.Stopped.{stays_stopped}
 
 module _ {A : Type 0} where
   -- what stands on a list is not the list, nor is it what another item on it makes
@@ -125,10 +125,6 @@ module _ {H : Type 0} (s : Setting H) where
   down_gone (IndexerTried otherwise) e k l beneath = indexer_gone (lacks_indexer e) e otherwise k l beneath
   down_gone frame e k l beneath = no_more beneath.0 k frame beneath.1
 
--- an error is on its way down
-abbrev pub IsFailed : {H : Type 0} → Core H → Type 0
-IsFailed {H} c = (e : EvalAltResult H) × (c.control ≡ Fail e)
-
 module _ {S H : Type 0} (rules : Rules S H) (allows : ℕ → Bool) where
   begins_beneath : (k : List (Frame H)) {p q : Point S (Core H)} (run : Leads (machine rules) allows p q) →
       StaysBeneath rules allows k run → IsBeneath k p.core.stack
@@ -137,14 +133,15 @@ module _ {S H : Type 0} (rules : Rules S H) (allows : ℕ → Bool) where
   begins_beneath k (out_before_step run) beneath = beneath.0
   begins_beneath k (out_in_native is e first state left run) beneath = beneath.0
 
-  -- where frames stay beneath, an error that has come down to them is not dealt with
+  -- where frames stay beneath, an error that has come down to them is not dealt with: it stays there, unless memory runs out
   pub stays_failed : {q : Point S (Core H)} (e : EvalAltResult H) (k : List (Frame H)) (s : State S H)
-      (run : Leads (machine rules) allows (at (Fail e) k s) q) → StaysBeneath rules allows k run → IsFailed q.core
+      (run : Leads (machine rules) allows (at (Fail e) k s) q) → StaysBeneath rules allows k run →
+      (q ≡ at (Fail e) k s) ⊎ IsStopped q.core
   unfolding after
-  stays_failed e k s here beneath = (e, refl)
+  stays_failed e k s here beneath = inl refl
   stays_failed e [] s (next run) beneath = stays_failed e [] s run beneath.1
   stays_failed e (frame ∷ k) s (next run) beneath =
       absurd (down_gone rules.setting frame e k s.local (begins_beneath (frame ∷ k) run beneath.1))
-  stays_failed e k s (out_before_step {at = position} run) beneath = stays_failed (error.ErrorOutOfMemory position) k s run beneath.1
+  stays_failed e k s (out_before_step {at = position} run) beneath = inr (stays_stopped rules allows run (inr (position, refl)))
   stays_failed e [] s (out_in_native is problem first state left run) beneath = cc
   stays_failed e (frame ∷ k) s (out_in_native is problem first state left run) beneath = cc

@@ -8,3 +8,8 @@ mod Runs
 mod Stopped
 mod Leaving
 mod ChargeLaws
+mod Meeting
+mod OtherSizes
+mod OtherCalls
+mod OtherChains
+mod OtherRules

@@ -15,8 +15,10 @@ pub fn entries_charge<H: Host, T: NativeTable<H>>(of: PhantomData<(H, T)>)
     ensures { (setting : Setting H) → EntriesCharge (over setting T.natives) }
 {}
 
-/// Shows that each turn of a loop charges at least one operation. From its start to the start of the loop's
-/// next turn, or to the value that the loop ends with, the count grows.
+/// Shows that each turn of a loop charges at least one operation, however it ends. From its start to the start
+/// of the loop's next turn, to the value that the loop ends with, or to an error that leaves it, the count
+/// grows. Of errors three are excepted: of the charge that was refused, of memory, and of a `for` that fails
+/// before its body is entered.
 pub fn turns_charge<H: Host, T: NativeTable<H>>(of: PhantomData<(H, T)>)
     ensures { (setting : Setting H) → TurnsCharge (over setting T.natives) }
 {}

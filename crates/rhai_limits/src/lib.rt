@@ -6,6 +6,8 @@ pub mod charging;
 
 ghost use Rattle.rhai_machine.specs.language.Setting.{Setting, over};
 ghost use Rattle.rhai_limits.specs.Limits.{LimitsOnlyUnwind};
+ghost use Rattle.rhai_limits.specs.Met.{MetLimitsFail};
+ghost use Rattle.rhai_limits.specs.OtherLimits.{LimitsOnlyFail};
 ghost use Rattle.rhai_limits.specs.ScopesAndLevels.{ScopesKeepToTheLimit, LevelsKeepToTheLimit, TooDeepFails};
 
 use rhai_state::table::NativeTable;
@@ -16,6 +18,19 @@ use std::marker::PhantomData;
 /// moved to a call perhaps, and on its way nothing is charged and no native is called.
 pub fn limits_are_never_caught<H: Host, T: NativeTable<H>>(of: PhantomData<(H, T)>)
     ensures { (setting : Setting H) → LimitsOnlyUnwind (over setting T.natives) }
+{}
+
+/// Shows that no rule drops the error of a limit: each step in which a limit is met makes the control its error.
+/// So it is at every test that a rule makes, of levels, variables, modules and sizes, and where a charge is
+/// refused.
+pub fn met_limits_fail<H: Host>(of: PhantomData<H>)
+    ensures { (setting : Setting H) → MetLimitsFail setting }
+{}
+
+/// Shows that limits show in a step as errors alone. Under other limits each step is the same, or under one of the
+/// two it fails with the error of a limit: where a limit is met, no rule goes on in another way.
+pub fn limits_only_fail<H: Host>(of: PhantomData<H>)
+    ensures { (setting : Setting H) → LimitsOnlyFail setting }
 {}
 
 /// Shows that no scope grows past the limit of variables. At every point of a run, on errors and where memory

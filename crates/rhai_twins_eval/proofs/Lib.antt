@@ -1,3 +1,4 @@
+mod Asking
 mod Halts
 mod Once
 mod Refused

@@ -8,6 +8,7 @@
 #![tactic(auto)]
 
 pub mod calls;
+pub mod indexers;
 pub mod lookups;
 pub mod parts;
 pub mod scripts;
