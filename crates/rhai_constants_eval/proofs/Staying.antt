@@ -19,6 +19,7 @@ use Rattle.rhai_constants.proofs.Settling.{same}
 use Rattle.rhai_eval_core.specs.Calls.{called}
 use Rattle.rhai_eval.specs.Ends.{EndsAs, EndsFrom}
 use Rattle.rhai_constants_eval.specs.Staying.{script, Stays, StaysAs, StaysFrom}
+use Rattle.rhai_constants_eval.specs.Laws.{PartsStay, ScriptsStay, CallsStay}
 
 module _ {S H : Type 0} (rules : Rules S H) (lawful : Lawful rules.setting.host_type rules.natives) (old new : State S H) where
   abbrev Answer : Type 0
@@ -69,3 +70,15 @@ module _ {S H : Type 0} (rules : Rules S H) (lawful : Lawful rules.setting.host_
         (called_sealed (keyword_of operation.token operation.name (length args)) operation args captures)
         (λ index v constant. function_keeps (told rules lawful index v constant old.table)
         (keyword_of operation.token operation.name (length args)) operation args captures [] old.local) (ends.up_to [])
+
+-- ---- the laws
+
+module _ {S H : Type 0} (rules : Rules S H) (lawful : Lawful rules.setting.host_type rules.natives) where
+  pub parts_stay : PartsStay rules
+  parts_stay old new c r s z spares ends = control_stays rules lawful old new s c r z spares ends
+
+  pub scripts_stay : ScriptsStay rules
+  scripts_stay old new statements map_exit r s run = script_stays rules lawful old new s statements map_exit r run
+
+  pub calls_stay : CallsStay rules
+  calls_stay old new operation args captures r s ends = called_stays rules lawful old new s operation args captures r ends

@@ -9,10 +9,11 @@
 //!
 //! Asked of a caller: no cell of the store has a bare handle, which each call leaves so (`rhai_fits_eval`).
 //!
-//! Where a call has a `this`, a first argument or a scope that may be missing, its law has one. The lemmas of
-//! proofs/Staying.antt, by which the laws are proved, are of calls without one too.
+//! Where a call has a `this`, a first argument or a scope that may be missing, its law has one. The laws of `laws`
+//! are of calls without one too: they are told of how a call ends.
 #![tactic(auto)]
 
 pub mod calls;
+pub mod laws;
 pub mod parts;
 pub mod scripts;

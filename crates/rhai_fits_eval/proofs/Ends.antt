@@ -24,9 +24,11 @@ use Rattle.rhai_fits.proofs.Errors.{FitError, fit_error, error_reached, reached_
 use Rattle.rhai_fits.proofs.Modules.{reached_module, module_reached}
 use Rattle.rhai_fits.proofs.Fitting.{AllFit, FitBelow, FitCore, FitOffer, fail, to}
 use Rattle.rhai_fits.proofs.Runs.{runs_keep}
+use Rattle.rhai_laws.specs.Kept.{Around}
 use Rattle.rhai_eval.specs.Assigned.{assigned}
 use Rattle.rhai_eval.specs.Ends.{Ends, EndsAlone, EndsAs, EndsAssigned, EndsFrom, EndsChanged}
-use Rattle.rhai_fits_eval.specs.InHand.{of_done, of_changed, of_state, cells_in, IsNew, IsInHand, IsWithin, FitsAgain}
+use Rattle.rhai_fits_eval.specs.InHand.{at_work, of_done, of_changed, of_state, cells_in, IsNew, IsInHand, IsThere, IsWithin}
+use Rattle.rhai_fits_eval.specs.InHand.{FitsAgain}
 use Rattle.rhai_fits_eval.proofs.Steps.{goes, goes_up_to}
 
 module _ {H : Type 0} (own : H → List Reached) (P : Reached → Type 0) (least : ℕ) where
@@ -65,10 +67,6 @@ module _ {H : Type 0} (own : H → List Reached) (P : Reached → Type 0) (least
   memory_fits (error.ErrorOutOfMemory at) is = fit_error own P (error.ErrorOutOfMemory at) tt
   memory_fits _ is = absurd (true≢false (sym is))
 
--- a state whose focus is a place of the caller, or nothing
-abbrev pub at_work : {S H : Type 0} → Option (Dynamic H) → State S H → State S H
-at_work focus s = record s { local = record s.local { focus = focus } }
-
 module _ {S H : Type 0} (rules : Rules S H) (given : Contents H) (old new : State S H) where
   abbrev own : H → List Reached
   own = rules.natives.holds.of_host
@@ -85,6 +83,15 @@ module _ {S H : Type 0} (rules : Rules S H) (given : Contents H) (old new : Stat
 
   abbrev Below : List (Frame H) → Local H → Type 0
   Below k l = FitBelow own Stays (cells_in old) k l
+
+  -- what is there stays so, where cells are only added and the tables of constants stay as many
+  pub still_there : cells_in old ≤ cells_in new → Around old.local.around new.local.around → IsWithin rules given old → (r : Reached) →
+      Stays r → IsThere new r
+  still_there grows around within (Cell n) (inl h) = omega (arith, within (Cell n) h, grows)
+  still_there grows around within (Cell n) (inr h) = h.1
+  still_there grows around within (Function def) h = tt
+  still_there grows around within (Constants n) (inl h) = omega (arith, within (Constants n) h, around.constant_tables)
+  still_there grows around within (Constants n) (inr h) = absurd h
 
   -- ---- where a call begins
 
@@ -129,7 +136,7 @@ module _ {S H : Type 0} (rules : Rules S H) (given : Contents H) (old new : Stat
   changed_fits (Ok (v, false)) h = h
   changed_fits (Err e) h = h
 
-  module _ (names : H → List ℕ) (lawful : Lawful names rules.natives) where
+  module _ (names : H → List ℕ) (lawful : Lawful names rules.natives) (around : Around old.local.around new.local.around) where
     -- ---- a run with nothing below
 
     module _ (before after : Option (Dynamic H)) (c : Core H) (d : Control H) (good : Good c)
@@ -175,16 +182,13 @@ module _ {S H : Type 0} (rules : Rules S H) (given : Contents H) (old new : Stat
         only_cells r (inl (inr h)) = inl (inl (inr h))
         only_cells r (inr h) = stays r (inr h)
 
-        below_more : (n : ℕ) → IsWithin rules given old → Stays (Cell n) → n < cells_in new
-        below_more n within (inl h) = omega (arith, within n h, grows)
-        below_more n within (inr h) = h.1
-
         again : FitsAgain rules given old left new
         again = record {
           sealed = kept.sealed.cells;
           grows = grows;
+          around = around;
           only_cells = only_cells;
-          fits = λ within n h. below_more n within (only_cells (Cell n) h);
+          fits = λ within r h. still_there grows around within r (only_cells r h);
         }
 
       -- what is left is told from how it ended, and from the place

@@ -27,6 +27,7 @@ use Rattle.rhai_machine.specs.language.State.{Held, State, HasMemory}
 use Rattle.rhai_steps.specs.States.{state_of}
 use Rattle.rhai_fits.specs.Contents.{Contents, Both, OneValue, of_cells, of_maybe, of_result}
 use Rattle.rhai_fits.specs.Sealed.{AreSealed}
+use Rattle.rhai_laws.proofs.KeptLaws.{around_same}
 use Rattle.rhai_fits.proofs.Properties.{all_at, all_of}
 use Rattle.rhai_fits.proofs.Values.{Fit, fit_unit}
 use Rattle.rhai_fits.proofs.Errors.{FitError, fit_error}
@@ -40,8 +41,8 @@ use Rattle.rhai_index.specs.Indexers.{is_called, request_of}
 use Rattle.rhai_index.specs.Indexes.{Indexes}
 use Rattle.rhai_index.specs.Lends.{EndsRefused, MayEndAs}
 use Rattle.rhai_index.proofs.Following.{index_counts}
-use Rattle.rhai_fits_eval.specs.InHand.{FitsAgain, IsInHand, IsWithin, cells_in, of_lent}
-use Rattle.rhai_fits_eval.proofs.Ends.{Stays, fit_holds, given_fits, memory_fits, state_fits}
+use Rattle.rhai_fits_eval.specs.InHand.{FitsAgain, IsInHand, cells_in, of_lent}
+use Rattle.rhai_fits_eval.proofs.Ends.{Stays, fit_holds, given_fits, memory_fits, state_fits, still_there}
 
 module _ {H : Type 0} (own : H → List Reached) (P : Reached → Type 0) (least : ℕ) where
   -- ---- without an indexer
@@ -233,16 +234,13 @@ module _ {S H : Type 0} (rules : Rules S H) (given left : Contents H) (old : Sta
     in_hand_after r (inl (inr h)) = inl (inl (inr h))
     in_hand_after r (inr h) = all_at StaysInHand (rules.natives.holds.of_state table) r state h
 
-    below : (n : ℕ) → IsWithin rules given old → StaysInHand (Cell n) → n < cells_in old
-    below n within (inl h) = within n h
-    below n within (inr h) = h.1
-
     pub same_again : FitsAgain rules given old left after
     same_again = record {
       sealed = s;
       grows = omega arith;
+      around = around_same old.local.around;
       only_cells = in_hand_after;
-      fits = λ within n h. below n within (in_hand_after (Cell n) h);
+      fits = λ within r h. still_there rules given old after (omega arith) (around_same old.local.around) within r (in_hand_after r h);
     }
 
 module _ {S H T : Type 0} (rules : Rules S H) (limits : Limits) (names : H → List ℕ) (table_of : T → S) (how : Access)

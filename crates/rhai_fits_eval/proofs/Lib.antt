@@ -4,3 +4,6 @@ pub mod Starts
 mod Places
 mod Targets
 mod Indexes
+mod Holding
+mod Together
+mod Missing

@@ -15,6 +15,7 @@ use Rattle.rhai_machine.specs.language.Memory.{UpToMemory}
 use Rattle.rhai_machine.specs.language.Script.{end_of_script, start_of_script}
 use Rattle.rhai_machine.specs.language.Values.{unit_value}
 use Rattle.rhai_fits.specs.Contents.{Contents, Both, Nothing, of_environ, of_new, of_result, of_values}
+use Rattle.rhai_laws.specs.Kept.{Around}
 use Rattle.rhai_fits.specs.Sealed.{AreSealed, NewSealed}
 use Rattle.rhai_fits.proofs.Values.{fit_unit}
 use Rattle.rhai_fits.proofs.Fitting.{AllFit, FitBelow, FitCore, to, push, values_dropped, values_joined}
@@ -22,9 +23,9 @@ use Rattle.rhai_eval_core.specs.Bodies.{args_left}
 use Rattle.rhai_eval_core.specs.Calls.{called}
 use Rattle.rhai_eval.specs.Chains.{assigned_in, AssignsNoHandle, whole_chain}
 use Rattle.rhai_eval.specs.Ends.{EndsAs, EndsFrom}
-use Rattle.rhai_fits_eval.specs.InHand.{FitsAgain, cells_in}
+use Rattle.rhai_fits_eval.specs.InHand.{at_work, FitsAgain, cells_in}
 use Rattle.rhai_fits_eval.proofs.Steps.{goes_up_to}
-use Rattle.rhai_fits_eval.proofs.Ends.{at_work, given_fits, nothing_below, result_fits, fits_again, control_again, from_again}
+use Rattle.rhai_fits_eval.proofs.Ends.{given_fits, nothing_below, result_fits, fits_again, control_again, from_again}
 
 module _ {H : Type 0} (own : H → List Reached) (P : Reached → Type 0) (least : ℕ) where
   -- a keyword on its arguments, or a call by name
@@ -53,7 +54,7 @@ assigned_sealed None h = tt
 assigned_sealed (Some given) h = h
 
 module _ {S H : Type 0} (rules : Rules S H) (old new : State S H) (names : H → List ℕ) (lawful : Lawful names rules.natives)
-    (s : AreSealed old.local.around.cells) where
+    (s : AreSealed old.local.around.cells) (around : Around old.local.around new.local.around) where
   abbrev Answer : Type 0
   Answer = Result (Dynamic H) (EvalAltResult H)
 
@@ -61,7 +62,7 @@ module _ {S H : Type 0} (rules : Rules S H) (old new : State S H) (names : H →
   pub script_again : (statements : List Stmt) (map_exit : Bool) (r : Answer) →
       UpToMemory rules (start_of_script statements map_exit (at_work None old)) (end_of_script r (at_work None new)) →
       FitsAgain rules Nothing old (of_result r) new
-  script_again statements map_exit r up = fits_again rules Nothing old new names lawful None None
+  script_again statements map_exit r up = fits_again rules Nothing old new names lawful around None None
       (core (Enter statements false) (Top map_exit ∷ []) (at_work None old).local) (ended r)
       (to _ _ _ _ _ _ tt tt (push _ _ _ (Top map_exit) [] _ tt tt tt (nothing_below rules Nothing old new s None tt)))
       (goes_up_to rules up) (of_result r) (λ control focus. result_fits rules Nothing old new r control)
@@ -70,7 +71,7 @@ module _ {S H : Type 0} (rules : Rules S H) (old new : State S H) (names : H →
   pub called_again : (operation : Operation) (args : List Expr) (captures : Bool) (r : Answer) →
       EndsFrom rules (called operation args captures) (at_work None old) r (at_work None new) →
       FitsAgain rules Nothing old (of_result r) new
-  called_again operation args captures r ends = from_again rules Nothing old new names lawful None None
+  called_again operation args captures r ends = from_again rules Nothing old new names lawful around None None
       (called operation args captures)
       (function_good _ _ _ _ operation args captures [] (at_work None old).local (nothing_below rules Nothing old new s None tt)) r
       (of_result r) ends (λ result focus. result)
@@ -79,7 +80,7 @@ module _ {S H : Type 0} (rules : Rules S H) (old new : State S H) (names : H →
   pub chain_again : (e : Expr) (given : Option (Dynamic H × Bor OpAssignment)) (r : Answer) → AssignsNoHandle given →
       EndsAs rules (whole_chain e (assigned_in given)) (at_work None old) r (at_work None new) →
       FitsAgain rules (of_new (assigned_in given)) old (of_result r) new
-  chain_again e given r h ends = control_again rules (of_new (assigned_in given)) old new names lawful s
+  chain_again e given r h ends = control_again rules (of_new (assigned_in given)) old new names lawful around s
       (whole_chain e (assigned_in given)) r (given_fits rules (of_new (assigned_in given)) old new, tt) (assigned_sealed given h) ends
 
   -- a function of a script, and what is left of its arguments
@@ -88,12 +89,13 @@ module _ {S H : Type 0} (rules : Rules S H) (old new : State S H) (names : H →
     entering = Both (of_values e.args) (of_environ e.environ)
 
     pub entered_again : FitsAgain rules entering old (of_result r) new
-    entered_again = control_again rules entering old new names lawful s (EnterFunction e) r (given_fits rules entering old new) tt ends
+    entered_again = control_again rules entering old new names lawful around s (EnterFunction e) r
+        (given_fits rules entering old new) tt ends
 
     pub arguments_again : (entered : Bool) (count : ℕ) (left : List (Dynamic H)) → left ≡ args_left entered count e.args →
         FitsAgain rules entering old (Both (of_result r) (of_values left)) new
     arguments_again entered count left is =
         let h = given_fits rules entering old new in
-        from_again rules entering old new names lawful None None (λ k l. core (EnterFunction e) k l)
+        from_again rules entering old new names lawful around None None (λ k l. core (EnterFunction e) k l)
         (to _ _ _ (EnterFunction e) [] _ h tt (nothing_below rules entering old new s None tt)) r (Both (of_result r) (of_values left)) ends
         (λ result focus. (result, rw is (left_fits _ _ (cells_in old) entered count e.args h.0)))

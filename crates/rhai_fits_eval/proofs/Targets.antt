@@ -16,6 +16,7 @@ use Rattle.rhai_machine.specs.language.Members.{focused_on}
 use Rattle.rhai_machine.specs.language.Methods.{Method, method_core}
 use Rattle.rhai_machine.specs.language.Values.{unit_value}
 use Rattle.rhai_fits.specs.Contents.{Contents, Both, OneValue, of_values}
+use Rattle.rhai_laws.specs.Kept.{Around}
 use Rattle.rhai_fits.specs.Sealed.{AreSealed}
 use Rattle.rhai_fits.proofs.Values.{Fit, fit_unit}
 use Rattle.rhai_fits.proofs.Fitting.{FitBelow, FitCore, FitOffer, Flat, push, with_focus}
@@ -24,8 +25,8 @@ use Rattle.rhai_fits.proofs.Methods.{method_good}
 use Rattle.rhai_calls.specs.Targets.{on_target, value_walked_on, frames_waiting}
 use Rattle.rhai_eval.specs.Assigned.{target_assigned, value_assigned}
 use Rattle.rhai_eval.specs.Ends.{EndsAlone, EndsAssigned, EndsChanged}
-use Rattle.rhai_fits_eval.specs.InHand.{FitsAgain, cells_in, of_done, of_changed, of_target}
-use Rattle.rhai_fits_eval.proofs.Ends.{at_work, given_fits, offer_fits, nothing_below, changed_again, alone_again, assigned_again}
+use Rattle.rhai_fits_eval.specs.InHand.{at_work, FitsAgain, cells_in, of_done, of_changed, of_target}
+use Rattle.rhai_fits_eval.proofs.Ends.{given_fits, offer_fits, nothing_below, changed_again, alone_again, assigned_again}
 use Rattle.rhai_fits_eval.proofs.Places.{units_fit}
 
 module _ {H : Type 0} (own : H → List Reached) (P : Reached → Type 0) (least : ℕ) where
@@ -57,7 +58,8 @@ module _ {H : Type 0} (own : H → List Reached) (P : Reached → Type 0) (least
         (push own P least (PartMethod place at new.op.position) [] (focused_on (Some v) l) h tt tt over)
 
 module _ {S H : Type 0} (rules : Rules S H) (old new : State S H) (names : H → List ℕ) (lawful : Lawful names rules.natives)
-    (s : AreSealed old.local.around.cells) (what : Part H) (place left : Dynamic H) where
+    (s : AreSealed old.local.around.cells) (around : Around old.local.around new.local.around)
+    (what : Part H) (place left : Dynamic H) where
   -- ---- methods
 
   module _ (method : Method) (args : List (Dynamic H)) where
@@ -72,7 +74,7 @@ module _ {S H : Type 0} (rules : Rules S H) (old new : State S H) (names : H →
         FitsAgain rules with_args old (Both (of_changed r) (Both (of_values used) (OneValue left))) new
     method_again r n used is ends =
         let h = given_fits rules with_args old new in
-        changed_again rules with_args old new names lawful (Some (shown what place)) (Some left)
+        changed_again rules with_args old new names lawful around (Some (shown what place)) (Some left)
         (on_target rules.setting method args what place)
         (method_good _ _ _ rules.setting (offer_fits rules with_args old new) method args (shown what place) _ _ h.0 h.1.1
         (waiting_below _ _ _ what place method.at _ h.1.0 (nothing_below rules with_args old new s (Some (shown what place)) h.1.1))) r
@@ -84,7 +86,7 @@ module _ {S H : Type 0} (rules : Rules S H) (old new : State S H) (names : H →
         (at_work (Some left) new) → FitsAgain rules with_args old (OneValue left) new
     method_shows ends =
         let h = given_fits rules with_args old new in
-        alone_again rules with_args old new names lawful (Some (shown what place)) (Some left)
+        alone_again rules with_args old new names lawful around (Some (shown what place)) (Some left)
         (method_core rules.setting method args (shown what place))
         (method_good _ _ _ rules.setting (offer_fits rules with_args old new) method args (shown what place) [] _ h.0 h.1.1
         (nothing_below rules with_args old new s (Some (shown what place)) h.1.1)) ends
@@ -100,7 +102,7 @@ module _ {S H : Type 0} (rules : Rules S H) (old new : State S H) (names : H →
         (at_work (Some left) new) → FitsAgain rules with_value old (Both (of_done r) (OneValue left)) new
     assignment_again r ends =
         let h = given_fits rules with_value old new in
-        assigned_again rules with_value old new names lawful (Some (value_walked_on what place)) (Some left)
+        assigned_again rules with_value old new names lawful around (Some (value_walked_on what place)) (Some left)
         (target_assigned rules.setting root value what place)
         (target_good _ _ _ rules.setting (offer_fits rules with_value old new) root value (h.0, flat) what place _ h.1.0 h.1.1
         (nothing_below rules with_value old new s (Some (value_walked_on what place)) h.1.0)) s h.1.0 r
@@ -110,7 +112,7 @@ module _ {S H : Type 0} (rules : Rules S H) (old new : State S H) (names : H →
         (at_work (Some left) new) → FitsAgain rules with_value old (OneValue left) new
     assignment_shows ends =
         let h = given_fits rules with_value old new in
-        alone_again rules with_value old new names lawful (Some (shown what place)) (Some left)
+        alone_again rules with_value old new names lawful around (Some (shown what place)) (Some left)
         (value_assigned rules.setting root value)
         (value_good _ _ _ rules.setting (offer_fits rules with_value old new) root value (h.0, flat) [] _
         (nothing_below rules with_value old new s (Some (shown what place)) h.1.1)) ends

@@ -1,8 +1,8 @@
 -- What a caller has in hand before a call and behind it, and what the call keeps of that.
-use Rattle.std.specs.Prelude.{◌⊎◌, ◌≤◌, ◌<◌, ℕ, Bool, Result, Ok, Err, Contains, length}
+use Rattle.std.specs.Prelude.{◌⊎◌, ◌≤◌, ◌<◌, ⊤, ℕ, Bool, Option, Result, Ok, Err, Contains, length}
 use Rattle.rhai_values.specs.declared.base.value.Dynamic.{Dynamic}
 use Rattle.rhai_state.specs.declared.error.EvalAltResult.{EvalAltResult}
-use Rattle.rhai_state.specs.ValueContents.{Reached, Cell}
+use Rattle.rhai_state.specs.ValueContents.{Reached, Cell, Function, Constants}
 use Rattle.rhai_places.specs.declared.target.Part.{Part}
 use Rattle.rhai_places.specs.declared.target.Target.{Target}
 use Rattle.rhai_places.specs.Targets.{shown}
@@ -10,6 +10,7 @@ use Rattle.rhai_machine.specs.language.Setting.{Rules}
 use Rattle.rhai_machine.specs.language.State.{State}
 use Rattle.rhai_fits.specs.Contents.{Contents, Nothing, OneValue, OneError, Both, of_maybe, of_scope, of_cells, of_around, of_offer, Has}
 use Rattle.rhai_fits.specs.Sealed.{AreSealed}
+use Rattle.rhai_laws.specs.Kept.{Around}
 use Rattle.rhai_calls.specs.Targets.{value_walked_on}
 
 module _ {H : Type 0} where
@@ -36,6 +37,10 @@ module _ {H : Type 0} where
 
   -- ---- what a state has
 
+  -- a state whose focus is a place of the caller, or nothing
+  abbrev pub at_work : {S : Type 0} → Option (Dynamic H) → State S H → State S H
+  at_work focus s = record s { local = record s.local { focus = focus } }
+
   -- its variables, its `this`, its cells, and the modules and tables of constants around them
   abbrev pub of_state : {S : Type 0} → State S H → Contents H
   of_state s =
@@ -44,6 +49,16 @@ module _ {H : Type 0} where
   -- how many cells a state has
   abbrev pub cells_in : {S : Type 0} → State S H → ℕ
   cells_in s = length s.local.around.cells
+
+  -- how many tables of constants a state has
+  abbrev pub tables_in : {S : Type 0} → State S H → ℕ
+  tables_in s = length s.local.around.constant_tables
+
+  -- there in a state: a cell of the store, and a table of constants of the state; a script function always is
+  abbrev pub IsThere : {S : Type 0} → State S H → Reached → Type 0
+  IsThere s (Cell n) = n < cells_in s
+  IsThere s (Function def) = ⊤
+  IsThere s (Constants n) = n < tables_in s
 
   -- a cell of one state that an earlier one has not
   abbrev pub IsNew : {S : Type 0} → (old new : State S H) → Reached → Type 0
@@ -57,14 +72,15 @@ module _ {S H : Type 0} (rules : Rules S H) where
   IsInHand hand s r = Has rules.natives.holds.of_host (Both (Both hand (of_state s)) (of_offer rules.setting.offer)) r
       ⊎ Contains (rules.natives.holds.of_state s.table) r
 
-  -- each cell among them is one of the store
+  -- each cell among them is one of the store, and each table of constants one of the state's
   abbrev pub IsWithin : Contents H → State S H → Type 0
-  IsWithin hand s = (n : ℕ) → IsInHand hand s (Cell n) → n < cells_in s
+  IsWithin hand s = (r : Reached) → IsInHand hand s r → IsThere s r
 
   -- What a call leaves of what it was given in a state: no cell with a bare handle, and no fewer cells. What is in hand then was so before,
-  -- or is a cell that was added; and where cells of the store alone were in hand, it is so again.
+  -- or is a cell that was added; and where cells and tables that are there alone were in hand, it is so again. What is around only grows.
   pub record FitsAgain (given : Contents H) (old : State S H) (left : Contents H) (new : State S H) : Type 0 where
     pub sealed : AreSealed new.local.around.cells
     pub grows : cells_in old ≤ cells_in new
+    pub around : Around old.local.around new.local.around
     pub only_cells : (r : Reached) → IsInHand left new r → IsInHand given old r ⊎ IsNew old new r
     pub fits : IsWithin given old → IsWithin left new

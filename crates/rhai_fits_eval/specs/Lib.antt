@@ -1,1 +1,3 @@
 pub mod InHand
+pub mod Together
+pub mod Laws

@@ -9,10 +9,15 @@
 //! Asked of a caller: no cell of the store has a bare handle, and what a call assigns is none. An empty store
 //! has no cell, and behind each call the next one may be made.
 //!
-//! Where a call has a `this`, a first argument or a scope that may be missing, its law has one. The lemmas of
-//! proofs/Ends.antt, by which the laws are proved, are of calls without one too.
+//! Where a call has a `this`, a first argument or a scope that may be missing, its law has one. The laws of `laws`
+//! are of calls without one too: they are told of how a call ends.
+//!
+//! A state and a scope that fit together, as `GlobalRuntimeState::fits` tells, do so again behind each of these
+//! calls (`laws::fits_together_again`). What stands in a host's value counts here, and not in `fits`.
 #![tactic(auto)]
 
 pub mod calls;
+pub mod host;
+pub mod laws;
 pub mod parts;
 pub mod scripts;

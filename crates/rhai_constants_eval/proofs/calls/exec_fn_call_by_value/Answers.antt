@@ -1,4 +1,4 @@
-use Rattle.std.proofs.Common.{false, refl, true}
+use Rattle.std.proofs.Common.{Some, false, refl, true}
 use Rattle.std.specs.Option.{option_copied}
 use Rattle.rhai_eval.specs.Places.{by_name}
 use Rattle.rhai_eval.specs.States.{under}
@@ -9,6 +9,6 @@ pub returns : goal.returns
 returns g c = let a = c.args in record {
   stays = λ held. by_value_stays (under g.H.Host.name_of a.engine.now g.T.NativeTable.natives) g.met.T.NativeTable.lawful _ _
       c.requires.sealed
-      (record { name = a.name.now; token = option_copied a.op_token; at = a.position }) a.first.now a.rest.now c.exec_fn_call.result
-      (by_name false true) (c.exec_fn_call.ensures.by_value a.scope.now held refl);
+      (record { name = a.name.now; token = option_copied a.op_token; at = a.position }) a.rest.now c.exec_fn_call.result
+      (by_name false true) (Some a.first.now) (c.exec_fn_call.ensures.by_value a.scope.now held refl);
 }

@@ -8,7 +8,8 @@ use Rattle.rhai_fits_eval.proofs.calls.make_method_call.Goals as goal
 pub returns-clause-fits : goal.returns-clause-fits
 returns-clause-fits g c scope this = let a = c.args in
     let after = c.make_method_call.new.target in
-    method_again (under g.H.Host.name_of a.engine.now g.T.NativeTable.natives) _ _ _ g.met.T.NativeTable.lawful c.requires.sealed
+    method_again (under g.H.Host.name_of a.engine.now g.T.NativeTable.natives) _ _ _ g.met.T.NativeTable.lawful
+    c.requires.sealed (c.make_method_call.ensures.kept scope this).around
     a.target.now.part a.target.now.at.now (value_walked_on after.part after.at.now)
     (record {
       name = a.fn_name.now;
@@ -21,7 +22,8 @@ returns-clause-fits g c scope this = let a = c.args in
 pub returns-clause-shown : goal.returns-clause-shown
 returns-clause-shown g c scope this memory = let a = c.args in
     let after = c.make_method_call.new.target in
-    method_shows (under g.H.Host.name_of a.engine.now g.T.NativeTable.natives) _ _ _ g.met.T.NativeTable.lawful c.requires.sealed
+    method_shows (under g.H.Host.name_of a.engine.now g.T.NativeTable.natives) _ _ _ g.met.T.NativeTable.lawful
+    c.requires.sealed (c.make_method_call.ensures.kept scope this).around
     a.target.now.part a.target.now.at.now (shown after.part after.at.now)
     (record {
       name = a.fn_name.now;
