@@ -25,12 +25,16 @@ pub fn calls_stay<H: Host, T: NativeTable<H>>(of: PhantomData<(H, T)>)
     ensures { (limits : Limits) (offer : Offer H) → CallsStay (rules_of limits H.name_of offer T.natives) }
 {}
 
-/// Shows that constants stay, unless the run replaces them, of a call by name on a first argument that is lent, or without one.
+/// Shows that constants stay, unless the run replaces them, of a call by name on a first argument that is lent,
+/// or without one.
 pub fn lent_calls_stay<H: Host, T: NativeTable<H>>(of: PhantomData<(H, T)>)
-    ensures { (limits : Limits) (offer : Offer H) → LentCallsStay (rules_of limits H.name_of offer T.natives) }
+    ensures { (limits : Limits) (offer : Offer H) →
+        LentCallsStay (rules_of limits H.name_of offer T.natives) }
 {}
 
-/// Shows that constants stay, unless the run replaces them, of a call by name on a first argument by value, or without one.
+/// Shows that constants stay, unless the run replaces them, of a call by name on a first argument by value, or
+/// without one.
 pub fn value_calls_stay<H: Host, T: NativeTable<H>>(of: PhantomData<(H, T)>)
-    ensures { (limits : Limits) (offer : Offer H) → ValueCallsStay (rules_of limits H.name_of offer T.natives) }
+    ensures { (limits : Limits) (offer : Offer H) →
+        ValueCallsStay (rules_of limits H.name_of offer T.natives) }
 {}

@@ -25,8 +25,8 @@ pub fn fits_before_and_behind<H: Host, T: NativeTable<H>>(
     scope: &mut Scope<H>,
     tree: &CheckedTree,
 ) -> Option<bool>
-    requires others { AreOthersThere (under H.name_of engine.now T.natives) Nothing (T.state table.old) global.old
-        scope.old None }
+    requires others { AreOthersThere (under H.name_of engine.now T.natives) Nothing (T.state table.old)
+        global.old scope.old None }
     ensures again { IfSome result (λ fits. IsTrue fits) }
 {
     if !global.fits(scope) {

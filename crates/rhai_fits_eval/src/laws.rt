@@ -56,5 +56,6 @@ pub fn lent_calls_fit<H: Host, T: NativeTable<H>>(of: PhantomData<(H, T)>)
 
 /// Shows that a call by name adds nothing but cells, on a first argument by value or without one.
 pub fn value_calls_fit<H: Host, T: NativeTable<H>>(of: PhantomData<(H, T)>)
-    ensures { (limits : Limits) (offer : Offer H) → ValueCallsFit (rules_of limits H.name_of offer T.natives) }
+    ensures { (limits : Limits) (offer : Offer H) →
+        ValueCallsFit (rules_of limits H.name_of offer T.natives) }
 {}

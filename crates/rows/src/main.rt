@@ -57,7 +57,15 @@ fn read_request<R: Env + AllocGlobal>(rt: &R) -> io::Result<Option<Request>> {
         return Ok(Some(Request::Everything));
     };
     if word.as_str() == "refused" {
-        return Ok(Some(Request::Refused));
+        let goes_on = env::args(rt)?.nth(2).is_some();
+        return Ok(if goes_on {
+            None
+        } else {
+            Some(Request::Refused)
+        });
+    }
+    if env::args(rt)?.nth(3).is_some() {
+        return Ok(None);
     }
     let Some(work) = Work::named(word.as_str()) else {
         return Ok(None);
