@@ -16,8 +16,8 @@ use Rattle.rhai_values.specs.TypeNames.{own_type_name, type_name_of, union_type_
 use Rattle.rhai_state.specs.declared.scope.Scope.{Scope}
 use Rattle.rhai_state.specs.declared.scope.ScopeEntry.{ScopeEntry}
 use Rattle.rhai_state.specs.declared.state.GlobalRuntimeState.{GlobalRuntimeState}
-use Rattle.rhai_state.specs.declared.error.EvalAltResult.{EvalAltResult}
-use Rattle.rhai_state.specs.Native.{Natives, OfName}
+use Rattle.rhai_errors.specs.declared.error.EvalAltResult.{EvalAltResult}
+use Rattle.rhai_errors.specs.Native.{Natives, OfName}
 use Rattle.rhai_state.specs.Scope.{entries_of, name_of, names_in, revalued, value_of}
 use Rattle.rhai_machine.specs.language.State.{Held, Local}
 use Rattle.rhai_machine.specs.language.Values.{Cells, is_handle, unit_value}

@@ -2,8 +2,8 @@
 use Rattle.std.specs.Prelude.{List, Option, IfSome}
 use Rattle.rhai_tree.specs.declared.position.Position.{Position}
 use Rattle.rhai_values.specs.declared.base.value.Dynamic.{Dynamic}
-use Rattle.rhai_state.specs.declared.error.EvalAltResult.TheVariants as error
-use Rattle.rhai_state.specs.Native.{Reply}
+use Rattle.rhai_errors.specs.declared.error.EvalAltResult.TheVariants as error
+use Rattle.rhai_errors.specs.Native.{Reply}
 use Rattle.rhai_operators.specs.Answers.{op_assign_of}
 use Rattle.rhai_machine.specs.language.Setting.{Rules, Setting}
 use Rattle.rhai_machine.specs.language.State.{State, Local}

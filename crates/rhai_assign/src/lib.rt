@@ -24,11 +24,11 @@ ghost use Rattle.rhai_steps.specs.Variables.{offset_is_good, variable_told};
 
 use crate::place::find_target;
 use crate::update::store;
-use rhai_state::error::EvalAltResult;
+use rhai_errors::error::EvalAltResult;
+use rhai_errors::table::NativeTable;
 use rhai_state::scope::Scope;
 use rhai_state::session::Session;
 use rhai_state::state::GlobalRuntimeState;
-use rhai_state::table::NativeTable;
 use rhai_steps::charges::track_operation;
 use rhai_steps::values::let_go;
 use rhai_steps::variables::Variable;

@@ -2,7 +2,7 @@
 
 ghost use Rattle.std.specs.Prelude.{◌≡◌, ◌∷◌, [], Some, true, is_some, IfSome, IfOk, IfErr, false};
 ghost use Rattle.rhai_values.specs.Cells.{IsNoHandle, cells_of};
-ghost use Rattle.rhai_state.specs.Native.{Leaves, Named, Obeys, reply_of, request};
+ghost use Rattle.rhai_errors.specs.Native.{Leaves, Named, Obeys, reply_of, request};
 ghost use Rattle.rhai_machine.specs.language.State.{Answers, HasMemory};
 ghost use Rattle.rhai_machine.specs.language.Calls.{replied as replied_at};
 ghost use Rattle.rhai_machine.specs.language.Frames.{AskUpdate, Fail, InPlace};
@@ -17,11 +17,11 @@ ghost use Rattle.rhai_assign.specs.Lending.{cells_seen, placed, IsFree, IsLentFr
 ghost use Rattle.rhai_assign.specs.Updates.{is_barred_for, other_fault, update_of};
 
 use crate::place::Update;
-use rhai_state::error::EvalAltResult;
-use rhai_state::errors::{data_race_of, non_pure_of};
+use rhai_errors::error::EvalAltResult;
+use rhai_errors::errors::{data_race_of, non_pure_of};
+use rhai_errors::table::{Answer, NativeTable};
 use rhai_state::session::Session;
 use rhai_state::state::GlobalRuntimeState;
-use rhai_state::table::{Answer, NativeTable};
 use rhai_steps::charges::track_operation;
 use rhai_steps::operation::Operation;
 use rhai_steps::replies::replied;

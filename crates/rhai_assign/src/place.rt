@@ -14,12 +14,12 @@ ghost use Rattle.rhai_steps.specs.Agreement.{AgreesAt};
 ghost use Rattle.rhai_steps.specs.Offers.{globals_in};
 ghost use Rattle.rhai_steps.specs.States.{surroundings_of};
 ghost use Rattle.rhai_steps.specs.Variables.{offset_is_good, variable_told};
-ghost use Rattle.rhai_state.specs.Errors.{is_out_of_memory};
+ghost use Rattle.rhai_errors.specs.Errors.{is_out_of_memory};
 ghost use Rattle.rhai_assign.specs.Targets.{Finds, FindsNamed, IsKnownAt, IsPut, entries_put, named_target, own_cell};
 ghost use Rattle.rhai_assign.specs.Targets.{place_in, stands_at, there, value_standing_at};
 
-use rhai_state::error::EvalAltResult;
-use rhai_state::errors::{assignment_to_constant, data_race_of};
+use rhai_errors::error::EvalAltResult;
+use rhai_errors::errors::{assignment_to_constant, data_race_of};
 use rhai_state::scope::Scope;
 use rhai_state::session::Session;
 use rhai_state::state::GlobalRuntimeState;

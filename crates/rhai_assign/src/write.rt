@@ -12,8 +12,8 @@ ghost use Rattle.rhai_assign.specs.Targets.{place_in, stands_at};
 ghost use Rattle.rhai_assign.specs.Updates.{Becomes, changed_of, finished};
 
 use crate::place::{Place, Update, put};
-use rhai_state::error::EvalAltResult;
-use rhai_state::errors::data_too_large;
+use rhai_errors::error::EvalAltResult;
+use rhai_errors::errors::data_too_large;
 use rhai_state::scope::Scope;
 use rhai_state::session::Session;
 use rhai_state::state::GlobalRuntimeState;

@@ -14,10 +14,10 @@ ghost use Rattle.rhai_steps.specs.Sessions.{under};
 ghost use Rattle.rhai_steps.specs.States.{state_of};
 
 use crate::in_place::{Assignment, assign_integer};
+use rhai_errors::table::NativeTable;
 use rhai_state::scope::Scope;
 use rhai_state::session::Session;
 use rhai_state::state::GlobalRuntimeState;
-use rhai_state::table::NativeTable;
 use rhai_steps::variables::{Saved, enter_list};
 use rhai_tree::expr::Stmt;
 use rhai_values::base::value::Host;

@@ -18,12 +18,12 @@ use Rattle.rhai_values.specs.declared.base.value.Union.{Union}
 use Rattle.rhai_values.specs.declared.base.value.Union.TheVariants as value
 use Rattle.rhai_values.specs.Cells.{cells_of}
 use Rattle.rhai_values.specs.Copy.{plain}
-use Rattle.rhai_state.specs.declared.error.EvalAltResult.{EvalAltResult}
+use Rattle.rhai_errors.specs.declared.error.EvalAltResult.{EvalAltResult}
 use Rattle.rhai_state.specs.declared.scope.Scope.{Scope}
 use Rattle.rhai_state.specs.declared.scope.ScopeEntry.{ScopeEntry}
 use Rattle.rhai_state.specs.declared.state.GlobalRuntimeState.{GlobalRuntimeState}
 use Rattle.rhai_state.specs.declared.limits.Limits.{Limits}
-use Rattle.rhai_state.specs.Native.{Gives, MayLeave, Named, Obeys, Reply, request}
+use Rattle.rhai_errors.specs.Native.{Gives, MayLeave, Named, Obeys, Reply, request}
 use Rattle.rhai_state.specs.Scope.{entries_of, name_of, revalued, value_in}
 use Rattle.rhai_machine.specs.machine.Machine.{Charge, Go}
 use Rattle.rhai_machine.specs.machine.Memory.{here, ◌⨾◌, Leads}

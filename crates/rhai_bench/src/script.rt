@@ -10,7 +10,8 @@ ghost use Rattle.rhai_eval.specs.States.{limits_of};
 ghost use Rattle.rhai_rows.specs.Outcome.{IfRefused};
 
 use crate::Bench;
-use rhai_eval::base::{Dynamic, EvalAltResult, Items, Scope, Table};
+use rhai_errors::error::EvalAltResult;
+use rhai_eval::base::{Dynamic, Items, Scope, Table};
 use rhai_eval::cells::CellStore;
 use rhai_eval::check::{CheckedTree, check_tree};
 use rhai_eval::engine::Engine;

@@ -5,10 +5,10 @@ use Rattle.rhai_tree.specs.declared.position.Position.{Position}
 use Rattle.rhai_values.specs.declared.base.value.Dynamic.{Dynamic}
 use Rattle.rhai_values.specs.declared.base.value.EncapsulatedEnviron.{EncapsulatedEnviron, out-EncapsulatedEnviron}
 use Rattle.rhai_values.specs.declared.base.value.Module.{Module, out-Module}
-use Rattle.rhai_state.specs.declared.error.EvalAltResult.{EvalAltResult}
-use Rattle.rhai_state.specs.declared.error.EvalAltResult.TheVariants as error
-use Rattle.rhai_state.specs.declared.error.WayOut.TheVariants as way
-use Rattle.rhai_state.specs.Errors.{at_position, is_system, way_out_of}
+use Rattle.rhai_errors.specs.declared.error.EvalAltResult.{EvalAltResult}
+use Rattle.rhai_errors.specs.declared.error.EvalAltResult.TheVariants as error
+use Rattle.rhai_errors.specs.declared.error.WayOut.TheVariants as way
+use Rattle.rhai_errors.specs.Errors.{at_position, is_system, way_out_of}
 use Rattle.rhai_machine.specs.language.Activations.{CallExit}
 use Rattle.rhai_machine.specs.language.Bodies.{last_name, left_by_error, library_name, returned}
 use Rattle.rhai_bodies.specs.Closing.{is_wrapped}

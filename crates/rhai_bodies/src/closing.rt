@@ -3,8 +3,8 @@
 
 ghost use Rattle.std.specs.Prelude.{◌≡◌, false, true, IfErr, IfOk, IsTrue};
 ghost use Rattle.std.specs.Option.{option_copied};
-ghost use Rattle.rhai_state.specs.declared.error.EvalAltResult.TheVariants as variant;
-ghost use Rattle.rhai_state.specs.Errors.{at_position, is_out_of_memory, is_system};
+ghost use Rattle.rhai_errors.specs.declared.error.EvalAltResult.TheVariants as variant;
+ghost use Rattle.rhai_errors.specs.Errors.{at_position, is_out_of_memory, is_system};
 ghost use Rattle.rhai_machine.specs.language.Activations as machine;
 ghost use Rattle.rhai_machine.specs.language.Bodies.{left_by_error as left_by, library_name as last_library};
 ghost use Rattle.rhai_machine.specs.language.Bodies.{returned as returned_by};
@@ -14,7 +14,7 @@ ghost use Rattle.rhai_bodies.specs.Closing.{is_wrapped, outcome_of, source_under
 
 use crate::opening::{CallExit, take_back};
 use rhai_context::ends::{settle, stopped};
-use rhai_state::error::{EvalAltResult, FunctionCallError, WayOut};
+use rhai_errors::error::{EvalAltResult, FunctionCallError, WayOut};
 use rhai_state::state::GlobalRuntimeState;
 use rhai_tree::function::ScriptFuncDef;
 use rhai_tree::position::Position;

@@ -4,8 +4,8 @@
 ghost use Rattle.std.specs.Prelude.{◌≡◌, ◌≢◌, [], ◌++◌, false, true, length, take};
 ghost use Rattle.std.specs.Prelude.{Err, IfErr, IfOk, IfSome, IsTrue, None, OnErr, OnOk};
 ghost use Rattle.std.specs.Option.{option_copied};
-ghost use Rattle.rhai_state.specs.declared.error.EvalAltResult.TheVariants as error;
-ghost use Rattle.rhai_state.specs.Errors.{is_out_of_memory};
+ghost use Rattle.rhai_errors.specs.declared.error.EvalAltResult.TheVariants as error;
+ghost use Rattle.rhai_errors.specs.Errors.{is_out_of_memory};
 ghost use Rattle.rhai_state.specs.Scope.{entries_of};
 ghost use Rattle.rhai_functions.specs.Entering.{left_of, parameters, TakesSome};
 ghost use Rattle.rhai_machine.specs.language.Bodies.{statements_of as statements_in};
@@ -16,8 +16,8 @@ ghost use Rattle.rhai_bodies.specs.Opening.{is_deep, is_full as full_with};
 ghost use Rattle.rhai_bodies.specs.Opening.{OnEntered, OnPassed, UnlessEntered};
 
 use rhai_context::ends::stop;
+use rhai_errors::error::EvalAltResult;
 use rhai_functions::entering::push_parameters;
-use rhai_state::error::EvalAltResult;
 use rhai_state::limits::Limits;
 use rhai_state::scope::Scope;
 use rhai_state::state::GlobalRuntimeState;

@@ -1,3 +1,4 @@
 pub mod Forms
 pub mod Keywords
 pub mod Leading
+pub mod Pointers

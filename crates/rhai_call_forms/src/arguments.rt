@@ -3,19 +3,20 @@
 ghost use Rattle.std.specs.Prelude.{◌≡◌, ◌∷◌, ◌++◌, [], true, IfErr, OnOk, OnErr};
 ghost use Rattle.std.specs.Option.{option_copied, option_map};
 ghost use Rattle.rhai_tree.specs.declared.expr.Expr.{out-Expr};
-ghost use Rattle.rhai_state.specs.Errors.{is_out_of_memory};
+ghost use Rattle.rhai_errors.specs.Errors.{is_out_of_memory};
 ghost use Rattle.rhai_state.specs.Scope.{entries_of};
 ghost use Rattle.rhai_machine.specs.language.Arguments.{this_in as this_at};
 ghost use Rattle.rhai_call_forms.specs.Leading.{all_args, takes_by_value, first_in, leading, lent_first, leading_seen, this_lent};
 
+use rhai_errors::error::EvalAltResult;
 use rhai_few::Few;
-use rhai_state::error::EvalAltResult;
 use rhai_state::scope::Scope;
 use rhai_steps::values::is_bare_handle;
 use rhai_tree::expr::{Expr, Namespace};
 use rhai_tree::position::Position;
 use rhai_tree::{Items, Shared, Text};
 use rhai_values::base::value::{Dynamic, Host};
+use std::mem::replace;
 use std::num::NonZeroUsize;
 
 /// Adds one argument at the end.
@@ -34,6 +35,32 @@ pub fn keep_argument<H: Host>(
     match args.push(value) {
         Ok(()) => Ok(()),
         Err(_) => Err(EvalAltResult::ErrorOutOfMemory(pos)),
+    }
+}
+
+/// Puts the values that a pointer has already before the arguments. Where there is no memory they are let go
+/// of.
+///
+/// # Errors
+/// `ErrorOutOfMemory` at the position alone.
+pub fn join<H: Host>(
+    curried: Items<Dynamic<H>>,
+    args: &mut Few<Dynamic<H>>,
+    pos: Position,
+) -> Result<(), EvalAltResult<H>>
+    ensures joined { OnOk result (args.new ≡ curried ++ args.old) }
+    ensures refused { IfErr result (λ e. is_out_of_memory e ≡ true) }
+{
+    let mut all = Few::from_vec(curried.into_vec());
+    match all.append(args) {
+        Ok(()) => {
+            drop(replace(args, all));
+            Ok(())
+        }
+        Err(_) => {
+            drop(all);
+            Err(EvalAltResult::ErrorOutOfMemory(pos))
+        }
     }
 }
 

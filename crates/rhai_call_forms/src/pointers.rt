@@ -1,14 +1,15 @@
-//! Pointers and names that are given as values. Ports what upstream's `make_function_call` does with
-//! the first argument of a keyword.
+//! Pointers and names that are given as values, and what a pointer is called by. Ports what upstream's
+//! `make_function_call` does with the first argument of a keyword.
 
 ghost use Rattle.std.specs.Prelude.{◌≡◌, [], Ok, false, is_some, IfOk};
 ghost use Rattle.rhai_values.specs.Cells.{cells_of};
 ghost use Rattle.rhai_values.specs.Copy.{plain};
 ghost use Rattle.rhai_values.specs.Layers.{layer_of};
+ghost use Rattle.rhai_values.specs.declared.base.value.FnPtr.{out-FnPtr};
 ghost use Rattle.rhai_values.specs.declared.base.value.Union.TheVariants as kind;
-ghost use Rattle.rhai_state.specs.Errors.{is_out_of_memory};
+ghost use Rattle.rhai_errors.specs.Errors.{is_out_of_memory};
 ghost use Rattle.rhai_state.specs.Scope.{entries_of, index_of};
-ghost use Rattle.rhai_state.specs.declared.error.EvalAltResult.TheVariants as error;
+ghost use Rattle.rhai_errors.specs.declared.error.EvalAltResult.TheVariants as error;
 ghost use Rattle.rhai_machine.specs.language.Arguments.{pointer_in as seen_as_pointer, pointer_named};
 ghost use Rattle.rhai_machine.specs.language.Arguments.{pointer_of as pointer_made, pointer_wanted};
 ghost use Rattle.rhai_machine.specs.language.Arguments.{text_in as seen_as_text, text_wanted};
@@ -16,13 +17,15 @@ ghost use Rattle.rhai_machine.specs.language.Arguments.{with_curried as curried_
 ghost use Rattle.rhai_machine.specs.language.Calls.{signature};
 ghost use Rattle.rhai_machine.specs.language.State.{Answers};
 ghost use Rattle.rhai_machine.specs.language.Values.{bool_value as truth_of, is_handle};
+ghost use Rattle.rhai_call_forms.specs.Pointers.{native_number_of};
 
 use crate::names::is_pointer_name;
+use rhai_errors::error::EvalAltResult;
+use rhai_errors::errors::{data_race, mismatch};
 use rhai_few::Few;
-use rhai_state::error::EvalAltResult;
-use rhai_state::errors::{data_race, mismatch};
 use rhai_state::scope::Scope;
 use rhai_steps::values::{bool_value, flatten, is_bare_handle};
+use rhai_tree::literal::NativeId;
 use rhai_tree::position::Position;
 use rhai_tree::{Boxed, Items, Shared, Text};
 use rhai_values::base::value::{Dynamic, FnPtr, FnPtrKind, Host, Union};
@@ -206,4 +209,25 @@ pub fn is_defined<H: Host>(scope: &Scope<H>, name: &Shared<Text>) -> Dynamic<H>
     ensures { result ≡ truth_of (is_some (index_of name.now (entries_of scope.now))) }
 {
     bool_value(scope.contains(name.get().as_str()))
+}
+
+/// Returns the number of a native that a pointer leads to, None for any other.
+fn number_of<H: Host>(kind: FnPtrKind<H>) -> Option<NativeId>
+    ensures { result ≡ native_number_of kind }
+{
+    match kind {
+        FnPtrKind::Native(id) => Some(id),
+        _ => None,
+    }
+}
+
+/// Splits a pointer into its name, the values that it has already, and the number of a native. That is None
+/// where it leads to no native by its number.
+pub fn parts_of<H: Host>(pointer: FnPtr<H>) -> (Shared<Text>, Items<Dynamic<H>>, Option<NativeId>)
+    ensures name { result.0 ≡ (out-FnPtr H pointer).name }
+    ensures curried { result.1 ≡ (out-FnPtr H pointer).curry }
+    ensures number { result.2 ≡ native_number_of (out-FnPtr H pointer).kind }
+{
+    let (name, curry, kind) = pointer.into_parts();
+    (name, curry, number_of(kind))
 }

@@ -3,9 +3,9 @@ use Rattle.std.proofs.Common.{◌≡◌, ℕ, Bool, true, false, not, List, [], 
 use Rattle.std.specs.Prelude.{if◌then◌else◌}
 use Rattle.rhai_tree.specs.declared.position.Position.{Position}
 use Rattle.rhai_values.specs.declared.base.value.Dynamic.{Dynamic}
-use Rattle.rhai_state.specs.declared.error.EvalAltResult.{EvalAltResult}
-use Rattle.rhai_state.specs.declared.error.EvalAltResult.TheVariants as error
-use Rattle.rhai_state.specs.Errors.{is_out_of_memory}
+use Rattle.rhai_errors.specs.declared.error.EvalAltResult.{EvalAltResult}
+use Rattle.rhai_errors.specs.declared.error.EvalAltResult.TheVariants as error
+use Rattle.rhai_errors.specs.Errors.{is_out_of_memory}
 use Rattle.rhai_functions.specs.declared.function.Function.{Function}
 use Rattle.rhai_machine.specs.machine.Memory.{◌⨾◌, here, out_before_step, Leads}
 use Rattle.rhai_machine.specs.language.Setting.{Rules, globals_of, cut}
@@ -24,7 +24,7 @@ use Rattle.rhai_calls.specs.Called.{came_out, Outcome}
 use Rattle.rhai_calls.specs.Dispatch.{came_to}
 use Rattle.rhai_calls.specs.Lending.{lent_call}
 use Rattle.rhai_callees.specs.Linked.{linked_call, Comes}
-use Rattle.rhai_callees.proofs.Levels.{there_level, call_runs_out_at}
+use Rattle.rhai_call_forms.proofs.Levels.{there_level, call_runs_out_at}
 
 module _ {S H : Type 0} (rules : Rules S H) where
   -- memory runs out once the arguments are there

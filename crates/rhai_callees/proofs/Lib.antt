@@ -1,6 +1,5 @@
 pub mod Behind
 pub mod Going
 pub mod Lending
-pub mod Levels
 pub mod Lists
 pub mod Passing

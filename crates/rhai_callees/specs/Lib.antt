@@ -1,5 +1,4 @@
 pub mod Behind
 pub mod Kept
 pub mod Linked
-pub mod Pointers
 pub mod Variables

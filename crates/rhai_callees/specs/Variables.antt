@@ -3,7 +3,7 @@ use Rattle.std.specs.Prelude.{Bool, not, ◌&&◌, Result, Ok, Err}
 use Rattle.rhai_tree.specs.declared.position.Position.{Position}
 use Rattle.rhai_values.specs.declared.base.value.Dynamic.{Dynamic}
 use Rattle.rhai_values.specs.Copy.{copy_of}
-use Rattle.rhai_state.specs.declared.error.EvalAltResult.{EvalAltResult}
+use Rattle.rhai_errors.specs.declared.error.EvalAltResult.{EvalAltResult}
 use Rattle.rhai_machine.specs.language.Values.{Cells, flat, is_handle}
 use Rattle.rhai_machine.specs.language.Names.{Meaning, AtEntry, AsTemporary}
 use Rattle.rhai_machine.specs.language.Places.{is_constant}

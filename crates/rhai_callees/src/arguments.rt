@@ -1,10 +1,10 @@
 //! Lists of arguments.
 
-ghost use Rattle.std.specs.Prelude.{◌≡◌, ◌++◌, OnOk, IfErr, IsTrue, Err, true, false};
+ghost use Rattle.std.specs.Prelude.{◌≡◌, IsTrue, Err, true, false};
 ghost use Rattle.std.specs.Option.{option_copied};
 ghost use Rattle.rhai_tree.specs.Positions.{position_of};
 ghost use Rattle.rhai_values.specs.Cells.{cells_of};
-ghost use Rattle.rhai_state.specs.Errors.{is_out_of_memory};
+ghost use Rattle.rhai_errors.specs.Errors.{is_out_of_memory};
 ghost use Rattle.rhai_machine.specs.language.Arguments.{taken as taken_as};
 ghost use Rattle.rhai_machine.specs.language.State.{Answers};
 ghost use Rattle.rhai_call_forms.specs.Leading.{all_args};
@@ -14,15 +14,12 @@ ghost use Rattle.rhai_callees.specs.Kept.{HasKept};
 use rhai_call_forms::arguments::split_first;
 use rhai_context::ends::{stop, take_value};
 use rhai_context::outcomes::flatten_at;
+use rhai_errors::error::EvalAltResult;
 use rhai_few::Few;
-use rhai_state::error::EvalAltResult;
-use rhai_tree::Items;
 use rhai_tree::expr::{Expr, FnCallExpr};
-use rhai_tree::position::Position;
 use rhai_values::base::value::{Dynamic, Host};
 use rhai_values::cells::CellStore;
 use std::alloc::Global;
-use std::mem::replace;
 
 /// Splits a call into its name, the first of its arguments, and the others.
 #[inline(always)]
@@ -90,31 +87,5 @@ pub fn push_argument<H: Host>(
     match made.push(take_value(out)) {
         Ok(()) => true,
         Err(_) => stop_without_room(place, arg),
-    }
-}
-
-/// Puts the values that a pointer has already before the arguments. Where there is no memory they are let go
-/// of.
-///
-/// # Errors
-/// `ErrorOutOfMemory` at the position alone.
-pub fn join<H: Host>(
-    curried: Items<Dynamic<H>>,
-    args: &mut Few<Dynamic<H>>,
-    pos: Position,
-) -> Result<(), EvalAltResult<H>>
-    ensures joined { OnOk result (args.new ≡ curried ++ args.old) }
-    ensures refused { IfErr result (λ e. is_out_of_memory e ≡ true) }
-{
-    let mut all = Few::from_vec(curried.into_vec());
-    match all.append(args) {
-        Ok(()) => {
-            drop(replace(args, all));
-            Ok(())
-        }
-        Err(_) => {
-            drop(all);
-            Err(EvalAltResult::ErrorOutOfMemory(pos))
-        }
     }
 }

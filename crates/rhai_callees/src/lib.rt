@@ -6,7 +6,6 @@
 
 pub mod arguments;
 pub mod path;
-pub mod pointer;
 pub mod this;
 pub mod variable;
 
@@ -23,16 +22,16 @@ ghost use Rattle.rhai_steps.specs.States.{state_of};
 ghost use Rattle.rhai_calls.specs.Called.{with_args, came_out};
 ghost use Rattle.rhai_callees.specs.Linked.{linked_call, Comes};
 
-use crate::arguments::join;
+use rhai_call_forms::arguments::join;
 use rhai_calls::dispatch::{Called, call_all, races};
 use rhai_calls::native::{call_number as call_number_first, call_number_alone};
+use rhai_errors::error::EvalAltResult;
+use rhai_errors::errors::data_race_by;
+use rhai_errors::table::NativeTable;
 use rhai_few::Few;
 use rhai_functions::function::Function;
-use rhai_state::error::EvalAltResult;
-use rhai_state::errors::data_race_by;
 use rhai_state::session::Session;
 use rhai_state::state::GlobalRuntimeState;
-use rhai_state::table::NativeTable;
 use rhai_steps::operation::Operation;
 use rhai_steps::values::let_go;
 use rhai_tree::Items;

@@ -13,12 +13,12 @@ ghost use Rattle.rhai_calls.specs.Called.{with_args, came_out};
 
 use crate::variable::call_first;
 use rhai_calls::dispatch::Called;
+use rhai_errors::error::EvalAltResult;
+use rhai_errors::table::NativeTable;
 use rhai_few::Few;
 use rhai_functions::function::Function;
-use rhai_state::error::EvalAltResult;
 use rhai_state::session::Session;
 use rhai_state::state::GlobalRuntimeState;
-use rhai_state::table::NativeTable;
 use rhai_steps::operation::Operation;
 use rhai_tree::position::Position;
 use rhai_values::base::value::{Dynamic, Host};

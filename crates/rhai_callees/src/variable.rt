@@ -26,14 +26,14 @@ ghost use Rattle.rhai_callees.specs.Variables.{copy_passed, is_lendable as lenda
 
 use rhai_calls::dispatch::{Called, Seeks, is_held, pass_call};
 use rhai_calls::native::{Passing, drop_changed};
+use rhai_errors::error::EvalAltResult;
+use rhai_errors::errors::data_race_of;
+use rhai_errors::table::NativeTable;
 use rhai_few::Few;
 use rhai_functions::function::Function;
-use rhai_state::error::EvalAltResult;
-use rhai_state::errors::data_race_of;
 use rhai_state::scope::Scope;
 use rhai_state::session::Session;
 use rhai_state::state::GlobalRuntimeState;
-use rhai_state::table::NativeTable;
 use rhai_steps::operation::Operation;
 use rhai_steps::values::{copy, flatten, is_bare_handle, let_go, unit_value};
 use rhai_steps::variables::{Variable, entry_of_variable, read_beside};

@@ -14,10 +14,10 @@ use Rattle.rhai_values.specs.Cells.{cells_of, value_of_cell, with_held, with_val
 use Rattle.rhai_values.specs.TypeNames.{type_name_of}
 use Rattle.rhai_state.specs.declared.scope.Scope.{Scope}
 use Rattle.rhai_state.specs.declared.state.GlobalRuntimeState.{GlobalRuntimeState}
-use Rattle.rhai_state.specs.declared.error.EvalAltResult.{EvalAltResult}
-use Rattle.rhai_state.specs.declared.error.EvalAltResult.TheVariants as error
-use Rattle.rhai_state.specs.Errors.{is_out_of_memory}
-use Rattle.rhai_state.specs.Native.{MayLeave, Request, Reply, Missing, Gives, Faults, Obeys, effect, purity_of, request}
+use Rattle.rhai_errors.specs.declared.error.EvalAltResult.{EvalAltResult}
+use Rattle.rhai_errors.specs.declared.error.EvalAltResult.TheVariants as error
+use Rattle.rhai_errors.specs.Errors.{is_out_of_memory}
+use Rattle.rhai_errors.specs.Native.{MayLeave, Request, Reply, Missing, Gives, Faults, Obeys, effect, purity_of, request}
 use Rattle.rhai_machine.specs.machine.Point.{after}
 use Rattle.rhai_machine.specs.machine.Memory.{here, next, out_in_native, ◌⨾◌, Leads}
 use Rattle.rhai_machine.specs.language.Setting.{Rules, limit_under, cut}

@@ -1,8 +1,8 @@
 -- Results that say whether a native may have changed its first argument.
 use Rattle.std.specs.Prelude.{Bool, true, false, Option, Some, Result, Ok, Err}
 use Rattle.rhai_values.specs.declared.base.value.Dynamic.{Dynamic}
-use Rattle.rhai_state.specs.declared.error.EvalAltResult.{EvalAltResult}
-use Rattle.rhai_state.specs.Native.{Reply, Gives}
+use Rattle.rhai_errors.specs.declared.error.EvalAltResult.{EvalAltResult}
+use Rattle.rhai_errors.specs.Native.{Reply, Gives}
 
 module _ {H : Type 0} where
   -- a result that tells, too, whether the call changed its first argument

@@ -26,15 +26,15 @@ ghost use Rattle.rhai_calls.specs.Dispatch.{Means, ResolvesCall};
 ghost use Rattle.rhai_calls.specs.Lending.{back_in, passed_call, Stands};
 
 use crate::native::{Passing, drop_changed, pass_native, pass_native_alone, tell_changed};
+use rhai_errors::error::EvalAltResult;
+use rhai_errors::errors::{data_race_by, shared_text};
+use rhai_errors::table::NativeTable;
 use rhai_few::Few;
 use rhai_functions::function::{Function, called_function};
 use rhai_functions::key::FnKey;
 use rhai_functions::lookup::find_function;
-use rhai_state::error::EvalAltResult;
-use rhai_state::errors::{data_race_by, shared_text};
 use rhai_state::session::Session;
 use rhai_state::state::GlobalRuntimeState;
-use rhai_state::table::NativeTable;
 use rhai_steps::operation::Operation;
 use rhai_steps::replies::function_not_found;
 use rhai_steps::values::bool_value;

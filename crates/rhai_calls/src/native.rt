@@ -3,7 +3,7 @@
 
 ghost use Rattle.std.specs.Prelude.{◌≡◌, ◌≤◌, ◌+◌, ◌&&◌, ◌∷◌, [], None, Some, IfErr, IfOk, not, true, false};
 ghost use Rattle.rhai_values.specs.Cells.{cells_of, value_of_cell, IsNoHandle};
-ghost use Rattle.rhai_state.specs.Native.{Leaves, Obeys, purity_of, reply_of, request};
+ghost use Rattle.rhai_errors.specs.Native.{Leaves, Obeys, purity_of, reply_of, request};
 ghost use Rattle.rhai_machine.specs.language.Calls.{call_of};
 ghost use Rattle.rhai_machine.specs.language.Frames.{Ask, Question, ended_or_changed};
 ghost use Rattle.rhai_machine.specs.language.Runs.{Runs, Steps};
@@ -17,11 +17,11 @@ ghost use Rattle.rhai_calls.specs.Natives.{Bars, CallsInCell, CallsOn, cell_in, 
 ghost use Rattle.rhai_calls.specs.Natives.{is_pure_on};
 ghost use Rattle.rhai_calls.specs.Natives.{lends_from, native_call, native_key, over_cells};
 
-use rhai_state::error::EvalAltResult;
-use rhai_state::errors::{data_race_by, non_pure};
+use rhai_errors::error::EvalAltResult;
+use rhai_errors::errors::{data_race_by, non_pure};
+use rhai_errors::table::{Answer, NativeTable};
 use rhai_state::session::Session;
 use rhai_state::state::GlobalRuntimeState;
-use rhai_state::table::{Answer, NativeTable};
 use rhai_steps::charges::track_operation;
 use rhai_steps::operation::Operation;
 use rhai_steps::replies::{replied, settle_lone_reply};

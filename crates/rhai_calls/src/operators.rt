@@ -13,13 +13,13 @@ ghost use Rattle.rhai_calls.specs.Called.{with_args, came_out};
 ghost use Rattle.rhai_calls.specs.Operates.{operator_there};
 
 use crate::dispatch::{Called, call_all};
+use rhai_errors::error::EvalAltResult;
+use rhai_errors::table::NativeTable;
 use rhai_few::Few;
 use rhai_functions::function::Function;
 use rhai_operators::{builtin_binary, builtin_unary};
-use rhai_state::error::EvalAltResult;
 use rhai_state::session::Session;
 use rhai_state::state::GlobalRuntimeState;
-use rhai_state::table::NativeTable;
 use rhai_steps::operation::Operation;
 use rhai_steps::replies::applied;
 use rhai_steps::values::{let_go, unit_value};

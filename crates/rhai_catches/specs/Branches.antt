@@ -2,7 +2,7 @@
 use Rattle.std.specs.Prelude.{ℕ, Bool, true, false, List, [], ◌∷◌, Option, Some, None, Result, Ok, Err}
 use Rattle.rhai_machine.specs.Types.{Dynamic, EvalAltResult, Ident, ScopeEntry}
 use Rattle.rhai_values.specs.declared.base.value.AccessMode.TheVariants.{ReadWrite}
-use Rattle.rhai_state.specs.declared.error.EvalAltResult.TheVariants as error
+use Rattle.rhai_errors.specs.declared.error.EvalAltResult.TheVariants as error
 use Rattle.rhai_state.specs.Scope.{new_entry}
 use Rattle.rhai_machine.specs.language.Caught.{caught_value, raised, thrown}
 use Rattle.rhai_machine.specs.language.Values.{Cells, unit_value}

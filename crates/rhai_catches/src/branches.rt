@@ -11,7 +11,7 @@ ghost use Rattle.rhai_catches.specs.Branches.{bound, left_by, room_for_caught};
 
 use crate::{caught_value, raised};
 use rhai_context::ends::{put_unit, stop, stopped};
-use rhai_state::error::EvalAltResult;
+use rhai_errors::error::EvalAltResult;
 use rhai_state::scope::Scope;
 use rhai_state::session::Session;
 use rhai_tree::expr::Expr;

@@ -8,7 +8,7 @@ ghost use Rattle.rhai_tree.specs.Lookup.{with_entry};
 ghost use Rattle.rhai_values.specs.Cells.{cells_of};
 ghost use Rattle.rhai_values.specs.Copy.{plain};
 ghost use Rattle.rhai_values.specs.declared.base.value.Union.TheVariants as value;
-ghost use Rattle.rhai_state.specs.Errors.{position_of};
+ghost use Rattle.rhai_errors.specs.Errors.{position_of};
 ghost use Rattle.rhai_machine.specs.language.State.{Answers};
 ghost use Rattle.rhai_machine.specs.language.Values.{through};
 ghost use Rattle.rhai_machine.specs.language.Caught.{caught_value as value_caught, error_map as map_of, is_unit_seen};
@@ -17,7 +17,7 @@ ghost use Rattle.rhai_machine.specs.language.Caught.{text_of_error, text_value, 
 
 pub mod branches;
 
-use rhai_state::error::EvalAltResult;
+use rhai_errors::error::EvalAltResult;
 use rhai_tree::position::Position;
 use rhai_tree::{Boxed, Shared, Table, Text};
 use rhai_values::base::value::{Dynamic, Host, Union};

@@ -1,7 +1,7 @@
 -- A beginning of a part of a walk that is the same as another.
 use Rattle.std.proofs.Common.{◌≡◌, Bool, List, Result, sym, subst}
 use Rattle.rhai_values.specs.declared.base.value.Dynamic.{Dynamic}
-use Rattle.rhai_state.specs.declared.error.EvalAltResult.{EvalAltResult}
+use Rattle.rhai_errors.specs.declared.error.EvalAltResult.{EvalAltResult}
 use Rattle.rhai_machine.specs.language.Setting.{Rules, cut}
 use Rattle.rhai_machine.specs.language.State.{Local, State}
 use Rattle.rhai_machine.specs.language.Frames.{Frame, Core, ended_or_changed, core}

@@ -9,15 +9,15 @@ use Rattle.rhai_values.specs.declared.base.value.Union.TheVariants as value
 use Rattle.rhai_values.specs.declared.base.value.Union.TheVariants.{outs-Map, rolls-Array, rolls-Map}
 use Rattle.rhai_values.specs.declared.base.value.FnPtrKind.TheOpen as layer
 use Rattle.rhai_values.specs.Layers.{UnionLayer, layer_of}
-use Rattle.rhai_state.specs.declared.error.EvalAltResult.{EvalAltResult}
-use Rattle.rhai_places.specs.declared.spot.Access.{Access}
-use Rattle.rhai_places.specs.declared.spot.Refusal.{Refusal}
-use Rattle.rhai_places.specs.declared.spot.Spot.{Spot}
-use Rattle.rhai_places.specs.declared.spot.Spot.TheVariants as spot
-use Rattle.rhai_places.specs.Found.{found, found_by, spot_or_error, through, with_key, IsKeyless}
-use Rattle.rhai_places.specs.Indexing.{located}
-use Rattle.rhai_places.specs.Parts.{IsPart, IsPlace, IsThere, value_at, value_in, with_value, with_value_in}
-use Rattle.rhai_places.proofs.FoundLemmas.{keyless}
+use Rattle.rhai_errors.specs.declared.error.EvalAltResult.{EvalAltResult}
+use Rattle.rhai_spots.specs.declared.spot.Access.{Access}
+use Rattle.rhai_spots.specs.declared.spot.Refusal.{Refusal}
+use Rattle.rhai_spots.specs.declared.spot.Spot.{Spot}
+use Rattle.rhai_spots.specs.declared.spot.Spot.TheVariants as spot
+use Rattle.rhai_spots.specs.Found.{found, found_by, spot_or_error, through, with_key, IsKeyless}
+use Rattle.rhai_spots.specs.Indexing.{located}
+use Rattle.rhai_spots.specs.Parts.{IsPart, IsPlace, IsThere, value_at, value_in, with_value, with_value_in}
+use Rattle.rhai_spots.proofs.FoundLemmas.{keyless}
 use Rattle.rhai_machine.specs.language.Located.{is_place_spot}
 use Rattle.rhai_machine.specs.language.Values.{unit_value}
 use Rattle.rhai_chains.specs.Assigned.{IsKept}

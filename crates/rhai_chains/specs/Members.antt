@@ -1,7 +1,7 @@
 -- Members of a value as the code has them, and what comes of the indexer that is tried for a property.
 use Rattle.std.specs.Prelude.{Bool, true, false, Result, Ok, Err}
 use Rattle.rhai_values.specs.declared.base.value.Dynamic.{Dynamic}
-use Rattle.rhai_state.specs.declared.error.EvalAltResult.{EvalAltResult}
+use Rattle.rhai_errors.specs.declared.error.EvalAltResult.{EvalAltResult}
 use Rattle.rhai_machine.specs.language.Frames as machine
 use Rattle.rhai_machine.specs.language.Members.{lacks_indexer}
 use Rattle.rhai_calls.specs.ToldChanges.{with_changed}

@@ -1,10 +1,10 @@
 -- How a link finds a spot, and the spot that an index leads to, once a missing key is inserted.
 use Rattle.std.specs.Prelude.{◌≡◌, Bool, false, Result, Ok, Err}
 use Rattle.rhai_values.specs.declared.base.value.Dynamic.{Dynamic}
-use Rattle.rhai_state.specs.declared.error.EvalAltResult.{EvalAltResult}
-use Rattle.rhai_state.specs.Errors.{is_out_of_memory}
-use Rattle.rhai_places.specs.declared.spot.Access.{Access}
-use Rattle.rhai_places.specs.declared.spot.Spot.{Spot}
+use Rattle.rhai_errors.specs.declared.error.EvalAltResult.{EvalAltResult}
+use Rattle.rhai_errors.specs.Errors.{is_out_of_memory}
+use Rattle.rhai_spots.specs.declared.spot.Access.{Access}
+use Rattle.rhai_spots.specs.declared.spot.Spot.{Spot}
 use Rattle.rhai_machine.specs.language.Links.{Link, link_position}
 
 -- how a link finds its spot: whether a missing key is inserted there, and whether it is an error

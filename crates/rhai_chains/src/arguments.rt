@@ -10,7 +10,7 @@ ghost use Rattle.rhai_chains.specs.Chains.{form_seen};
 ghost use Rattle.rhai_chains.specs.Ready.{at_once, IsReady};
 
 use crate::links::{Link, LinkForm, link_of};
-use rhai_state::error::EvalAltResult;
+use rhai_errors::error::EvalAltResult;
 use rhai_steps::values::{
     bool_value, char_value, constant_value, int_value, text_value, unit_value,
 };

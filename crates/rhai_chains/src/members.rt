@@ -19,11 +19,11 @@ ghost use Rattle.rhai_steps.specs.OnFocus.{lending};
 ghost use Rattle.rhai_chains.specs.Members.{access_of, tried};
 
 use rhai_calls::native::{Passing, pass_native, tell_changed};
+use rhai_errors::error::EvalAltResult;
+use rhai_errors::table::NativeTable;
 use rhai_few::Few;
-use rhai_state::error::EvalAltResult;
 use rhai_state::session::Session;
 use rhai_state::state::GlobalRuntimeState;
-use rhai_state::table::NativeTable;
 use rhai_steps::operation::Operation;
 use rhai_steps::values::{let_go, list_of, text_value, unit_value};
 use rhai_tree::position::Position;

@@ -2,7 +2,7 @@
 
 ghost use Rattle.rhai_operators.specs.Answers.{IsAnswer, unary_of};
 
-use rhai_state::error::EvalAltResult;
+use rhai_errors::error::EvalAltResult;
 use rhai_tree::token::Token;
 use rhai_values::base::value::{Dynamic, Host};
 use std::alloc::Global;

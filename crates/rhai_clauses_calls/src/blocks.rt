@@ -12,13 +12,13 @@ ghost use Rattle.rhai_steps.specs.States.{holding, state_of};
 ghost use Rattle.rhai_values.specs.Cells.{IsNoHandle};
 ghost use Rattle.std.specs.Prelude.{IsTrue, Some, length, map, ◌≡◌, ◌≤◌};
 
+use rhai_errors::error::EvalAltResult;
+use rhai_errors::table::NativeTable;
 use rhai_eval::engine::Engine;
 use rhai_places::target::Target;
 use rhai_state::caches::Caches;
-use rhai_state::error::EvalAltResult;
 use rhai_state::scope::Scope;
 use rhai_state::state::GlobalRuntimeState;
-use rhai_state::table::NativeTable;
 use rhai_tree::expr::{Expr, OpAssignment, Stmt};
 use rhai_values::base::value::{Dynamic, Host};
 use std::alloc::Global;

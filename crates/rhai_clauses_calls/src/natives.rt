@@ -9,12 +9,12 @@ ghost use Rattle.rhai_steps.specs.States.{state_of};
 ghost use Rattle.rhai_values.specs.Cells.{IsNoHandle};
 ghost use Rattle.std.specs.Prelude.{Some, ◌<◌, ◌≡◌};
 
+use rhai_errors::error::EvalAltResult;
+use rhai_errors::table::NativeTable;
 use rhai_eval::engine::Engine;
 use rhai_places::target::Target;
 use rhai_state::caches::Caches;
-use rhai_state::error::EvalAltResult;
 use rhai_state::state::GlobalRuntimeState;
-use rhai_state::table::NativeTable;
 use rhai_tree::position::Position;
 use rhai_tree::token::Token;
 use rhai_values::base::value::{Dynamic, Host};

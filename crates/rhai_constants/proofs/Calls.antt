@@ -15,7 +15,7 @@ use Rattle.rhai_values.specs.declared.base.value.FnPtr.{FnPtr, out-FnPtr}
 use Rattle.rhai_values.specs.declared.base.value.FnPtrKind.{FnPtrKind}
 use Rattle.rhai_values.specs.declared.base.value.FnPtrKind.TheVariants as kind
 use Rattle.rhai_values.specs.Copy.{copy_of}
-use Rattle.rhai_state.specs.declared.error.EvalAltResult.{EvalAltResult}
+use Rattle.rhai_errors.specs.declared.error.EvalAltResult.{EvalAltResult}
 use Rattle.rhai_machine.specs.language.Setting.{Globals, Setting, globals_of}
 use Rattle.rhai_machine.specs.language.State.{Local}
 use Rattle.rhai_functions.specs.declared.function.Function.{Function}
@@ -23,7 +23,7 @@ use Rattle.rhai_machine.specs.language.Variables.{Path, Variable, path_of, varia
 use Rattle.rhai_machine.specs.language.Names.{Meaning, AtEntry, AsTemporary, bound_this, meant}
 use Rattle.rhai_machine.specs.language.Frames.{Operation, Dispatch, Call, Frame, Core, core}
 use Rattle.rhai_machine.specs.language.Frames.{changed, on_value, CallNamed, OpenExpr}
-use Rattle.rhai_state.specs.Native.{Reply, Missing, Gives, Faults}
+use Rattle.rhai_errors.specs.Native.{Reply, Missing, Gives, Faults}
 use Rattle.rhai_machine.specs.language.Frames.{Purpose, ToCall, ToCallOn, ToCallOnThis, ToCallNumber, ToCallFunction, ToCurry, ToChain}
 use Rattle.rhai_machine.specs.language.Frames.{Keyword, CallPointer, MakePointer, Curry, IsShared, IsDefinedVariable}
 use Rattle.rhai_machine.specs.language.Expressions.{call_move}

@@ -12,11 +12,11 @@ use Rattle.rhai_values.specs.declared.base.value.Dynamic.{Dynamic}
 use Rattle.rhai_values.specs.declared.base.value.Union.{Union}
 use Rattle.rhai_values.specs.declared.base.value.Union.TheVariants as value
 use Rattle.rhai_values.specs.Layers.{layer_of}
-use Rattle.rhai_state.specs.declared.error.EvalAltResult.{EvalAltResult}
-use Rattle.rhai_state.specs.Errors.{root_name}
-use Rattle.rhai_places.specs.declared.spot.Spot.{Spot}
-use Rattle.rhai_places.specs.declared.spot.Spot.TheVariants as spot
-use Rattle.rhai_places.specs.Parts.{part_of, value_at}
+use Rattle.rhai_errors.specs.declared.error.EvalAltResult.{EvalAltResult}
+use Rattle.rhai_errors.specs.Errors.{root_name}
+use Rattle.rhai_spots.specs.declared.spot.Spot.{Spot}
+use Rattle.rhai_spots.specs.declared.spot.Spot.TheVariants as spot
+use Rattle.rhai_spots.specs.Parts.{part_of, value_at}
 use Rattle.rhai_machine.specs.language.Setting.{Globals, Setting}
 use Rattle.rhai_machine.specs.language.State.{Local}
 use Rattle.rhai_machine.specs.language.Values.{is_handle, through_union, through as seen_through, unit_value}
@@ -54,14 +54,14 @@ use Rattle.rhai_values.specs.declared.base.value.Union.TheVariants.{rolls-Cell, 
 use Rattle.rhai_values.specs.Cells.{IsNoHandle}
 use Rattle.rhai_values.specs.Layers.{UnionLayer}
 use Rattle.rhai_values.specs.Literals.{literal_step, value_of_literal}
-use Rattle.rhai_places.specs.declared.spot.Access.{Access}
-use Rattle.rhai_places.specs.declared.spot.Refusal.{Refusal}
-use Rattle.rhai_places.specs.Found.{through_layer, through as through_index, with_key, without_key, spot_or_error as settled_at, found_by}
-use Rattle.rhai_places.specs.Found.{found}
-use Rattle.rhai_places.specs.Found.{IsKeyless}
-use Rattle.rhai_places.specs.Indexing.{located}
-use Rattle.rhai_places.specs.Parts.{part_in}
-use Rattle.rhai_places.proofs.FoundLemmas.{keyless}
+use Rattle.rhai_spots.specs.declared.spot.Access.{Access}
+use Rattle.rhai_spots.specs.declared.spot.Refusal.{Refusal}
+use Rattle.rhai_spots.specs.Found.{through_layer, through as through_index, with_key, without_key, spot_or_error as settled_at, found_by}
+use Rattle.rhai_spots.specs.Found.{found}
+use Rattle.rhai_spots.specs.Found.{IsKeyless}
+use Rattle.rhai_spots.specs.Indexing.{located}
+use Rattle.rhai_spots.specs.Parts.{part_in}
+use Rattle.rhai_spots.proofs.FoundLemmas.{keyless}
 use Rattle.rhai_machine.specs.language.Values.{Cells}
 use Rattle.rhai_machine.specs.language.Expressions.{literal_of}
 use Rattle.rhai_machine.specs.language.Assignment.{store_core}

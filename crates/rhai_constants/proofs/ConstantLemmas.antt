@@ -18,9 +18,9 @@ use Rattle.rhai_values.specs.Cells.{IsNoHandle}
 use Rattle.rhai_values.specs.Layers.{UnionLayer, layer_of}
 use Rattle.rhai_values.specs.Modes.{with_mode, union_with_mode, array_with_mode, map_with_mode, row_with_mode}
 use Rattle.rhai_values.proofs.ModeLemmas.{mode-Array, mode-Map}
-use Rattle.rhai_places.specs.declared.spot.Spot.{Spot}
-use Rattle.rhai_places.specs.declared.spot.Spot.TheVariants as spot
-use Rattle.rhai_places.specs.Parts.{value_in, value_at, with_value_in, with_value, part_in, part_of}
+use Rattle.rhai_spots.specs.declared.spot.Spot.{Spot}
+use Rattle.rhai_spots.specs.declared.spot.Spot.TheVariants as spot
+use Rattle.rhai_spots.specs.Parts.{value_in, value_at, with_value_in, with_value, part_in, part_of}
 use Rattle.rhai_machine.specs.language.Places.{is_constant}
 use Rattle.rhai_constants.specs.Constants.{IsConstant}
 use Rattle.rhai_constants.specs.Laws.{ConstIsConstant, ConstantIsReadOnly, ReadOnlyIsConstant}

@@ -8,7 +8,7 @@ use Rattle.rhai_machine.specs.Types.{Dynamic, EvalAltResult, Union}
 use Rattle.rhai_values.specs.declared.base.value.Union.TheVariants as value
 use Rattle.rhai_values.specs.Cells.{IsNoHandle, value_of_cell}
 use Rattle.rhai_values.specs.TypeNames.{type_name_of}
-use Rattle.rhai_state.specs.Native.{purity_of, question_of, request}
+use Rattle.rhai_errors.specs.Native.{purity_of, question_of, request}
 use Rattle.rhai_machine.specs.language.Setting.{Setting}
 use Rattle.rhai_machine.specs.language.State.{Local}
 use Rattle.rhai_machine.specs.language.Values.{Cells}

@@ -8,13 +8,13 @@ use Rattle.rhai_values.specs.declared.base.value.Union.{Union}
 use Rattle.rhai_values.specs.declared.base.value.Union.TheVariants as value
 use Rattle.rhai_values.specs.Cells.{IsNoHandle}
 use Rattle.rhai_values.specs.TypeNames.{type_name_of}
-use Rattle.rhai_state.specs.Native.{Purity, Request, Reply, HasNoHandle, purity_of, question_of}
+use Rattle.rhai_errors.specs.Native.{Purity, Request, Reply, HasNoHandle, purity_of, question_of}
 use Rattle.rhai_machine.specs.machine.Machine.{Move, Halt, Go, Charge, Native, AskPure}
 use Rattle.rhai_state.specs.Scope.{value_in}
 use Rattle.rhai_state.specs.declared.scope.ScopeEntry.{ScopeEntry}
-use Rattle.rhai_places.specs.declared.spot.Spot.{Spot}
-use Rattle.rhai_places.specs.Parts.{value_at, part_of}
-use Rattle.rhai_places.specs.Paths.{ToPlace, ToCell}
+use Rattle.rhai_spots.specs.declared.spot.Spot.{Spot}
+use Rattle.rhai_spots.specs.Parts.{value_at, part_of}
+use Rattle.rhai_spots.specs.Paths.{ToPlace, ToCell}
 use Rattle.rhai_machine.specs.language.State.{Local}
 use Rattle.rhai_machine.specs.language.Values.{Cells, unit_value}
 use Rattle.rhai_machine.specs.language.Places.{Place, InEntry, InCell, InThis, InFocus, is_constant}

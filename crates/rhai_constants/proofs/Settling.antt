@@ -8,12 +8,12 @@ use Rattle.std.specs.Prelude.{Result, Ok, Err, slice_get, slice_set, ifâ—Œthenâ—
 use Rattle.rhai_tree.specs.declared.expr.Stmt.{Stmt}
 use Rattle.rhai_values.specs.declared.base.value.Dynamic.{Dynamic}
 use Rattle.rhai_state.specs.Scope.{revalued, value_in, value_of}
-use Rattle.rhai_state.specs.declared.error.EvalAltResult.{EvalAltResult}
+use Rattle.rhai_errors.specs.declared.error.EvalAltResult.{EvalAltResult}
 use Rattle.rhai_state.specs.declared.scope.ScopeEntry.{ScopeEntry}
 use Rattle.rhai_functions.specs.Entering.{parameters}
-use Rattle.rhai_places.specs.declared.spot.Spot.{Spot}
-use Rattle.rhai_places.specs.Parts.{value_at, with_value}
-use Rattle.rhai_places.specs.Paths.{Step, ToPlace, ToCell}
+use Rattle.rhai_spots.specs.declared.spot.Spot.{Spot}
+use Rattle.rhai_spots.specs.Parts.{value_at, with_value}
+use Rattle.rhai_spots.specs.Paths.{Step, ToPlace, ToCell}
 use Rattle.rhai_machine.specs.language.State.{Local, deeper}
 use Rattle.rhai_machine.specs.language.Values.{unit_value}
 use Rattle.rhai_machine.specs.language.Places.{Place, InEntry, InCell, InThis, InFocus, put, rebound}

@@ -4,7 +4,7 @@ use Rattle.rhai_values.specs.declared.base.value.AccessMode.TheVariants.{ReadOnl
 use Rattle.rhai_values.specs.declared.base.value.Dynamic.{Dynamic}
 use Rattle.rhai_values.specs.Cells.{IsNoHandle}
 use Rattle.rhai_values.specs.Modes.{with_mode}
-use Rattle.rhai_state.specs.declared.error.EvalAltResult.{EvalAltResult}
+use Rattle.rhai_errors.specs.declared.error.EvalAltResult.{EvalAltResult}
 use Rattle.rhai_state.specs.Scope.{found, index_of, value_in}
 use Rattle.rhai_machine.specs.language.State.{Local}
 use Rattle.rhai_machine.specs.language.Values.{flat, is_handle}

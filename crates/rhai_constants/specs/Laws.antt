@@ -4,8 +4,8 @@ use Rattle.std.specs.Prelude.{◌≡◌, ◌⊎◌, ℕ, true, List, [], Some}
 use Rattle.rhai_values.specs.declared.base.value.AccessMode.TheVariants.{ReadOnly}
 use Rattle.rhai_values.specs.declared.base.value.Dynamic.{Dynamic}
 use Rattle.rhai_state.specs.Scope.{new_entry}
-use Rattle.rhai_places.specs.declared.spot.Spot.{Spot}
-use Rattle.rhai_places.specs.Parts.{value_at}
+use Rattle.rhai_spots.specs.declared.spot.Spot.{Spot}
+use Rattle.rhai_spots.specs.Parts.{value_at}
 use Rattle.rhai_machine.specs.machine.Point.{Point, Reaches, after}
 use Rattle.rhai_machine.specs.language.Setting.{Rules, cut}
 use Rattle.rhai_machine.specs.language.State.{State}

@@ -5,8 +5,8 @@ ghost use Rattle.rhai_machine.specs.language.Setting.{Offer, rules_of};
 ghost use Rattle.rhai_constants.specs.Laws.{ConstIsConstant, ConstantIsReadOnly, ConstantsStay};
 ghost use Rattle.rhai_constants.specs.Laws.{ReadOnlyIsConstant};
 
+use rhai_errors::table::NativeTable;
 use rhai_state::limits::Limits;
-use rhai_state::table::NativeTable;
 use rhai_values::base::value::Host;
 use std::marker::PhantomData;
 

@@ -2,7 +2,7 @@
 use Rattle.std.proofs.Common.{ℕ, Bool, List, [], ◌∷◌, length}
 use Rattle.std.specs.Prelude.{Option, Some, None, Result}
 use Rattle.rhai_machine.specs.Types.{Dynamic, EvalAltResult, Expr, Stmt}
-use Rattle.rhai_state.specs.Native.{Lawful}
+use Rattle.rhai_errors.specs.Native.{Lawful}
 use Rattle.rhai_machine.specs.language.Setting.{Rules}
 use Rattle.rhai_machine.specs.language.State.{Local, State}
 use Rattle.rhai_machine.specs.language.Arguments.{function_core, keyword_of}

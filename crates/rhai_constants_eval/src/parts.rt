@@ -20,12 +20,12 @@ ghost use Rattle.rhai_eval.specs.Chains.{assigned_in, whole_chain, AssignsNoHand
 ghost use Rattle.rhai_eval.specs.States.{under};
 ghost use Rattle.rhai_constants_eval.specs.Staying.{StaysAs, StaysFrom};
 
+use rhai_errors::error::EvalAltResult;
+use rhai_errors::table::NativeTable;
 use rhai_eval::engine::Engine;
 use rhai_state::caches::Caches;
-use rhai_state::error::EvalAltResult;
 use rhai_state::scope::Scope;
 use rhai_state::state::GlobalRuntimeState;
-use rhai_state::table::NativeTable;
 use rhai_tree::expr::{Expr, FnCallExpr, Namespace, OpAssignment, Stmt};
 use rhai_tree::position::Position;
 use rhai_tree::token::Token;

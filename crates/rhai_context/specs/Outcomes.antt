@@ -1,7 +1,7 @@
 -- How the body of a loop ended, from what stands in the run.
 use Rattle.std.specs.Prelude.{Option, Result, Ok, Err}
 use Rattle.rhai_values.specs.declared.base.value.Dynamic.{Dynamic}
-use Rattle.rhai_state.specs.declared.error.EvalAltResult.{EvalAltResult}
+use Rattle.rhai_errors.specs.declared.error.EvalAltResult.{EvalAltResult}
 use Rattle.rhai_steps.specs.declared.loops.BodyEnd.{BodyEnd}
 use Rattle.rhai_steps.specs.declared.loops.BodyEnd.TheVariants as body
 use Rattle.rhai_context.specs.declared.outcomes.BodyWay.{BodyWay}

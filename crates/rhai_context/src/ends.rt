@@ -4,11 +4,11 @@
 
 ghost use Rattle.std.specs.Prelude.{◌≡◌, ◌<◌, OnOk, None, false, length, slice_get, true};
 ghost use Rattle.rhai_state.specs.Scope.{entries_of, revalued};
-ghost use Rattle.rhai_state.specs.Errors.{is_catchable};
+ghost use Rattle.rhai_errors.specs.Errors.{is_catchable};
 ghost use Rattle.rhai_machine.specs.language.Values.{bool_value as truth_of};
 ghost use Rattle.rhai_context.specs.Ends.{came, came_changed, came_turn, error_in, unchanged as unchanged_by, unit};
 
-use rhai_state::error::EvalAltResult;
+use rhai_errors::error::EvalAltResult;
 use rhai_state::scope::Scope;
 use rhai_tree::position::Position;
 use rhai_values::base::value::{AccessMode, Dynamic, Host, Union};

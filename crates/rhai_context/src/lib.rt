@@ -11,7 +11,7 @@ pub mod outcomes;
 pub mod spare;
 
 use crate::spare::Spare;
-use rhai_state::error::EvalAltResult;
+use rhai_errors::error::EvalAltResult;
 use rhai_state::scope::{Scope, ScopeEntry};
 use rhai_state::state::GlobalRuntimeState;
 use rhai_tree::Items;

@@ -3,7 +3,7 @@
 ghost use Rattle.std.specs.Prelude.{◌≡◌, ◌<◌, ◌≤◌, ◌+◌, IsTrue, None, false, true};
 ghost use Rattle.rhai_tree.specs.Positions.{position_of, stmt_position_of};
 ghost use Rattle.rhai_values.specs.Cells.{cells_of};
-ghost use Rattle.rhai_state.specs.declared.error.EvalAltResult.TheVariants as error;
+ghost use Rattle.rhai_errors.specs.declared.error.EvalAltResult.TheVariants as error;
 ghost use Rattle.rhai_machine.specs.language.State.{Answers};
 ghost use Rattle.rhai_machine.specs.language.Values.{flat, is_handle, is_truth, through, truth};
 ghost use Rattle.rhai_steps.specs.Agreement.{KeepsSight};
@@ -13,7 +13,7 @@ ghost use Rattle.rhai_context.specs.Ends.{came, came_test, came_turn, error_in};
 ghost use Rattle.rhai_context.specs.Outcomes.{ended_by};
 
 use crate::ends::{put, settle, settle_turn, stop, stopped, take_value};
-use rhai_state::error::EvalAltResult;
+use rhai_errors::error::EvalAltResult;
 use rhai_state::limits::Limits;
 use rhai_state::state::GlobalRuntimeState;
 use rhai_steps::charges::charge_one;

@@ -4,7 +4,7 @@ ghost use Rattle.std.specs.Prelude.{◌≡◌};
 ghost use Rattle.rhai_operators.specs.Answers.{IsAnswer, unary_of};
 ghost use Rattle.rhai_twins_places.specs.Ends.{option_ran_out};
 
-use rhai_state::error::EvalAltResult;
+use rhai_errors::error::EvalAltResult;
 use rhai_tree::token::Token;
 use rhai_values::base::value::{Dynamic, Host};
 use std::alloc::Global;

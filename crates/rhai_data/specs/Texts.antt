@@ -5,8 +5,8 @@ use Rattle.rhai_tree.specs.declared.expr.Expr.{Expr}
 use Rattle.rhai_values.specs.declared.base.value.Dynamic.{Dynamic}
 use Rattle.rhai_values.specs.declared.base.value.Union.{Union}
 use Rattle.rhai_values.specs.declared.base.value.Union.TheVariants as value
-use Rattle.rhai_state.specs.declared.error.EvalAltResult.{EvalAltResult}
-use Rattle.rhai_state.specs.Errors.{is_system}
+use Rattle.rhai_errors.specs.declared.error.EvalAltResult.{EvalAltResult}
+use Rattle.rhai_errors.specs.Errors.{is_system}
 use Rattle.rhai_machine.specs.language.Data.{part_core, parts_core, printing}
 use Rattle.rhai_machine.specs.language.Frames.{Frame, Core, core, core_over, Ask, Back, Fail, PrintedPart, TextPart}
 use Rattle.rhai_machine.specs.language.Setting.{Setting}

@@ -9,10 +9,10 @@ use Rattle.rhai_tree.specs.Forms.{is_unqualified}
 use Rattle.rhai_tree.specs.Layers.{ExprLayer}
 use Rattle.rhai_values.specs.declared.base.value.Dynamic.{Dynamic}
 use Rattle.rhai_state.specs.declared.scope.ScopeEntry.{ScopeEntry}
-use Rattle.rhai_state.specs.declared.error.EvalAltResult.{EvalAltResult}
-use Rattle.rhai_state.specs.Errors.{is_out_of_memory}
+use Rattle.rhai_errors.specs.declared.error.EvalAltResult.{EvalAltResult}
+use Rattle.rhai_errors.specs.Errors.{is_out_of_memory}
 use Rattle.rhai_state.specs.Scope.{variable_value, in_use}
-use Rattle.rhai_places.specs.declared.target.Part.TheVariants as part
+use Rattle.rhai_spots.specs.declared.part.Part.TheVariants as part
 use Rattle.rhai_machine.specs.language.Setting.{Globals}
 use Rattle.rhai_machine.specs.language.State.{Surroundings}
 use Rattle.rhai_machine.specs.language.Values.{unit_value}

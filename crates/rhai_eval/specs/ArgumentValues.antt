@@ -2,7 +2,7 @@
 use Rattle.std.specs.Prelude.{Result, Ok, Err}
 use Rattle.rhai_tree.specs.declared.position.Position.{Position}
 use Rattle.rhai_values.specs.declared.base.value.Dynamic.{Dynamic}
-use Rattle.rhai_state.specs.declared.error.EvalAltResult.{EvalAltResult}
+use Rattle.rhai_errors.specs.declared.error.EvalAltResult.{EvalAltResult}
 
 -- the value of a result that says besides where it starts
 abbrev pub value_with : {H : Type 0} → Result (Dynamic H × Position) (EvalAltResult H) → Result (Dynamic H) (EvalAltResult H)

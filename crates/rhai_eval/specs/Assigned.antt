@@ -2,9 +2,9 @@
 use Rattle.std.specs.Prelude.{Bool, true, List, ◌∷◌, Some, Result, Ok, Err}
 use Rattle.rhai_tree.specs.declared.expr.Expr.{Expr}
 use Rattle.rhai_values.specs.declared.base.value.Dynamic.{Dynamic}
-use Rattle.rhai_state.specs.declared.error.EvalAltResult.{EvalAltResult}
-use Rattle.rhai_places.specs.declared.target.Part.{Part}
-use Rattle.rhai_places.specs.declared.target.Part.TheVariants as part
+use Rattle.rhai_errors.specs.declared.error.EvalAltResult.{EvalAltResult}
+use Rattle.rhai_spots.specs.declared.part.Part.{Part}
+use Rattle.rhai_spots.specs.declared.part.Part.TheVariants as part
 use Rattle.rhai_machine.specs.language.Setting.{Setting}
 use Rattle.rhai_machine.specs.language.State.{Local}
 use Rattle.rhai_machine.specs.language.Values.{unit_value}

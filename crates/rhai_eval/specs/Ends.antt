@@ -1,7 +1,7 @@
 -- How a part of a tree, or a call, ends: as the machine does, over any stack, or up to where memory ran out.
 use Rattle.std.specs.Prelude.{◌≡◌, ◌⊎◌, Bool, List, [], Result}
 use Rattle.rhai_values.specs.declared.base.value.Dynamic.{Dynamic}
-use Rattle.rhai_state.specs.declared.error.EvalAltResult.{EvalAltResult}
+use Rattle.rhai_errors.specs.declared.error.EvalAltResult.{EvalAltResult}
 use Rattle.rhai_machine.specs.machine.Laws.{LimitsAgree}
 use Rattle.rhai_machine.specs.machine.Point.{Reaches}
 use Rattle.rhai_machine.specs.language.Setting.{Rules, cut, limit_under}

@@ -2,7 +2,7 @@
 use Rattle.std.specs.Prelude.{Bool}
 use Rattle.rhai_tree.specs.declared.position.Position.{Position}
 use Rattle.rhai_values.specs.declared.base.value.Dynamic.{Dynamic}
-use Rattle.rhai_places.specs.declared.spot.Access.{Access}
+use Rattle.rhai_spots.specs.declared.spot.Access.{Access}
 use Rattle.rhai_machine.specs.language.Frames.{Item, MemberAccess}
 use Rattle.rhai_eval.specs.declared.engine.Engine.{Engine}
 

@@ -11,11 +11,11 @@ use Rattle.rhai_values.specs.declared.base.value.Dynamic.{Dynamic}
 use Rattle.rhai_values.specs.declared.base.value.Import.{Import, out-Import}
 use Rattle.rhai_values.specs.declared.base.value.Module.{Module}
 use Rattle.rhai_state.specs.declared.scope.ScopeEntry.{ScopeEntry}
-use Rattle.rhai_state.specs.declared.error.EvalAltResult.{EvalAltResult}
+use Rattle.rhai_errors.specs.declared.error.EvalAltResult.{EvalAltResult}
 use Rattle.rhai_state.specs.Scope.{variable_value, in_use}
 use Rattle.rhai_functions.specs.Namespaces.{root_in}
-use Rattle.rhai_places.specs.declared.target.Part.{Part}
-use Rattle.rhai_places.specs.declared.target.Part.TheVariants as part
+use Rattle.rhai_spots.specs.declared.part.Part.{Part}
+use Rattle.rhai_spots.specs.declared.part.Part.TheVariants as part
 use Rattle.rhai_machine.specs.language.Setting.{Globals}
 use Rattle.rhai_machine.specs.language.State.{Answers, Surroundings}
 use Rattle.rhai_machine.specs.language.Values.{Cells, unit_value}

@@ -2,7 +2,7 @@
 use Rattle.std.specs.Prelude.{ℕ, ◌-◌, ◌^◌, List}
 use Rattle.rhai_state.specs.Limits.{limit_of}
 use Rattle.rhai_state.specs.declared.limits.Limits.{Limits}
-use Rattle.rhai_state.specs.Native.{Natives}
+use Rattle.rhai_errors.specs.Native.{Natives}
 use Rattle.rhai_machine.specs.language.Setting.{Offer, Rules, rules_of}
 use Rattle.rhai_eval.specs.declared.engine.Engine.{Engine}
 

@@ -1,13 +1,13 @@
 //! The engine: the limits and switches of a run, and the modules that it offers.
 
 ghost use Rattle.std.specs.Prelude.{◌≡◌, ◌<◌, ◌≤◌, ◌+◌, ◌-◌, ◌^◌, OnOk, IfErr, [], true, false};
-ghost use Rattle.rhai_state.specs.declared.error.EvalAltResult.TheVariants as error;
+ghost use Rattle.rhai_errors.specs.declared.error.EvalAltResult.TheVariants as error;
 ghost use Rattle.rhai_state.specs.Limits.{limit_of};
 ghost use Rattle.rhai_steps.specs.Sessions.{offer_of as offered};
 ghost use Rattle.rhai_eval.specs.States.{limits_of, offer_of, unlimited};
 
+use rhai_errors::error::EvalAltResult;
 use rhai_eval_core::evaluator::Evaluator;
-use rhai_state::error::EvalAltResult;
 use rhai_state::limits::{Limits, operation_limit};
 use rhai_state::session::{Offered, Session};
 use rhai_state::state::GlobalRuntimeState;

@@ -1,6 +1,6 @@
 //! Values, scopes, positions, tokens, the tree, errors, and the trait of host values.
 
-pub use rhai_state::error::{Bounds, EvalAltResult, FunctionCallError, TypeMismatch};
+pub use rhai_errors::error::{Bounds, EvalAltResult, FunctionCallError, TypeMismatch};
 pub use rhai_state::scope::{Scope, ScopeEntry};
 pub use rhai_tree::expr::{
     ConditionalExpr, Expr, FnCallExpr, Ident, MapEntry, Namespace, OpAssignment, RangeCase,

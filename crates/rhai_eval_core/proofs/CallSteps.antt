@@ -18,9 +18,9 @@ use Rattle.rhai_values.specs.declared.base.value.FnPtrKind.{FnPtrKind}
 use Rattle.rhai_values.specs.declared.base.value.FnPtrKind.TheVariants as kind
 use Rattle.rhai_state.specs.declared.scope.Scope.{Scope}
 use Rattle.rhai_state.specs.declared.state.GlobalRuntimeState.{GlobalRuntimeState}
-use Rattle.rhai_state.specs.declared.error.EvalAltResult.{EvalAltResult}
-use Rattle.rhai_state.specs.declared.error.EvalAltResult.TheVariants as error
-use Rattle.rhai_state.specs.Errors.{is_out_of_memory}
+use Rattle.rhai_errors.specs.declared.error.EvalAltResult.{EvalAltResult}
+use Rattle.rhai_errors.specs.declared.error.EvalAltResult.TheVariants as error
+use Rattle.rhai_errors.specs.Errors.{is_out_of_memory}
 use Rattle.rhai_machine.specs.machine.Machine.{Go, Charge}
 use Rattle.rhai_machine.specs.machine.Memory.{here, out_before_step, Leads}
 use Rattle.rhai_machine.specs.machine.Point.{Point}
@@ -48,7 +48,7 @@ use Rattle.rhai_machine.specs.language.Activations.{NoThis}
 use Rattle.rhai_machine.specs.language.Calls.{entry_of, races}
 use Rattle.rhai_callees.specs.Kept.{HasKept}
 use Rattle.rhai_callees.specs.Linked.{linked_call, Comes}
-use Rattle.rhai_callees.specs.Pointers.{native_number_of}
+use Rattle.rhai_call_forms.specs.Pointers.{native_number_of}
 use Rattle.rhai_eval_core.specs.declared.call.keywords.PointerUse.{PointerUse}
 use Rattle.rhai_eval_core.specs.declared.call.keywords.PointerUse.TheVariants as code
 use Rattle.rhai_eval_core.specs.Calls.{called, pointer_called, purpose_of}

@@ -7,7 +7,7 @@ use Rattle.rhai_tree.specs.Positions.{position_of}
 use Rattle.rhai_values.specs.declared.base.value.Dynamic.{Dynamic}
 use Rattle.rhai_values.specs.declared.base.value.Union.{Union}
 use Rattle.rhai_values.specs.declared.base.value.Union.TheVariants as value
-use Rattle.rhai_state.specs.declared.error.EvalAltResult.{EvalAltResult}
+use Rattle.rhai_errors.specs.declared.error.EvalAltResult.{EvalAltResult}
 use Rattle.rhai_machine.specs.machine.Machine.{Go}
 use Rattle.rhai_machine.specs.machine.Point.{after}
 use Rattle.rhai_machine.specs.machine.Memory.{here, next, Leads}
@@ -20,7 +20,7 @@ use Rattle.rhai_machine.specs.language.Runs.{at, with_core, Goes}
 use Rattle.rhai_machine.specs.language.Language.{machine}
 use Rattle.rhai_operands.specs.Tests.{Tests}
 use Rattle.rhai_steps.specs.Values.{is_unit_union, unit_seen}
-use Rattle.rhai_state.specs.Errors.{is_out_of_memory}
+use Rattle.rhai_errors.specs.Errors.{is_out_of_memory}
 use Rattle.rhai_eval_core.proofs.Chain.{fails_on}
 use Rattle.rhai_steps.proofs.Pieces.{step_by}
 

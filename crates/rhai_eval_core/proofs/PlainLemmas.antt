@@ -14,10 +14,10 @@ use Rattle.rhai_values.specs.declared.base.value.Dynamic.{Dynamic}
 use Rattle.rhai_values.specs.declared.base.value.Module.{Module}
 use Rattle.rhai_values.specs.declared.base.value.Union.TheVariants as value
 use Rattle.rhai_values.specs.Copy.{plain}
-use Rattle.rhai_state.specs.declared.error.EvalAltResult.{EvalAltResult}
-use Rattle.rhai_state.specs.declared.error.EvalAltResult.TheVariants as variant
+use Rattle.rhai_errors.specs.declared.error.EvalAltResult.{EvalAltResult}
+use Rattle.rhai_errors.specs.declared.error.EvalAltResult.TheVariants as variant
 use Rattle.rhai_state.specs.declared.scope.ScopeEntry.{ScopeEntry}
-use Rattle.rhai_state.specs.Errors.{is_out_of_memory}
+use Rattle.rhai_errors.specs.Errors.{is_out_of_memory}
 use Rattle.rhai_state.specs.Scope.{name_of, value_of}
 use Rattle.rhai_functions.specs.Entering.{parameters}
 use Rattle.rhai_operators.specs.Answers.{binary_of}

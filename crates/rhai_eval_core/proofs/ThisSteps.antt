@@ -7,7 +7,7 @@ use Rattle.rhai_tree.specs.declared.position.Position.{Position}
 use Rattle.rhai_tree.specs.Layers.{ExprLayer}
 use Rattle.rhai_tree.specs.Positions.{position_of}
 use Rattle.rhai_values.specs.declared.base.value.Dynamic.{Dynamic}
-use Rattle.rhai_state.specs.declared.error.EvalAltResult.TheVariants as error
+use Rattle.rhai_errors.specs.declared.error.EvalAltResult.TheVariants as error
 use Rattle.rhai_machine.specs.machine.Machine.{Go}
 use Rattle.rhai_machine.specs.machine.Memory.{here, Leads}
 use Rattle.rhai_machine.specs.language.Setting.{Rules, cut}

@@ -1,7 +1,7 @@
 -- What a run of the code is to the machine: what it reads of an engine and the table as its rules, and the context as its state.
 use Rattle.std.specs.Prelude.{ℕ, List}
 use Rattle.rhai_tree.specs.Names.{Name}
-use Rattle.rhai_state.specs.Native.{Natives}
+use Rattle.rhai_errors.specs.Native.{Natives}
 use Rattle.rhai_state.specs.Scope.{names_in}
 use Rattle.rhai_machine.specs.language.Setting.{Offer, Rules}
 use Rattle.rhai_machine.specs.language.State.{State}

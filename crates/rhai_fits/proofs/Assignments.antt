@@ -8,8 +8,8 @@ use Rattle.rhai_values.specs.declared.base.value.AccessMode.TheVariants.{ReadWri
 use Rattle.rhai_values.specs.declared.base.value.Union.TheVariants as value
 use Rattle.rhai_values.specs.Cells.{IsNoHandle}
 use Rattle.rhai_values.specs.Modes.{with_mode}
-use Rattle.rhai_state.specs.Native.{Reply, Missing, Gives as Answers, Faults}
-use Rattle.rhai_state.specs.ValueContents.{Reached}
+use Rattle.rhai_errors.specs.Native.{Reply, Missing, Gives as Answers, Faults}
+use Rattle.rhai_values.specs.ValueContents.{Reached}
 use Rattle.rhai_operators.specs.Answers.{Answer, op_assign_of}
 use Rattle.rhai_machine.specs.language.Setting.{Setting}
 use Rattle.rhai_machine.specs.language.State.{Local}

@@ -8,9 +8,9 @@ use Rattle.rhai_machine.specs.Types.{Position, ScopeEntry, Stmt, Token, Union}
 use Rattle.rhai_values.specs.declared.base.value.AccessMode.TheVariants.{ReadWrite}
 use Rattle.rhai_values.specs.declared.base.value.Union.TheVariants as value
 use Rattle.rhai_values.specs.DataSize.{data_sizes}
-use Rattle.rhai_state.specs.declared.error.EvalAltResult.TheVariants as error
-use Rattle.rhai_state.specs.Errors.{is_system}
-use Rattle.rhai_state.specs.ValueContents.{Reached}
+use Rattle.rhai_errors.specs.declared.error.EvalAltResult.TheVariants as error
+use Rattle.rhai_errors.specs.Errors.{is_system}
+use Rattle.rhai_values.specs.ValueContents.{Reached}
 use Rattle.rhai_functions.specs.Entering.{parameters}
 use Rattle.rhai_functions.specs.Functions.{FunctionKey}
 use Rattle.rhai_functions.specs.Namespaces.{down, public_in, root_in}

@@ -8,11 +8,11 @@ use Rattle.rhai_tree.specs.Positions.{start_of}
 use Rattle.rhai_machine.specs.Types.{Dynamic, EvalAltResult, Expr, out-Expr, Position, Token}
 use Rattle.rhai_values.specs.Cells.{IsNoHandle}
 use Rattle.rhai_values.specs.Layers.{layer_of}
-use Rattle.rhai_state.specs.ValueContents.{Reached}
-use Rattle.rhai_state.specs.Errors.{root_name}
-use Rattle.rhai_places.specs.declared.spot.Spot.{Spot}
-use Rattle.rhai_places.specs.declared.spot.Spot.TheVariants as spot
-use Rattle.rhai_places.specs.Parts.{part_of, value_at}
+use Rattle.rhai_values.specs.ValueContents.{Reached}
+use Rattle.rhai_errors.specs.Errors.{root_name}
+use Rattle.rhai_spots.specs.declared.spot.Spot.{Spot}
+use Rattle.rhai_spots.specs.declared.spot.Spot.TheVariants as spot
+use Rattle.rhai_spots.specs.Parts.{part_of, value_at}
 use Rattle.rhai_machine.specs.language.Setting.{Globals, Setting}
 use Rattle.rhai_machine.specs.language.State.{Local}
 use Rattle.rhai_machine.specs.language.Values.{unit_value, is_handle, through}

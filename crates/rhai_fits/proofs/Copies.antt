@@ -20,7 +20,7 @@ use Rattle.rhai_values.specs.Copy.{copy_union, copy_of, copy_pointer}
 use Rattle.rhai_values.specs.Modes.{union_with_mode, with_mode}
 use Rattle.rhai_values.proofs.CopyLemmas.{copy-Array, copy-Map, copy-FnPtr, copy-pointer}
 use Rattle.rhai_values.proofs.ModeLemmas.{mode-Array, mode-Map}
-use Rattle.rhai_state.specs.ValueContents.{Reached}
+use Rattle.rhai_values.specs.ValueContents.{Reached}
 use Rattle.rhai_fits.proofs.Values.{FitUnion, Fit, Fits, FitPointer, fit_array, fit_map, fit_pointer, pointer_fits, fit_items, fit_entries}
 use Rattle.rhai_fits.proofs.Values.{FitKind, fit_rolled}
 

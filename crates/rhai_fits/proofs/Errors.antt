@@ -3,32 +3,33 @@ use Rattle.std.proofs.Common.{◌≡◌, ℕ, List, refl, sym, ◌∙◌, subst,
 use Rattle.std.specs.Prelude.{⊤, Option, Some, None}
 use Rattle.rhai_tree.specs.declared.position.Position.{Position}
 use Rattle.rhai_values.specs.declared.base.value.Dynamic.{Dynamic}
-use Rattle.rhai_state.specs.declared.error.EvalAltResult.{EvalAltResult, ErrorInFunctionCall', out-EvalAltResult, roll-EvalAltResult}
-use Rattle.rhai_state.specs.declared.error.EvalAltResult.{roll-out-EvalAltResult}
-use Rattle.rhai_state.specs.declared.error.EvalAltResult.TheOpen as layer
-use Rattle.rhai_state.specs.declared.error.EvalAltResult.TheVariants as error
-use Rattle.rhai_state.specs.declared.error.EvalAltResult.TheVariants.{outs-ErrorInFunctionCall, outs-ErrorRuntime, outs-Exit, outs-Return}
-use Rattle.rhai_state.specs.declared.error.EvalAltResult.TheVariants.{outs-LoopBreak, rolls-ErrorInFunctionCall, rolls-ErrorVariableExists}
-use Rattle.rhai_state.specs.declared.error.EvalAltResult.TheVariants.{rolls-ErrorVariableNotFound, rolls-ErrorModuleNotFound}
-use Rattle.rhai_state.specs.declared.error.EvalAltResult.TheVariants.{rolls-ErrorFunctionNotFound, rolls-ErrorUnboundThis}
-use Rattle.rhai_state.specs.declared.error.EvalAltResult.TheVariants.{rolls-ErrorMismatchDataType, rolls-ErrorArrayBounds}
-use Rattle.rhai_state.specs.declared.error.EvalAltResult.TheVariants.{rolls-ErrorStringBounds, rolls-ErrorBitFieldBounds}
-use Rattle.rhai_state.specs.declared.error.EvalAltResult.TheVariants.{rolls-ErrorIndexingType, rolls-ErrorPropertyNotFound, rolls-ErrorFor}
-use Rattle.rhai_state.specs.declared.error.EvalAltResult.TheVariants.{rolls-ErrorDataRace, rolls-ErrorAssignmentToConstant}
-use Rattle.rhai_state.specs.declared.error.EvalAltResult.TheVariants.{rolls-ErrorDotExpr, rolls-ErrorArithmetic}
-use Rattle.rhai_state.specs.declared.error.EvalAltResult.TheVariants.{rolls-ErrorNonPureMethodCallOnConstant, rolls-ErrorTooManyOperations}
-use Rattle.rhai_state.specs.declared.error.EvalAltResult.TheVariants.{rolls-ErrorTooManyVariables, rolls-ErrorTooManyModules}
-use Rattle.rhai_state.specs.declared.error.EvalAltResult.TheVariants.{rolls-ErrorStackOverflow, rolls-ErrorDataTooLarge}
-use Rattle.rhai_state.specs.declared.error.EvalAltResult.TheVariants.{rolls-ErrorOutOfMemory, rolls-ErrorRuntime, rolls-Exit, rolls-Return}
-use Rattle.rhai_state.specs.declared.error.EvalAltResult.TheVariants.{rolls-LoopBreak}
-use Rattle.rhai_state.specs.declared.error.EvalAltResult.TheFolds.{fold_out-EvalAltResult, fold-FunctionCallError, map-EvalAltResult}
-use Rattle.rhai_state.specs.declared.error.EvalAltResult.TheFolds.{fold-roll-EvalAltResult, fold-roll-FunctionCallError, ind-EvalAltResult}
-use Rattle.rhai_state.specs.declared.error.EvalAltResult.TheFolds.{map-FunctionCallError}
+use Rattle.rhai_errors.specs.declared.error.EvalAltResult.{EvalAltResult, ErrorInFunctionCall', out-EvalAltResult, roll-EvalAltResult}
+use Rattle.rhai_errors.specs.declared.error.EvalAltResult.{roll-out-EvalAltResult}
+use Rattle.rhai_errors.specs.declared.error.EvalAltResult.TheOpen as layer
+use Rattle.rhai_errors.specs.declared.error.EvalAltResult.TheVariants as error
+use Rattle.rhai_errors.specs.declared.error.EvalAltResult.TheVariants.{outs-ErrorInFunctionCall, outs-ErrorRuntime, outs-Exit, outs-Return}
+use Rattle.rhai_errors.specs.declared.error.EvalAltResult.TheVariants.{outs-LoopBreak, rolls-ErrorInFunctionCall, rolls-ErrorVariableExists}
+use Rattle.rhai_errors.specs.declared.error.EvalAltResult.TheVariants.{rolls-ErrorVariableNotFound, rolls-ErrorModuleNotFound}
+use Rattle.rhai_errors.specs.declared.error.EvalAltResult.TheVariants.{rolls-ErrorFunctionNotFound, rolls-ErrorUnboundThis}
+use Rattle.rhai_errors.specs.declared.error.EvalAltResult.TheVariants.{rolls-ErrorMismatchDataType, rolls-ErrorArrayBounds}
+use Rattle.rhai_errors.specs.declared.error.EvalAltResult.TheVariants.{rolls-ErrorStringBounds, rolls-ErrorBitFieldBounds}
+use Rattle.rhai_errors.specs.declared.error.EvalAltResult.TheVariants.{rolls-ErrorIndexingType, rolls-ErrorPropertyNotFound, rolls-ErrorFor}
+use Rattle.rhai_errors.specs.declared.error.EvalAltResult.TheVariants.{rolls-ErrorDataRace, rolls-ErrorAssignmentToConstant}
+use Rattle.rhai_errors.specs.declared.error.EvalAltResult.TheVariants.{rolls-ErrorDotExpr, rolls-ErrorArithmetic}
+use Rattle.rhai_errors.specs.declared.error.EvalAltResult.TheVariants.{rolls-ErrorNonPureMethodCallOnConstant, rolls-ErrorTooManyOperations}
+use Rattle.rhai_errors.specs.declared.error.EvalAltResult.TheVariants.{rolls-ErrorTooManyVariables, rolls-ErrorTooManyModules}
+use Rattle.rhai_errors.specs.declared.error.EvalAltResult.TheVariants.{rolls-ErrorStackOverflow, rolls-ErrorDataTooLarge}
+use Rattle.rhai_errors.specs.declared.error.EvalAltResult.TheVariants.{rolls-ErrorOutOfMemory, rolls-ErrorRuntime, rolls-Exit, rolls-Return}
+use Rattle.rhai_errors.specs.declared.error.EvalAltResult.TheVariants.{rolls-LoopBreak}
+use Rattle.rhai_errors.specs.declared.error.EvalAltResult.TheFolds.{fold_out-EvalAltResult, fold-FunctionCallError, map-EvalAltResult}
+use Rattle.rhai_errors.specs.declared.error.EvalAltResult.TheFolds.{fold-roll-EvalAltResult, fold-roll-FunctionCallError, ind-EvalAltResult}
+use Rattle.rhai_errors.specs.declared.error.EvalAltResult.TheFolds.{map-FunctionCallError}
 use Rattle.rhai_machine.specs.language.Caught.{thrown, thrown_by}
-use Rattle.rhai_state.specs.declared.error.EvalAltResult.TheViews.{the_lemmas}
-use Rattle.rhai_state.specs.declared.error.FunctionCallError.{FunctionCallError, roll-FunctionCallError}
-use Rattle.rhai_state.specs.Errors.{at_position}
-use Rattle.rhai_state.specs.ValueContents.{Reached, error_contents, in_error}
+use Rattle.rhai_errors.specs.declared.error.EvalAltResult.TheViews.{the_lemmas}
+use Rattle.rhai_errors.specs.declared.error.FunctionCallError.{FunctionCallError, roll-FunctionCallError}
+use Rattle.rhai_errors.specs.Errors.{at_position}
+use Rattle.rhai_values.specs.ValueContents.{Reached}
+use Rattle.rhai_errors.specs.ErrorContents.{error_contents, in_error}
 use Rattle.rhai_fits.proofs.Properties.{AllHave}
 use Rattle.rhai_fits.proofs.Values.{Fit, fit_reached, reached_is_fit}
 

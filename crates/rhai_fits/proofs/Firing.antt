@@ -5,9 +5,9 @@ use Rattle.rhai_machine.specs.Types.{Dynamic, EvalAltResult, Limits, Position, U
 use Rattle.rhai_values.specs.declared.base.value.AccessMode.{AccessMode}
 use Rattle.rhai_values.specs.declared.base.value.Union.TheVariants as value
 use Rattle.rhai_values.specs.Cells.{value_of_cell}
-use Rattle.rhai_state.specs.Errors.{at_position, position_of}
-use Rattle.rhai_state.specs.Native.{Reply, Missing, Gives as Answers, Faults}
-use Rattle.rhai_state.specs.ValueContents.{Reached}
+use Rattle.rhai_errors.specs.Errors.{at_position, position_of}
+use Rattle.rhai_errors.specs.Native.{Reply, Missing, Gives as Answers, Faults}
+use Rattle.rhai_values.specs.ValueContents.{Reached}
 use Rattle.rhai_machine.specs.language.Setting.{Setting}
 use Rattle.rhai_machine.specs.language.State.{Local}
 use Rattle.rhai_machine.specs.language.Values.{Cells}

@@ -4,9 +4,9 @@ use Rattle.std.specs.Prelude.{⊤, Option, Some, None, Result, Ok, Err, slice_ge
 use Rattle.std.specs.Option.{unwrap_or}
 use Rattle.rhai_machine.specs.Types.{Dynamic, EncapsulatedEnviron, out-EncapsulatedEnviron, EvalAltResult, Import, Module, ScopeEntry}
 use Rattle.rhai_values.specs.Cells.{IsNoHandle, value_of_cell}
-use Rattle.rhai_state.specs.Native.{HasNoHandle}
-use Rattle.rhai_state.specs.ValueContents.{Reached}
-use Rattle.rhai_places.specs.Paths.{ToPlace, ToCell}
+use Rattle.rhai_errors.specs.Native.{HasNoHandle}
+use Rattle.rhai_values.specs.ValueContents.{Reached}
+use Rattle.rhai_spots.specs.Paths.{ToPlace, ToCell}
 use Rattle.rhai_machine.specs.language.Setting.{Offer}
 use Rattle.rhai_machine.specs.language.State.{Local}
 use Rattle.rhai_machine.specs.language.Values.{Cells, unit_value}

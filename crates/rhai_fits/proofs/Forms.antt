@@ -16,8 +16,8 @@ use Rattle.rhai_values.specs.declared.base.value.AccessMode.TheVariants.{ReadWri
 use Rattle.rhai_values.specs.declared.base.value.FnPtrKind.TheOpen as union
 use Rattle.rhai_values.specs.declared.base.value.Union.TheVariants as value
 use Rattle.rhai_values.specs.Layers.{UnionLayer, layer_of}
-use Rattle.rhai_state.specs.Errors.{error_name, position_of as error_position}
-use Rattle.rhai_state.specs.ValueContents.{Reached, Cell}
+use Rattle.rhai_errors.specs.Errors.{error_name, position_of as error_position}
+use Rattle.rhai_values.specs.ValueContents.{Reached, Cell}
 use Rattle.rhai_state.specs.Scope.{found, index_of, new_entry, value_in}
 use Rattle.rhai_tree.specs.Lookup.{with_entry}
 use Rattle.rhai_machine.specs.language.Setting.{Setting}

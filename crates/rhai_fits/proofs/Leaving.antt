@@ -4,13 +4,13 @@ use Rattle.std.specs.Option.{unwrap_or}
 use Rattle.std.specs.Prelude.{Bool, true, false, Option, Some, None, Result, Ok, Err}
 use Rattle.rhai_machine.specs.Types.{Dynamic, EvalAltResult, Position}
 use Rattle.rhai_values.specs.DataSize.{data_sizes}
-use Rattle.rhai_state.specs.declared.error.EvalAltResult.TheVariants as error
-use Rattle.rhai_state.specs.Errors.{position_of}
-use Rattle.rhai_state.specs.Native.{HasNoHandle}
-use Rattle.rhai_state.specs.ValueContents.{Reached}
-use Rattle.rhai_places.specs.declared.spot.Spot.{Spot}
-use Rattle.rhai_places.specs.Parts.{with_value}
-use Rattle.rhai_places.specs.Paths.{Step, ToPlace, ToCell}
+use Rattle.rhai_errors.specs.declared.error.EvalAltResult.TheVariants as error
+use Rattle.rhai_errors.specs.Errors.{position_of}
+use Rattle.rhai_errors.specs.Native.{HasNoHandle}
+use Rattle.rhai_values.specs.ValueContents.{Reached}
+use Rattle.rhai_spots.specs.declared.spot.Spot.{Spot}
+use Rattle.rhai_spots.specs.Parts.{with_value}
+use Rattle.rhai_spots.specs.Paths.{Step, ToPlace, ToCell}
 use Rattle.rhai_machine.specs.language.Setting.{Setting}
 use Rattle.rhai_machine.specs.language.State.{Local}
 use Rattle.rhai_machine.specs.language.Values.{Cells, unit_value, through}

@@ -16,7 +16,7 @@ use Rattle.rhai_values.specs.declared.base.value.FnPtrKind.TheVariants as kind
 use Rattle.rhai_values.specs.declared.base.value.FnPtrKind.TheVariants.{outs-Name, outs-Arity, outs-Native}
 use Rattle.rhai_values.specs.declared.base.value.FnPtrKind.TheFolds.{fold_out-FnPtrKind}
 use Rattle.rhai_values.specs.Literals.{leads_to, literal_step, value_of_literal, pointer_of_literal}
-use Rattle.rhai_state.specs.ValueContents.{Reached}
+use Rattle.rhai_values.specs.ValueContents.{Reached}
 use Rattle.rhai_machine.specs.language.Expressions.{literal_of}
 use Rattle.rhai_fits.proofs.Values.{Fit, Fits, FitPointer, FitKind, fit_array, fit_map, fit_pointer, fit_unit, fit_bool, fit_int, fit_char}
 use Rattle.rhai_fits.proofs.Values.{fit_text, fit_range, fit_inclusive, fit_blob, fit_rolled}

@@ -10,7 +10,7 @@ use Rattle.rhai_values.specs.declared.base.value.FnPtrKind.{FnPtrKind, out-FnPtr
 use Rattle.rhai_values.specs.declared.base.value.FnPtrKind.TheOpen as union
 use Rattle.rhai_values.specs.declared.base.value.FnPtrKind.TheVariants as kind
 use Rattle.rhai_values.specs.Copy.{copy_of}
-use Rattle.rhai_state.specs.ValueContents.{Reached}
+use Rattle.rhai_values.specs.ValueContents.{Reached}
 use Rattle.rhai_functions.specs.Called.{function_of}
 use Rattle.rhai_functions.specs.Functions.{FunctionKey, def_of, first_given, found_in, functions_of, has_key, if_shown, in_imports}
 use Rattle.rhai_functions.specs.Functions.{in_module, in_modules, in_named, is_public, is_shown, last_given, last_of, later_of, shown_in}

@@ -11,7 +11,7 @@ use Rattle.rhai_values.specs.declared.base.value.Import.{Import, out-Import}
 use Rattle.rhai_values.specs.declared.base.value.Module.{Module, out-Module}
 use Rattle.rhai_values.specs.declared.base.value.ModuleFn.{ModuleFn, out-ModuleFn}
 use Rattle.rhai_tree.specs.declared.function.ScriptFuncDef.{ScriptFuncDef}
-use Rattle.rhai_state.specs.ValueContents.{Reached, Constants, Function, each, in_kind, in_union, maybe, contents_of}
+use Rattle.rhai_values.specs.ValueContents.{Reached, Constants, Function, each, in_kind, in_union, maybe, contents_of}
 use Rattle.rhai_machine.specs.language.Arguments.{KindLayer}
 use Rattle.rhai_fits.specs.Modules.{module_contents}
 use Rattle.rhai_fits.proofs.Properties.{AllHave, all_left, all_right}

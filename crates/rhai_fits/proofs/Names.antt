@@ -6,7 +6,7 @@ use Rattle.rhai_machine.specs.Types.{Dynamic, EvalAltResult, Module, Position, U
 use Rattle.rhai_values.specs.declared.base.value.Union.TheVariants as value
 use Rattle.rhai_values.specs.Cells.{value_of_cell}
 use Rattle.rhai_values.specs.Copy.{copy_of}
-use Rattle.rhai_state.specs.ValueContents.{Reached}
+use Rattle.rhai_values.specs.ValueContents.{Reached}
 use Rattle.rhai_state.specs.Scope.{found, index_of}
 use Rattle.rhai_functions.specs.Functions.{arity_in_modules}
 use Rattle.rhai_functions.specs.Namespaces.{constant_among}

@@ -3,9 +3,9 @@ use Rattle.std.proofs.Common.{◌≡◌, ℕ, zero, suc, List, [], ◌∷◌, su
 use Rattle.std.specs.Prelude.{⊤, Bool, flat_map, Option, Some, None}
 use Rattle.rhai_machine.specs.Types.{Dynamic, EvalAltResult}
 use Rattle.rhai_values.specs.Cells.{value_of_cell}
-use Rattle.rhai_state.specs.Native.{Request, Reply, Missing, Gives as Answers, Faults, Natives, IsReached, ByState, ByFirst, ByOthers}
-use Rattle.rhai_state.specs.Native.{ByCell, AreReached, HasNoHandle, IsAllowed, Lawful, LawfulCall, MayLeave, reply_contents}
-use Rattle.rhai_state.specs.ValueContents.{Reached, Holdings, contents_of, first_contents}
+use Rattle.rhai_errors.specs.Native.{Request, Reply, Missing, Gives as Answers, Faults, Natives, IsReached, ByState, ByFirst, ByOthers}
+use Rattle.rhai_errors.specs.Native.{ByCell, AreReached, HasNoHandle, IsAllowed, Lawful, LawfulCall, MayLeave, reply_contents}
+use Rattle.rhai_values.specs.ValueContents.{Reached, Holdings, contents_of, first_contents}
 use Rattle.rhai_machine.specs.machine.Machine.{Move, Halt, Go, Charge, Native, AskPure}
 use Rattle.rhai_machine.specs.language.Values.{Cells}
 use Rattle.rhai_machine.specs.language.Frames.{Core}

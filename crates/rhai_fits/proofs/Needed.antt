@@ -3,7 +3,7 @@ use Rattle.std.proofs.Common.{[], ◌∷◌}
 use Rattle.std.specs.Prelude.{Some, None}
 use Rattle.rhai_machine.specs.Types.{Dynamic, Position}
 use Rattle.rhai_values.specs.declared.base.value.AccessMode.TheVariants.{ReadWrite}
-use Rattle.rhai_places.specs.Paths.{ToCell}
+use Rattle.rhai_spots.specs.Paths.{ToCell}
 use Rattle.rhai_machine.specs.language.Setting.{Setting, globals_of}
 use Rattle.rhai_machine.specs.language.State.{Local, Surroundings}
 use Rattle.rhai_machine.specs.language.Values.{unit_value}

@@ -9,7 +9,7 @@ use Rattle.rhai_values.specs.declared.base.value.Dynamic.{Dynamic}
 use Rattle.rhai_values.specs.declared.base.value.Union.{Union}
 use Rattle.rhai_values.specs.declared.base.value.Union.TheVariants as value
 use Rattle.rhai_values.specs.Cells.{IsNoHandle}
-use Rattle.rhai_state.specs.ValueContents.{Reached}
+use Rattle.rhai_values.specs.ValueContents.{Reached}
 use Rattle.rhai_operators.specs.declared.integers.ArithmeticFault.{ArithmeticFault}
 use Rattle.rhai_operators.specs.Answers.{Answer, answer, unary_of, binary_of, op_assign_of}
 use Rattle.rhai_operators.specs.Compare.{comparison_of_order, comparison_of_types, type_of, differ}

@@ -1,7 +1,7 @@
 -- Lists of what may be reached, all of which has a property.
 use Rattle.std.proofs.Common.{zero, suc, List, [], ◌∷◌, ◌++◌, refl, subst, arith}
 use Rattle.std.specs.Prelude.{⊤, Contains}
-use Rattle.rhai_state.specs.ValueContents.{Reached}
+use Rattle.rhai_values.specs.ValueContents.{Reached}
 
 module _ (P : Reached → Type 0) where
   -- each of them has the property

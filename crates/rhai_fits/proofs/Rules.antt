@@ -3,9 +3,9 @@ use Rattle.std.proofs.Common.{◌+◌, ℕ, List, [], ◌∷◌, ◌++◌}
 use Rattle.std.specs.Prelude.{⊤, Bool, Some}
 use Rattle.rhai_tree.specs.Positions.{position_of}
 use Rattle.rhai_machine.specs.Types.{Dynamic, EvalAltResult, out-Expr}
-use Rattle.rhai_state.specs.Errors.{is_catchable, is_system}
-use Rattle.rhai_state.specs.ValueContents.{Reached}
-use Rattle.rhai_places.specs.PutBack.{put_back}
+use Rattle.rhai_errors.specs.Errors.{is_catchable, is_system}
+use Rattle.rhai_values.specs.ValueContents.{Reached}
+use Rattle.rhai_spots.specs.PutBack.{put_back}
 use Rattle.rhai_machine.specs.machine.Machine.{Move, Go}
 use Rattle.rhai_machine.specs.language.Setting.{Setting, globals_of}
 use Rattle.rhai_machine.specs.language.State.{Local}

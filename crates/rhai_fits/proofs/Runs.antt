@@ -2,9 +2,10 @@
 use Rattle.std.proofs.Common.{◌≡◌, ◌≤◌, ◌<◌, ◌⊎◌, inl, inr, ℕ, List, [], length, arith}
 use Rattle.std.specs.Prelude.{⊤, Bool, true, false, Option}
 use Rattle.rhai_machine.specs.Types.{Dynamic, EvalAltResult, Position}
-use Rattle.rhai_state.specs.declared.error.EvalAltResult.TheVariants as error
-use Rattle.rhai_state.specs.Native.{Request, Reply, Faults, Lawful, MayLeave}
-use Rattle.rhai_state.specs.ValueContents.{Reached, Cell, contents_of, error_contents}
+use Rattle.rhai_errors.specs.declared.error.EvalAltResult.TheVariants as error
+use Rattle.rhai_errors.specs.Native.{Request, Reply, Faults, Lawful, MayLeave}
+use Rattle.rhai_values.specs.ValueContents.{Reached, Cell, contents_of}
+use Rattle.rhai_errors.specs.ErrorContents.{error_contents}
 use Rattle.rhai_machine.specs.machine.Machine.{Move, Halt, Go, Charge, Native, AskPure}
 use Rattle.rhai_machine.specs.machine.Point.{Point, paid, moved, after}
 use Rattle.rhai_machine.specs.machine.Memory.{Leads, here, next, out_before_step, out_in_native}

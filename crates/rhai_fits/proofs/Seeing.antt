@@ -11,8 +11,8 @@ use Rattle.rhai_values.specs.Cells.{IsNoHandle, value_of_cell}
 use Rattle.rhai_values.specs.Copy.{copy_union}
 use Rattle.rhai_values.specs.DataSize.{exceeded, fault_text}
 use Rattle.rhai_values.specs.Modes.{union_with_mode}
-use Rattle.rhai_state.specs.Native.{HasNoHandle}
-use Rattle.rhai_state.specs.ValueContents.{Reached}
+use Rattle.rhai_errors.specs.Native.{HasNoHandle}
+use Rattle.rhai_values.specs.ValueContents.{Reached}
 use Rattle.rhai_state.specs.Scope.{found, index_of, revalued, value_in}
 use Rattle.rhai_machine.specs.language.State.{Local}
 use Rattle.rhai_machine.specs.language.Values.{Cells, flat_union, flat, through_union, through, used, copied, truth_union, truth_seen}

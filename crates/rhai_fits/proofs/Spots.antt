@@ -9,19 +9,19 @@ use Rattle.rhai_values.specs.Copy.{plain}
 use Rattle.rhai_values.specs.declared.base.value.FnPtrKind.TheOpen as layer
 use Rattle.rhai_values.specs.declared.base.value.Union.TheVariants as value
 use Rattle.rhai_values.specs.Layers.{UnionLayer, layer_of}
-use Rattle.rhai_state.specs.Native.{HasNoHandle}
-use Rattle.rhai_state.specs.ValueContents.{Reached}
+use Rattle.rhai_errors.specs.Native.{HasNoHandle}
+use Rattle.rhai_values.specs.ValueContents.{Reached}
 use Rattle.rhai_machine.specs.Types.{Dynamic, EvalAltResult, Union}
-use Rattle.rhai_places.specs.declared.spot.Access.{Access}
-use Rattle.rhai_places.specs.declared.spot.Refusal.{Refusal}
-use Rattle.rhai_places.specs.declared.spot.Spot.{Spot}
-use Rattle.rhai_places.specs.declared.spot.Refusal.TheVariants as refusal
-use Rattle.rhai_places.specs.declared.spot.Spot.TheVariants as spot
-use Rattle.rhai_places.specs.Found.{with_key, without_key, spot_or_error, found_by, found, through}
-use Rattle.rhai_places.specs.Indexing.{located}
-use Rattle.rhai_places.specs.Parts.{is_part, value_in, value_at, with_value_in, with_value, part_in, part_of}
-use Rattle.rhai_places.specs.PutBack.{put_in, put, put_back}
-use Rattle.rhai_places.specs.Refusals.{refused}
+use Rattle.rhai_spots.specs.declared.spot.Access.{Access}
+use Rattle.rhai_spots.specs.declared.spot.Refusal.{Refusal}
+use Rattle.rhai_spots.specs.declared.spot.Spot.{Spot}
+use Rattle.rhai_spots.specs.declared.spot.Refusal.TheVariants as refusal
+use Rattle.rhai_spots.specs.declared.spot.Spot.TheVariants as spot
+use Rattle.rhai_spots.specs.Found.{with_key, without_key, spot_or_error, found_by, found, through}
+use Rattle.rhai_spots.specs.Indexing.{located}
+use Rattle.rhai_spots.specs.Parts.{is_part, value_in, value_at, with_value_in, with_value, part_in, part_of}
+use Rattle.rhai_spots.specs.PutBack.{put_in, put, put_back}
+use Rattle.rhai_spots.specs.Refusals.{refused}
 use Rattle.rhai_machine.specs.language.Located.{taken_at}
 use Rattle.rhai_machine.specs.language.Values.{Cells, unit_value}
 use Rattle.rhai_fits.specs.Contents.{of_maybe, of_values}

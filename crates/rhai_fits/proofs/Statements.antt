@@ -16,8 +16,8 @@ use Rattle.rhai_values.specs.declared.base.value.Import.{out-roll-Import}
 use Rattle.rhai_values.specs.Copy.{copy_of}
 use Rattle.rhai_values.specs.DataSize.{data_sizes}
 use Rattle.rhai_values.specs.Modes.{with_mode}
-use Rattle.rhai_state.specs.declared.error.EvalAltResult.TheVariants as error
-use Rattle.rhai_state.specs.ValueContents.{Reached}
+use Rattle.rhai_errors.specs.declared.error.EvalAltResult.TheVariants as error
+use Rattle.rhai_values.specs.ValueContents.{Reached}
 use Rattle.rhai_state.specs.declared.scope.ScopeEntry.{ScopeEntry}
 use Rattle.rhai_state.specs.Scope.{aliased, index_of, new_entry}
 use Rattle.rhai_state.specs.State.{import_as}

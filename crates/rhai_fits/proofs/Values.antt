@@ -14,7 +14,7 @@ use Rattle.rhai_values.specs.declared.base.value.Union.TheVariants.{outs-Unit, o
 use Rattle.rhai_values.specs.declared.base.value.Union.TheVariants.{outs-ExclusiveRange, outs-InclusiveRange, outs-Array, outs-Blob}
 use Rattle.rhai_values.specs.declared.base.value.Union.TheVariants.{outs-Map, outs-FnPtr, outs-Cell}
 use Rattle.rhai_values.specs.Layers.{UnionLayer}
-use Rattle.rhai_state.specs.ValueContents.{Reached, Cell, Constants, Function, each, in_kind, in_union, maybe, contents_of}
+use Rattle.rhai_values.specs.ValueContents.{Reached, Cell, Constants, Function, each, in_kind, in_union, maybe, contents_of}
 use Rattle.rhai_fits.proofs.Properties.{AllHave, all_joined, all_left, all_right}
 
 -- ---- what values contain, by one level

@@ -7,9 +7,10 @@ use Rattle.rhai_values.specs.declared.base.value.Import.{Import, out-Import}
 use Rattle.rhai_values.specs.declared.base.value.Module.{Module}
 use Rattle.rhai_values.specs.declared.base.value.Union.TheVariants as value
 use Rattle.rhai_values.specs.Copy.{plain}
-use Rattle.rhai_state.specs.declared.error.EvalAltResult.{EvalAltResult}
+use Rattle.rhai_errors.specs.declared.error.EvalAltResult.{EvalAltResult}
 use Rattle.rhai_state.specs.declared.scope.ScopeEntry.{ScopeEntry}
-use Rattle.rhai_state.specs.ValueContents.{Reached, contents_of, error_contents}
+use Rattle.rhai_values.specs.ValueContents.{Reached, contents_of}
+use Rattle.rhai_errors.specs.ErrorContents.{error_contents}
 use Rattle.rhai_machine.specs.machine.Point.{Point}
 use Rattle.rhai_machine.specs.language.Setting.{Offer, Rules}
 use Rattle.rhai_machine.specs.language.State.{Local, Surroundings}

@@ -1,6 +1,6 @@
 -- What every run keeps of what it has, also where memory runs out.
 use Rattle.std.specs.Prelude.{◌⊎◌, ◌<◌, ◌≤◌, ℕ, [], length}
-use Rattle.rhai_state.specs.ValueContents.{Reached, Cell}
+use Rattle.rhai_values.specs.ValueContents.{Reached, Cell}
 use Rattle.rhai_machine.specs.machine.Point.{Point}
 use Rattle.rhai_machine.specs.language.Setting.{Rules, cut}
 use Rattle.rhai_machine.specs.language.Frames.{Control, Core}

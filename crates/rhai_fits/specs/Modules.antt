@@ -2,7 +2,7 @@
 use Rattle.std.specs.Prelude.{List, ◌∷◌, ◌++◌}
 use Rattle.rhai_values.specs.declared.base.value.FnPtrKind.TheFolds.{fold-Module}
 use Rattle.rhai_values.specs.declared.base.value.Module.{Module}
-use Rattle.rhai_state.specs.ValueContents.{Reached, Constants, Function, each, maybe, in_kind, in_union}
+use Rattle.rhai_values.specs.ValueContents.{Reached, Constants, Function, each, maybe, in_kind, in_union}
 
 module _ {H : Type 0} (own : H → List Reached) where
   -- what a module contains: what its constants do, its functions with their environments, and what the modules in it do

@@ -2,8 +2,8 @@
 use Rattle.std.specs.Prelude.{⊤, List, [], ◌∷◌, Option, Some, None}
 use Rattle.rhai_values.specs.declared.base.value.Dynamic.{Dynamic}
 use Rattle.rhai_values.specs.Cells.{IsNoHandle}
-use Rattle.rhai_state.specs.Native.{HasNoHandle}
-use Rattle.rhai_places.specs.Paths.{ToPlace, ToCell}
+use Rattle.rhai_errors.specs.Native.{HasNoHandle}
+use Rattle.rhai_spots.specs.Paths.{ToPlace, ToCell}
 use Rattle.rhai_machine.specs.language.Values.{Cells}
 use Rattle.rhai_machine.specs.language.Bodies.{this_back, focus_back}
 use Rattle.rhai_machine.specs.language.Frames.{Lender, FromThis, NewValue, Purpose, ToChain, Core, Control, Assign, AssignThis, Store}

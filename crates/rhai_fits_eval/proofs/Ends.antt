@@ -2,10 +2,11 @@
 use Rattle.std.proofs.Common.{◌≡◌, ◌≤◌, ◌<◌, ◌⊎◌, inl, inr, ℕ, Bool, true, false, List, [], refl, sym, subst, arith, true≢false}
 use Rattle.std.specs.Prelude.{Option, None, Result, Ok, Err}
 use Rattle.rhai_machine.specs.Types.{Dynamic, EvalAltResult}
-use Rattle.rhai_state.specs.declared.error.EvalAltResult.TheVariants as error
-use Rattle.rhai_state.specs.Errors.{is_out_of_memory}
-use Rattle.rhai_state.specs.Native.{Lawful}
-use Rattle.rhai_state.specs.ValueContents.{Reached, Cell, Function, Constants, contents_of, error_contents}
+use Rattle.rhai_errors.specs.declared.error.EvalAltResult.TheVariants as error
+use Rattle.rhai_errors.specs.Errors.{is_out_of_memory}
+use Rattle.rhai_errors.specs.Native.{Lawful}
+use Rattle.rhai_values.specs.ValueContents.{Reached, Cell, Function, Constants, contents_of}
+use Rattle.rhai_errors.specs.ErrorContents.{error_contents}
 use Rattle.rhai_machine.specs.machine.Point.{Point}
 use Rattle.rhai_machine.specs.machine.Memory.{here, Leads}
 use Rattle.rhai_machine.specs.language.Setting.{Rules, cut}

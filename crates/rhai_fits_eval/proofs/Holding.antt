@@ -19,7 +19,7 @@ use Rattle.rhai_values.specs.declared.base.value.Module.{Module, roll-Module}
 use Rattle.rhai_values.specs.declared.base.value.ModuleFn.{ModuleFn, roll-ModuleFn}
 use Rattle.rhai_values.specs.declared.base.value.Union.{Union, roll-Union}
 use Rattle.rhai_state.specs.Reached.{in_value, in_environ, in_pointer, in_import, in_module, in_function}
-use Rattle.rhai_state.specs.ValueContents.{Reached, each, in_kind, in_union, contents_of}
+use Rattle.rhai_values.specs.ValueContents.{Reached, each, in_kind, in_union, contents_of}
 use Rattle.rhai_fits.specs.Modules.{module_contents}
 use Rattle.rhai_fits.proofs.Properties.{AllHave, all_joined, all_left, all_right}
 use Rattle.rhai_fits.proofs.Values.{reached_value}

@@ -10,17 +10,17 @@ use Rattle.rhai_values.specs.Layers.{layer_of}
 use Rattle.rhai_state.specs.declared.limits.Limits.{Limits}
 use Rattle.rhai_state.specs.declared.scope.Scope.{Scope}
 use Rattle.rhai_state.specs.declared.state.GlobalRuntimeState.{GlobalRuntimeState}
-use Rattle.rhai_state.specs.Errors.{is_out_of_memory}
-use Rattle.rhai_state.specs.Native.{Effect, Natives, Request, Reply, Missing, Gives as Answers, Faults, ByFirst, ByState, Lawful}
-use Rattle.rhai_state.specs.ValueContents.{Reached, Cell}
-use Rattle.rhai_places.specs.declared.spot.Access.{Access}
-use Rattle.rhai_places.specs.declared.spot.Spot.{Spot}
-use Rattle.rhai_places.specs.declared.spot.Spot.TheVariants as spot
-use Rattle.rhai_places.specs.declared.target.Part.{Part}
+use Rattle.rhai_errors.specs.Errors.{is_out_of_memory}
+use Rattle.rhai_errors.specs.Native.{Effect, Natives, Request, Reply, Missing, Gives as Answers, Faults, ByFirst, ByState, Lawful}
+use Rattle.rhai_values.specs.ValueContents.{Reached, Cell}
+use Rattle.rhai_spots.specs.declared.spot.Access.{Access}
+use Rattle.rhai_spots.specs.declared.spot.Spot.{Spot}
+use Rattle.rhai_spots.specs.declared.spot.Spot.TheVariants as spot
+use Rattle.rhai_spots.specs.declared.part.Part.{Part}
 use Rattle.rhai_places.specs.declared.target.Target.{Target}
-use Rattle.rhai_places.specs.Found.{found, IsFound, IsMissed}
-use Rattle.rhai_places.specs.Refusals.{IsTold}
-use Rattle.rhai_places.specs.Targets.{part_at, place_at, shown}
+use Rattle.rhai_spots.specs.Found.{found, IsFound, IsMissed}
+use Rattle.rhai_spots.specs.Refusals.{IsTold}
+use Rattle.rhai_spots.specs.Targets.{part_at, place_at, shown}
 use Rattle.rhai_machine.specs.Types.{Dynamic, EvalAltResult}
 use Rattle.rhai_machine.specs.language.Setting.{Rules}
 use Rattle.rhai_machine.specs.language.State.{Held, State, HasMemory}

@@ -3,7 +3,7 @@ use Rattle.std.proofs.Common.{◌≡◌, ℕ, Bool, true, false, List, [], ◌�
 use Rattle.std.specs.Prelude.{Option, Some, None, Result}
 use Rattle.std.specs.Option.{option_map}
 use Rattle.rhai_machine.specs.Types.{Dynamic, EvalAltResult}
-use Rattle.rhai_state.specs.Native.{Lawful}
+use Rattle.rhai_errors.specs.Native.{Lawful}
 use Rattle.rhai_machine.specs.language.Setting.{Rules}
 use Rattle.rhai_machine.specs.language.State.{State}
 use Rattle.rhai_machine.specs.language.Calls.{dispatch_core}

@@ -3,8 +3,8 @@ use Rattle.std.proofs.Common.{◌≡◌, ℕ, zero, suc, Bool, true, false, List
 use Rattle.std.specs.Prelude.{Some, None, Result}
 use Rattle.rhai_tree.specs.declared.position.Position.{Position}
 use Rattle.rhai_machine.specs.Types.{Dynamic, EvalAltResult}
-use Rattle.rhai_state.specs.Native.{Lawful}
-use Rattle.rhai_state.specs.ValueContents.{Reached}
+use Rattle.rhai_errors.specs.Native.{Lawful}
+use Rattle.rhai_values.specs.ValueContents.{Reached}
 use Rattle.rhai_machine.specs.language.Setting.{Rules}
 use Rattle.rhai_machine.specs.language.State.{State}
 use Rattle.rhai_machine.specs.language.Calls.{dispatch_core}

@@ -4,11 +4,11 @@ use Rattle.std.specs.Prelude.{Some, Result}
 use Rattle.rhai_tree.specs.declared.position.Position.{Position}
 use Rattle.rhai_machine.specs.Types.{Dynamic, EvalAltResult, Expr}
 use Rattle.rhai_values.specs.Cells.{IsNoHandle}
-use Rattle.rhai_state.specs.Native.{Lawful}
-use Rattle.rhai_state.specs.ValueContents.{Reached}
-use Rattle.rhai_places.specs.declared.target.Part.{Part}
-use Rattle.rhai_places.specs.declared.target.Part.TheVariants as part
-use Rattle.rhai_places.specs.Targets.{shown}
+use Rattle.rhai_errors.specs.Native.{Lawful}
+use Rattle.rhai_values.specs.ValueContents.{Reached}
+use Rattle.rhai_spots.specs.declared.part.Part.{Part}
+use Rattle.rhai_spots.specs.declared.part.Part.TheVariants as part
+use Rattle.rhai_spots.specs.Targets.{shown}
 use Rattle.rhai_machine.specs.language.Setting.{Setting, Rules}
 use Rattle.rhai_machine.specs.language.State.{Local, State}
 use Rattle.rhai_machine.specs.language.Frames.{NewValue, Frame, MemberSet, PartMethod}

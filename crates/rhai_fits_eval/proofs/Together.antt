@@ -12,7 +12,7 @@ use Rattle.rhai_state.specs.Fitting.{FitsTogether, IsFree}
 use Rattle.rhai_state.specs.Reached.{nothing, value_holds, import_holds, module_holds, entry_holds, table_holds, cell_holds}
 use Rattle.rhai_state.specs.Reached.{reached_from, Reaches}
 use Rattle.rhai_state.specs.Scope.{entries_of}
-use Rattle.rhai_state.specs.ValueContents.{Reached, Cell, Function, Constants, contents_of}
+use Rattle.rhai_values.specs.ValueContents.{Reached, Cell, Function, Constants, contents_of}
 use Rattle.rhai_machine.specs.language.Setting.{Rules}
 use Rattle.rhai_machine.specs.language.State.{State}
 use Rattle.rhai_machine.specs.language.Values.{Cells, unit_value}

@@ -1,11 +1,11 @@
 -- What a caller has in hand before a call and behind it, and what the call keeps of that.
 use Rattle.std.specs.Prelude.{◌⊎◌, ◌≤◌, ◌<◌, ⊤, ℕ, Bool, Option, Result, Ok, Err, Contains, length}
 use Rattle.rhai_values.specs.declared.base.value.Dynamic.{Dynamic}
-use Rattle.rhai_state.specs.declared.error.EvalAltResult.{EvalAltResult}
-use Rattle.rhai_state.specs.ValueContents.{Reached, Cell, Function, Constants}
-use Rattle.rhai_places.specs.declared.target.Part.{Part}
+use Rattle.rhai_errors.specs.declared.error.EvalAltResult.{EvalAltResult}
+use Rattle.rhai_values.specs.ValueContents.{Reached, Cell, Function, Constants}
+use Rattle.rhai_spots.specs.declared.part.Part.{Part}
 use Rattle.rhai_places.specs.declared.target.Target.{Target}
-use Rattle.rhai_places.specs.Targets.{shown}
+use Rattle.rhai_spots.specs.Targets.{shown}
 use Rattle.rhai_machine.specs.language.Setting.{Rules}
 use Rattle.rhai_machine.specs.language.State.{State}
 use Rattle.rhai_fits.specs.Contents.{Contents, Nothing, OneValue, OneError, Both, of_maybe, of_scope, of_cells, of_around, of_offer, Has}

@@ -6,7 +6,7 @@ use Rattle.rhai_state.specs.declared.scope.Scope.{Scope}
 use Rattle.rhai_state.specs.declared.state.GlobalRuntimeState.{GlobalRuntimeState}
 use Rattle.rhai_state.specs.Fitting.{FitsTogether}
 use Rattle.rhai_state.specs.Reached.{nothing}
-use Rattle.rhai_state.specs.ValueContents.{Reached}
+use Rattle.rhai_values.specs.ValueContents.{Reached}
 use Rattle.rhai_machine.specs.language.Setting.{Rules}
 use Rattle.rhai_fits.specs.Contents.{Contents, Both, of_maybe, of_offer, Has}
 use Rattle.rhai_fits.specs.Sealed.{AreSealed}

@@ -2,7 +2,7 @@
 
 ghost use Rattle.std.specs.Prelude.{◌≡◌, ◌∷◌, ◌||◌, IfSome, Some, false, true};
 ghost use Rattle.rhai_values.specs.Cells.{cells_of, IsNoHandle};
-ghost use Rattle.rhai_places.specs.Targets.{shown};
+ghost use Rattle.rhai_spots.specs.Targets.{shown};
 ghost use Rattle.rhai_machine.specs.language.State.{HasMemory};
 ghost use Rattle.rhai_fits.specs.Contents.{Both, OneError, OneValue, of_result, of_values};
 ghost use Rattle.rhai_fits.specs.Sealed.{AreSealed};
@@ -12,16 +12,16 @@ ghost use Rattle.rhai_steps.specs.States.{holding, state_of};
 ghost use Rattle.rhai_eval.specs.States.{under};
 ghost use Rattle.rhai_fits_eval.specs.InHand.{FitsAgain, of_done, of_lent, of_changed, of_target};
 
+use rhai_errors::error::EvalAltResult;
+use rhai_errors::table::NativeTable;
 use rhai_eval::engine::Engine;
 use rhai_index::indexing;
-use rhai_places::spot::Access;
 use rhai_places::target::Target;
+use rhai_spots::spot::Access;
 use rhai_state::caches::Caches;
-use rhai_state::error::EvalAltResult;
 use rhai_state::scope::Scope;
 use rhai_state::session::Session;
 use rhai_state::state::GlobalRuntimeState;
-use rhai_state::table::NativeTable;
 use rhai_tree::expr::{Expr, OpAssignment};
 use rhai_tree::position::Position;
 use rhai_tree::token::Token;

@@ -6,11 +6,11 @@ ghost use Rattle.rhai_eval.specs.States.{under};
 ghost use Rattle.rhai_fits_eval.specs.Together.{AreOthersThere};
 
 use crate::scripts;
+use rhai_errors::table::NativeTable;
 use rhai_eval::engine::Engine;
 use rhai_state::caches::Caches;
 use rhai_state::scope::Scope;
 use rhai_state::state::GlobalRuntimeState;
-use rhai_state::table::NativeTable;
 use rhai_tree::checked::CheckedTree;
 use rhai_values::base::value::Host;
 use std::alloc::Global;

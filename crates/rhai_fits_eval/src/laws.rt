@@ -7,8 +7,8 @@ ghost use Rattle.rhai_fits_eval.specs.Laws.{ArgumentsFit, CallsFit, LentCallsFit
 ghost use Rattle.rhai_fits_eval.specs.Laws.{ValueCallsFit};
 ghost use Rattle.rhai_fits_eval.specs.Together.{FitsIsSealed, FitsTogetherAgain};
 
+use rhai_errors::table::NativeTable;
 use rhai_state::limits::Limits;
-use rhai_state::table::NativeTable;
 use rhai_values::base::value::Host;
 use std::marker::PhantomData;
 

@@ -11,8 +11,8 @@ use Rattle.rhai_values.specs.declared.base.value.Import.{Import}
 use Rattle.rhai_values.specs.declared.base.value.Module.{Module}
 use Rattle.rhai_values.specs.Copy.{copy_of}
 use Rattle.rhai_values.specs.Modes.{with_mode}
-use Rattle.rhai_state.specs.declared.error.EvalAltResult.{EvalAltResult}
-use Rattle.rhai_state.specs.declared.error.EvalAltResult.TheVariants as error
+use Rattle.rhai_errors.specs.declared.error.EvalAltResult.{EvalAltResult}
+use Rattle.rhai_errors.specs.declared.error.EvalAltResult.TheVariants as error
 use Rattle.rhai_functions.specs.Namespaces.{constant_in, down, root_in}
 
 -- names behind a text, each after `::`

@@ -3,13 +3,13 @@
 ghost use Rattle.std.specs.Prelude.{◌≡◌, IfOk, length};
 ghost use Rattle.rhai_values.specs.Cells.{IsNoHandle};
 
+use rhai_errors::error::EvalAltResult;
 use rhai_eval_base::base::{CellId, Dynamic, Items, Scope, Union};
 use rhai_eval_base::cells::CellStore;
 use rhai_eval_base::check::CheckedFn;
 use rhai_eval_base::state::{Caches, GlobalRuntimeState};
 use rhai_natives::Natives;
 use rhai_rows::maker::Maker;
-use rhai_state::error::EvalAltResult;
 use rhai_tables::host::Pair;
 use rhai_tables::tables::counting::Counting;
 use std::alloc::{AllocError, Global};

@@ -2,13 +2,13 @@
 use Rattle.std.proofs.Common.{◌≡◌, ◌≤◌, ◌<◌, ◌+◌, inl, inr, ℕ, List, Bool, true, false, Result, refl, sym, ap, ◌∙◌, arith}
 use Rattle.std.proofs.lemmas.Bool.{cases_lt}
 use Rattle.std.proofs.Math.Nat.{eq-or-lt_of_le}
-use Rattle.rhai_state.specs.declared.error.EvalAltResult.{EvalAltResult}
+use Rattle.rhai_errors.specs.declared.error.EvalAltResult.{EvalAltResult}
 use Rattle.rhai_values.specs.declared.base.value.Dynamic.{Dynamic}
 use Rattle.rhai_state.specs.declared.limits.Limits.{Limits}
 use Rattle.rhai_state.specs.declared.state.GlobalRuntimeState.{GlobalRuntimeState}
 use Rattle.rhai_values.specs.Layers.{layer_of}
-use Rattle.rhai_state.specs.Native.{Natives}
-use Rattle.rhai_places.specs.declared.spot.Access.{Access}
+use Rattle.rhai_errors.specs.Native.{Natives}
+use Rattle.rhai_spots.specs.declared.spot.Access.{Access}
 use Rattle.rhai_places.specs.declared.target.Target.{Target}
 use Rattle.rhai_index.specs.Indexers.{asks_indexer}
 use Rattle.rhai_index.specs.Indexes.{Indexes}

@@ -4,7 +4,7 @@ use Rattle.std.specs.Prelude.{ℕ, List, Option, Some}
 use Rattle.rhai_tree.specs.declared.position.Position.{Position}
 use Rattle.rhai_values.specs.declared.base.value.Dynamic.{Dynamic}
 use Rattle.rhai_values.specs.Cells.{IsNoHandle}
-use Rattle.rhai_state.specs.Native.{ByFirst, ByState, MayLeave, Natives}
+use Rattle.rhai_errors.specs.Native.{ByFirst, ByState, MayLeave, Natives}
 use Rattle.rhai_index.specs.Indexers.{indexer_request}
 
 pub may_stay : {S H : Type 0} (host : H → List ℕ) (natives : Natives S H) (t : S) (cells : List (Option (Dynamic H))) (name : List ℕ)

@@ -1,7 +1,7 @@
 -- What a call of an indexer does, as one record. The focus is `object`.
 use Rattle.std.specs.Prelude.{◌≡◌, ℕ, Bool, List, Option, Some, Result}
 use Rattle.rhai_index.specs.Types.{Dynamic, EvalAltResult, Limits}
-use Rattle.rhai_state.specs.Native.{Effect, Natives, Reply}
+use Rattle.rhai_errors.specs.Native.{Effect, Natives, Reply}
 use Rattle.rhai_machine.specs.language.State.{Answers, HasMemory}
 use Rattle.rhai_index.specs.Indexers.{IndexerCall, effect_of, indexer_result, is_pure_for}
 

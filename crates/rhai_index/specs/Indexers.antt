@@ -3,13 +3,13 @@ use Rattle.std.specs.Prelude.{ℕ, ◌+◌, nat_lt, Bool, true, false, not, ◌&
 use Rattle.rhai_tree.specs.declared.position.Position.{Position}
 use Rattle.rhai_tree.specs.Position.{none}
 use Rattle.rhai_index.specs.Types.{Dynamic, EvalAltResult, GlobalRuntimeState, Limits, Part}
-use Rattle.rhai_state.specs.declared.error.EvalAltResult.TheVariants as error
+use Rattle.rhai_errors.specs.declared.error.EvalAltResult.TheVariants as error
 use Rattle.rhai_values.specs.declared.base.value.FnPtrKind.TheOpen as layer
 use Rattle.rhai_values.specs.Layers.{UnionLayer}
-use Rattle.rhai_state.specs.Native.{Request, Reply, Missing, Gives, Faults, Effect, Natives, Named, OfName, effect, request}
+use Rattle.rhai_errors.specs.Native.{Request, Reply, Missing, Gives, Faults, Effect, Natives, Named, OfName, effect, request}
 use Rattle.rhai_values.specs.TypeNames.{type_name_of}
-use Rattle.rhai_places.specs.declared.target.Part.TheVariants as part
-use Rattle.rhai_state.specs.Errors.{indexing_text}
+use Rattle.rhai_spots.specs.declared.part.Part.TheVariants as part
+use Rattle.rhai_errors.specs.Errors.{indexing_text}
 use Rattle.rhai_machine.specs.language.Calls.{with_position, sized}
 use Rattle.rhai_machine.specs.language.Places.{is_barred as barred}
 

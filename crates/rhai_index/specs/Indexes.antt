@@ -2,14 +2,14 @@
 use Rattle.std.specs.Prelude.{◌≡◌, ◌<◌, ◌≤◌, ◌+◌, ℕ, Bool, true, false, List, Some, Result, Ok, Err, IfOk, IfErr, MatchResult}
 use Rattle.rhai_tree.specs.Position.{none}
 use Rattle.rhai_index.specs.Types.{Dynamic, EvalAltResult, GlobalRuntimeState, Limits, Part, Spot, Target}
-use Rattle.rhai_state.specs.declared.error.EvalAltResult.TheVariants as error
+use Rattle.rhai_errors.specs.declared.error.EvalAltResult.TheVariants as error
 use Rattle.rhai_values.specs.Cells.{cells_of}
-use Rattle.rhai_state.specs.Errors.{is_out_of_memory}
+use Rattle.rhai_errors.specs.Errors.{is_out_of_memory}
 use Rattle.rhai_values.specs.Layers.{layer_of}
-use Rattle.rhai_state.specs.Native.{AreReached, Effect, Natives}
-use Rattle.rhai_places.specs.declared.spot.Access.{Access}
-use Rattle.rhai_places.specs.Found.{found as found_by, takes_memory, through, IsFound, IsMissed}
-use Rattle.rhai_places.specs.Targets.{IsFit}
+use Rattle.rhai_errors.specs.Native.{AreReached, Effect, Natives}
+use Rattle.rhai_spots.specs.declared.spot.Access.{Access}
+use Rattle.rhai_spots.specs.Found.{found as found_by, takes_memory, through, IsFound, IsMissed}
+use Rattle.rhai_spots.specs.Targets.{IsFit}
 use Rattle.rhai_machine.specs.language.State.{HasMemory}
 use Rattle.rhai_index.specs.Indexers.{IndexerCall, as_temporary, asks_indexer, effect_of, outcome_of, read_call, request_of}
 

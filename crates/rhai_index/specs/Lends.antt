@@ -3,10 +3,10 @@ use Rattle.std.specs.Prelude.{◌≡◌, Bool, true, false, Option, Some, Result
 use Rattle.std.specs.Borrow.{follows_so, MutBor, RattleType, Fml}
 use Rattle.rhai_values.specs.contracts.base.value.Dynamic as dynamic
 use Rattle.rhai_values.specs.Cells.{IsNoHandle}
-use Rattle.rhai_state.specs.Native.{AreReached, Natives, Request}
-use Rattle.rhai_state.specs.ValueContents.{contents_of}
+use Rattle.rhai_errors.specs.Native.{AreReached, Natives, Request}
+use Rattle.rhai_values.specs.ValueContents.{contents_of}
 use Rattle.rhai_index.specs.Types.{Dynamic, EvalAltResult, Spot, Target}
-use Rattle.rhai_places.specs.Found.{EndsBy}
+use Rattle.rhai_spots.specs.Found.{EndsBy}
 use Rattle.rhai_places.specs.Lends.{result_name}
 use Rattle.rhai_machine.specs.language.State.{HasMemory}
 

@@ -19,19 +19,19 @@ use Rattle.rhai_values.specs.declared.base.value.Union.TheVariants.{outs-Cell, o
 use Rattle.rhai_values.specs.declared.base.value.FnPtrKind.TheOpen as union
 use Rattle.rhai_values.specs.Copy.{plain}
 use Rattle.rhai_values.specs.Layers.{UnionLayer, layer_of}
-use Rattle.rhai_state.specs.declared.error.EvalAltResult.{EvalAltResult}
+use Rattle.rhai_errors.specs.declared.error.EvalAltResult.{EvalAltResult}
 use Rattle.rhai_state.specs.declared.scope.Scope.{Scope}
 use Rattle.rhai_state.specs.declared.state.GlobalRuntimeState.{GlobalRuntimeState}
 use Rattle.rhai_state.specs.Scope.{entries_of, revalued, value_in}
-use Rattle.rhai_state.specs.Errors.{root_name}
-use Rattle.rhai_places.specs.declared.spot.Spot.{Spot}
-use Rattle.rhai_places.specs.declared.spot.Spot.TheVariants as spot
-use Rattle.rhai_places.specs.declared.spot.Refusal.{Refusal}
-use Rattle.rhai_places.specs.declared.spot.Refusal.TheVariants as refusal
-use Rattle.rhai_places.specs.Indexing.{bounds, index_in, located}
-use Rattle.rhai_places.specs.Found.{found_by, spot_or_error, through_layer}
-use Rattle.rhai_places.specs.Parts.{value_at, with_value}
-use Rattle.rhai_places.specs.Paths.{ToPlace}
+use Rattle.rhai_errors.specs.Errors.{root_name}
+use Rattle.rhai_spots.specs.declared.spot.Spot.{Spot}
+use Rattle.rhai_spots.specs.declared.spot.Spot.TheVariants as spot
+use Rattle.rhai_spots.specs.declared.spot.Refusal.{Refusal}
+use Rattle.rhai_spots.specs.declared.spot.Refusal.TheVariants as refusal
+use Rattle.rhai_spots.specs.Indexing.{bounds, index_in, located}
+use Rattle.rhai_spots.specs.Found.{found_by, spot_or_error, through_layer}
+use Rattle.rhai_spots.specs.Parts.{value_at, with_value}
+use Rattle.rhai_spots.specs.Paths.{ToPlace}
 use Rattle.rhai_operators.specs.Answers.{Answer, op_assign_of}
 use Rattle.rhai_machine.specs.machine.Machine.{Charge, Go}
 use Rattle.rhai_machine.specs.machine.Memory.{here, next, ◌⨾◌, Leads}

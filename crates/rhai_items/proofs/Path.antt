@@ -18,13 +18,13 @@ use Rattle.rhai_values.specs.declared.base.value.Union.TheVariants as value
 use Rattle.rhai_values.specs.declared.base.value.FnPtrKind.TheOpen as union
 use Rattle.rhai_values.specs.Copy.{copy_of, plain}
 use Rattle.rhai_values.specs.Layers.{UnionLayer, layer_of}
-use Rattle.rhai_state.specs.declared.error.EvalAltResult.{EvalAltResult}
+use Rattle.rhai_errors.specs.declared.error.EvalAltResult.{EvalAltResult}
 use Rattle.rhai_state.specs.declared.scope.Scope.{Scope}
 use Rattle.rhai_state.specs.declared.state.GlobalRuntimeState.{GlobalRuntimeState}
 use Rattle.rhai_state.specs.Scope.{entries_of, name_of, revalued, value_in}
-use Rattle.rhai_places.specs.declared.spot.Spot.TheVariants as spot
-use Rattle.rhai_places.specs.Indexing.{index_in}
-use Rattle.rhai_places.specs.Parts.{value_at, with_value}
+use Rattle.rhai_spots.specs.declared.spot.Spot.TheVariants as spot
+use Rattle.rhai_spots.specs.Indexing.{index_in}
+use Rattle.rhai_spots.specs.Parts.{value_at, with_value}
 use Rattle.rhai_operators.specs.Answers.{answer, op_assign_of}
 use Rattle.rhai_operators.specs.Direct.{integer_given, integer_in}
 use Rattle.rhai_operators.specs.Operators.{Outcome, op_assign_at}

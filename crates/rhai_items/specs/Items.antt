@@ -6,7 +6,7 @@ use Rattle.rhai_tree.specs.Layers.{ExprLayer}
 use Rattle.rhai_values.specs.declared.base.value.Dynamic.{Dynamic}
 use Rattle.rhai_values.specs.declared.base.value.FnPtrKind.TheOpen as union
 use Rattle.rhai_values.specs.Layers.{UnionLayer}
-use Rattle.rhai_places.specs.Indexing.{index_in}
+use Rattle.rhai_spots.specs.Indexing.{index_in}
 use Rattle.rhai_assign_stmt.specs.InPlace.{writable_in}
 
 -- an index that is a literal integer or a variable

@@ -11,11 +11,11 @@ use Rattle.rhai_values.specs.declared.base.value.FnPtrKind.TheOpen as layer
 use Rattle.rhai_values.specs.Cells.{IsNoHandle}
 use Rattle.rhai_values.specs.Layers.{UnionLayer, layer_of}
 use Rattle.rhai_values.specs.Modes.{with_mode}
-use Rattle.rhai_state.specs.declared.error.EvalAltResult.TheVariants as error
-use Rattle.rhai_state.specs.Errors.{root_name}
-use Rattle.rhai_places.specs.declared.spot.Spot.{Spot}
-use Rattle.rhai_places.specs.Parts.{value_at, with_value}
-use Rattle.rhai_places.specs.Paths.{ToPlace}
+use Rattle.rhai_errors.specs.declared.error.EvalAltResult.TheVariants as error
+use Rattle.rhai_errors.specs.Errors.{root_name}
+use Rattle.rhai_spots.specs.declared.spot.Spot.{Spot}
+use Rattle.rhai_spots.specs.Parts.{value_at, with_value}
+use Rattle.rhai_spots.specs.Paths.{ToPlace}
 use Rattle.rhai_machine.specs.Types.{Dynamic, EvalAltResult, Expr, out-Expr, Position}
 use Rattle.rhai_machine.specs.machine.Machine.{Move, Go, Charge}
 use Rattle.rhai_machine.specs.machine.Point.{Point, Reaches, here, next, ◌⨾◌, moved, after, paid}

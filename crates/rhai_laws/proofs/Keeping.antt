@@ -17,8 +17,8 @@ use Rattle.rhai_values.specs.declared.base.value.EncapsulatedEnviron.{Encapsulat
 use Rattle.rhai_values.specs.declared.base.value.Import.{Import}
 use Rattle.rhai_values.specs.Cells.{value_of_cell, with_held, with_value}
 use Rattle.rhai_values.specs.Copy.{copy_of}
-use Rattle.rhai_places.specs.Paths.{Step, ToPlace, ToCell}
-use Rattle.rhai_state.specs.declared.error.EvalAltResult.{EvalAltResult}
+use Rattle.rhai_spots.specs.Paths.{Step, ToPlace, ToCell}
+use Rattle.rhai_errors.specs.declared.error.EvalAltResult.{EvalAltResult}
 use Rattle.rhai_state.specs.declared.scope.ScopeEntry.{ScopeEntry}
 use Rattle.rhai_state.specs.Scope.{name_of}
 use Rattle.rhai_machine.specs.language.State.{Surroundings, Local}

@@ -16,7 +16,7 @@ use Rattle.rhai_values.specs.declared.base.value.FnPtr.{FnPtr, out-FnPtr}
 use Rattle.rhai_values.specs.declared.base.value.FnPtrKind.{FnPtrKind}
 use Rattle.rhai_values.specs.declared.base.value.FnPtrKind.TheVariants as kind
 use Rattle.rhai_values.specs.Cells.{value_of_cell}
-use Rattle.rhai_state.specs.declared.error.EvalAltResult.{EvalAltResult}
+use Rattle.rhai_errors.specs.declared.error.EvalAltResult.{EvalAltResult}
 use Rattle.rhai_machine.specs.language.Setting.{Setting, globals_of}
 use Rattle.rhai_machine.specs.language.State.{Local}
 use Rattle.rhai_machine.specs.language.Places.{Place, InCell, is_barred}
@@ -25,7 +25,7 @@ use Rattle.rhai_machine.specs.language.Variables.{Path, Variable, path_of, varia
 use Rattle.rhai_machine.specs.language.Names.{bound_this}
 use Rattle.rhai_machine.specs.language.Frames.{Operation, Lender, FromEntry, FromThis, FromFocus, Dispatch, Call, Frame, Core, core}
 use Rattle.rhai_machine.specs.language.Frames.{changed, on_value, CallNamed, Question, Fire, OpenExpr}
-use Rattle.rhai_state.specs.Native.{Reply, Missing, Gives, Faults}
+use Rattle.rhai_errors.specs.Native.{Reply, Missing, Gives, Faults}
 use Rattle.rhai_machine.specs.language.Frames.{Purpose, ToCall, ToCallOn, ToCallOnThis, ToCallNumber, ToCallFunction, ToCurry, ToChain}
 use Rattle.rhai_machine.specs.language.Frames.{Keyword, CallPointer, MakePointer, Curry, IsShared, IsDefinedVariable}
 use Rattle.rhai_machine.specs.language.Expressions.{call_move}

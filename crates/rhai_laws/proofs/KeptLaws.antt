@@ -4,8 +4,8 @@ use Rattle.std.proofs.lemmas.List.{append-nil, length-append, length-drop, lengt
 use Rattle.std.specs.Prelude.{◌≡◌, ◌≤◌, ◌+◌, Bool, ℕ, zero, ⊤, length, map, take, drop, true, false, List, [], ◌∷◌, ◌++◌}
 use Rattle.rhai_tree.specs.Names.{Name, Begins}
 use Rattle.rhai_tree.specs.declared.expr.Stmt.{Stmt, out-Stmt}
-use Rattle.rhai_state.specs.declared.error.EvalAltResult.{EvalAltResult}
-use Rattle.rhai_state.specs.declared.error.EvalAltResult.TheVariants as error
+use Rattle.rhai_errors.specs.declared.error.EvalAltResult.{EvalAltResult}
+use Rattle.rhai_errors.specs.declared.error.EvalAltResult.TheVariants as error
 use Rattle.rhai_machine.specs.machine.Machine.{Move, Halt, Go, Charge, Native, AskPure}
 use Rattle.rhai_machine.specs.language.Setting.{Rules, cut, limit_under}
 use Rattle.rhai_machine.specs.language.State.{Local, State, Surroundings}

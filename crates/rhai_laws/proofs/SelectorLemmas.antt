@@ -13,14 +13,14 @@ use Rattle.rhai_values.specs.declared.base.value.FnPtrKind.TheOpen as layer
 use Rattle.rhai_values.specs.Cells.{IsNoHandle}
 use Rattle.rhai_values.specs.Copy.{plain}
 use Rattle.rhai_values.specs.Layers.{UnionLayer, layer_of}
-use Rattle.rhai_places.specs.declared.spot.Access.{Access}
-use Rattle.rhai_places.specs.declared.spot.Refusal.{Refusal}
-use Rattle.rhai_places.specs.declared.spot.Refusal.TheVariants as refusal
-use Rattle.rhai_places.specs.declared.spot.Spot.{Spot}
-use Rattle.rhai_places.specs.declared.spot.Spot.TheVariants as spot
-use Rattle.rhai_places.specs.Found.{found, found_by, spot_or_error, through_layer, with_key, without_key}
-use Rattle.rhai_places.specs.Indexing.{bounds, index_in, key_spot, located}
-use Rattle.rhai_places.specs.Parts.{value_at, value_in, with_value, with_value_in}
+use Rattle.rhai_spots.specs.declared.spot.Access.{Access}
+use Rattle.rhai_spots.specs.declared.spot.Refusal.{Refusal}
+use Rattle.rhai_spots.specs.declared.spot.Refusal.TheVariants as refusal
+use Rattle.rhai_spots.specs.declared.spot.Spot.{Spot}
+use Rattle.rhai_spots.specs.declared.spot.Spot.TheVariants as spot
+use Rattle.rhai_spots.specs.Found.{found, found_by, spot_or_error, through_layer, with_key, without_key}
+use Rattle.rhai_spots.specs.Indexing.{bounds, index_in, key_spot, located}
+use Rattle.rhai_spots.specs.Parts.{value_at, value_in, with_value, with_value_in}
 use Rattle.rhai_machine.specs.language.Located.{is_map, is_place_spot, is_unit}
 use Rattle.rhai_machine.specs.language.Values.{Cells, is_handle, unit_value}
 use Rattle.rhai_laws.specs.Assigned.{meant, IsUnshared}

@@ -11,7 +11,7 @@ use Rattle.rhai_values.specs.Cells.{IsNoHandle}
 use Rattle.rhai_values.specs.Layers.{UnionLayer, layer_of}
 use Rattle.rhai_values.specs.Modes.{with_mode}
 use Rattle.rhai_state.specs.Scope.{found, index_of, value_in}
-use Rattle.rhai_places.specs.Indexing.{index_in}
+use Rattle.rhai_spots.specs.Indexing.{index_in}
 use Rattle.rhai_machine.specs.machine.Point.{Point, Reaches}
 use Rattle.rhai_machine.specs.language.Variables.{Variable}
 use Rattle.rhai_machine.specs.language.Names.{entry_named}

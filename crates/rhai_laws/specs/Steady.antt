@@ -2,7 +2,7 @@
 use Rattle.std.specs.Prelude.{⊤, Bool, Option}
 use Rattle.rhai_tree.specs.declared.position.Position.{Position}
 use Rattle.rhai_values.specs.declared.base.value.Dynamic.{Dynamic}
-use Rattle.rhai_state.specs.Native.{Reply}
+use Rattle.rhai_errors.specs.Native.{Reply}
 use Rattle.rhai_machine.specs.machine.Machine.{Move, Halt, Go, Charge, Native, AskPure, Machine}
 
 module _ {H Core : Type 0} (R : Core → Core → Type 0) where

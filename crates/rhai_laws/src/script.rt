@@ -6,7 +6,7 @@ ghost use Rattle.rhai_laws.specs.Laws.{GoesWithMemory, GoesUpToMemory, OutOfMemo
 ghost use Rattle.rhai_laws.specs.Laws.{StepsGrow, StepsKeep, NamesStay, NamesBegin, VariablesStay};
 ghost use Rattle.rhai_laws.specs.Assigned.{AssignsAtPath, AssignsFromRoot};
 
-use rhai_state::table::NativeTable;
+use rhai_errors::table::NativeTable;
 use rhai_values::base::value::Host;
 use std::marker::PhantomData;
 

@@ -4,8 +4,8 @@ use Rattle.std.proofs.lemmas.Bool.Decides.{nat_tests}
 use Rattle.std.specs.Prelude.{◌≡◌, ◌≤◌, ◌+◌, nat_lt, length, Bool, true, false, List, [], ◌∷◌, ◌++◌, Some}
 use Rattle.rhai_machine.specs.Types.{Dynamic, EvalAltResult, out-Expr, Stmt}
 use Rattle.rhai_tree.specs.Positions.{position_of}
-use Rattle.rhai_state.specs.Errors.{is_catchable, is_system}
-use Rattle.rhai_places.specs.PutBack.{put_back}
+use Rattle.rhai_errors.specs.Errors.{is_catchable, is_system}
+use Rattle.rhai_spots.specs.PutBack.{put_back}
 use Rattle.rhai_machine.specs.language.Setting.{Setting, globals_of}
 use Rattle.rhai_machine.specs.language.State.{Local}
 use Rattle.rhai_machine.specs.language.Values.{flat, through, truth}

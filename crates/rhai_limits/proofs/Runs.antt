@@ -3,7 +3,7 @@ use Rattle.std.proofs.Common.{refl, arith}
 use Rattle.std.proofs.lemmas.Bool.Decides.{nat_tests}
 use Rattle.std.specs.Prelude.{◌≡◌, ◌≤◌, ⊤, ℕ, ◌+◌, ◌-◌, min, nat_lt, Bool, true, false, ◌&&◌, List, [], ◌∷◌, length, map, Option, None}
 use Rattle.rhai_machine.specs.Types.{Dynamic, Limits, Position}
-use Rattle.rhai_state.specs.Native.{Request, Reply, Faults}
+use Rattle.rhai_errors.specs.Native.{Request, Reply, Faults}
 use Rattle.rhai_machine.specs.machine.Machine.{Move, Halt, Go, Charge, Native, AskPure}
 use Rattle.rhai_machine.specs.machine.Memory.{Leads, here, next, out_before_step, out_in_native}
 use Rattle.rhai_machine.specs.machine.Point.{Point, after, moved, paid}

@@ -1,8 +1,8 @@
 -- The errors of the five limits, as they unwind.
 use Rattle.std.specs.Prelude.{◌≡◌, ℕ, Bool, true}
 use Rattle.rhai_tree.specs.declared.position.Position.{Position}
-use Rattle.rhai_state.specs.declared.error.EvalAltResult.{EvalAltResult}
-use Rattle.rhai_state.specs.Errors.{at_position, is_limit}
+use Rattle.rhai_errors.specs.declared.error.EvalAltResult.{EvalAltResult}
+use Rattle.rhai_errors.specs.Errors.{at_position, is_limit}
 use Rattle.rhai_machine.specs.machine.Machine.{Config, Run}
 use Rattle.rhai_machine.specs.machine.Unwinding.{Unwound}
 use Rattle.rhai_machine.specs.language.Setting.{Rules}

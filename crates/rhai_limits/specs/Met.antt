@@ -6,13 +6,13 @@ use Rattle.rhai_machine.specs.Types.{Dynamic, EvalAltResult, Expr, out-Expr, Ide
 use Rattle.rhai_tree.specs.declared.expr.MapEntry.{MapEntry}
 use Rattle.rhai_tree.specs.declared.expr.Expr.TheOpen as layer
 use Rattle.rhai_values.specs.declared.base.value.Union.TheVariants as value
-use Rattle.rhai_state.specs.declared.error.EvalAltResult.TheVariants as error
-use Rattle.rhai_state.specs.Errors.{is_catchable, is_system}
-use Rattle.rhai_state.specs.Native.{Reply, Missing, Gives}
+use Rattle.rhai_errors.specs.declared.error.EvalAltResult.TheVariants as error
+use Rattle.rhai_errors.specs.Errors.{is_catchable, is_system}
+use Rattle.rhai_errors.specs.Native.{Reply, Missing, Gives}
 use Rattle.rhai_state.specs.Scope.{index_of}
 use Rattle.rhai_operators.specs.Answers.{op_assign_of}
-use Rattle.rhai_places.specs.declared.spot.Spot.{Spot}
-use Rattle.rhai_places.specs.PutBack.{put_back}
+use Rattle.rhai_spots.specs.declared.spot.Spot.{Spot}
+use Rattle.rhai_spots.specs.PutBack.{put_back}
 use Rattle.rhai_machine.specs.machine.Machine.{Move, Go, Charge, Native}
 use Rattle.rhai_machine.specs.language.Setting.{Setting}
 use Rattle.rhai_machine.specs.language.State.{Local}

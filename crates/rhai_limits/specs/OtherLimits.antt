@@ -1,8 +1,8 @@
 -- What limits change in a step: nothing, but that it may fail with the error of one.
 use Rattle.std.specs.Prelude.{◌≡◌, ◌⊎◌, ⊤, Bool, true, Option}
 use Rattle.rhai_machine.specs.Types.{Dynamic, EvalAltResult, Limits}
-use Rattle.rhai_state.specs.Errors.{is_limit}
-use Rattle.rhai_state.specs.Native.{Reply}
+use Rattle.rhai_errors.specs.Errors.{is_limit}
+use Rattle.rhai_errors.specs.Native.{Reply}
 use Rattle.rhai_machine.specs.machine.Machine.{Move, Halt, Go, Charge, Native, AskPure}
 use Rattle.rhai_machine.specs.language.Setting.{Setting}
 use Rattle.rhai_machine.specs.language.Frames.{Core, Fail}

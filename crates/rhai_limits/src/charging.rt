@@ -4,7 +4,7 @@
 ghost use Rattle.rhai_machine.specs.language.Setting.{Setting, over};
 ghost use Rattle.rhai_limits.specs.Charging.{EntriesCharge, TurnsCharge};
 
-use rhai_state::table::NativeTable;
+use rhai_errors::table::NativeTable;
 use rhai_values::base::value::Host;
 use std::marker::PhantomData;
 

@@ -10,7 +10,7 @@ ghost use Rattle.rhai_limits.specs.Met.{MetLimitsFail};
 ghost use Rattle.rhai_limits.specs.OtherLimits.{LimitsOnlyFail};
 ghost use Rattle.rhai_limits.specs.ScopesAndLevels.{ScopesKeepToTheLimit, LevelsKeepToTheLimit, TooDeepFails};
 
-use rhai_state::table::NativeTable;
+use rhai_errors::table::NativeTable;
 use rhai_values::base::value::Host;
 use std::marker::PhantomData;
 

@@ -13,12 +13,12 @@ use Rattle.rhai_values.specs.declared.base.value.Union.{Union}
 use Rattle.rhai_values.specs.declared.base.value.Union.TheVariants as value
 use Rattle.rhai_values.specs.Cells.{with_held}
 use Rattle.rhai_values.specs.Layers.{layer_of}
-use Rattle.rhai_state.specs.declared.error.EvalAltResult.{EvalAltResult}
-use Rattle.rhai_state.specs.Errors.{root_name}
-use Rattle.rhai_places.specs.declared.spot.Spot.{Spot}
-use Rattle.rhai_places.specs.declared.spot.Spot.TheVariants as spot
-use Rattle.rhai_places.specs.Parts.{part_of, value_at}
-use Rattle.rhai_places.specs.Paths.{ToCell}
+use Rattle.rhai_errors.specs.declared.error.EvalAltResult.{EvalAltResult}
+use Rattle.rhai_errors.specs.Errors.{root_name}
+use Rattle.rhai_spots.specs.declared.spot.Spot.{Spot}
+use Rattle.rhai_spots.specs.declared.spot.Spot.TheVariants as spot
+use Rattle.rhai_spots.specs.Parts.{part_of, value_at}
+use Rattle.rhai_spots.specs.Paths.{ToCell}
 use Rattle.rhai_machine.specs.machine.Settling.{Falls}
 use Rattle.rhai_machine.specs.language.Setting.{Globals, Setting}
 use Rattle.rhai_machine.specs.language.State.{Local}

@@ -3,7 +3,7 @@ use Rattle.std.proofs.Common.{refl, subst, arith, suc, zero}
 use Rattle.std.proofs.lemmas.Bool.Decides.{nat_tests}
 use Rattle.std.specs.Prelude.{◌≡◌, ◌<◌, ◌≤◌, ◌+◌, ℕ, Bool, true, false, List, ◌∷◌, nat_lt}
 use Rattle.rhai_tree.specs.declared.position.Position.{Position}
-use Rattle.rhai_state.specs.Native.{Request}
+use Rattle.rhai_errors.specs.Native.{Request}
 use Rattle.rhai_machine.specs.machine.Machine.{Move, Halt, Go, Charge, Native, AskPure, Machine, Config, Run, ended, next, charged, below}
 use Rattle.rhai_machine.specs.machine.Unwinding.{Passes, Unwinds}
 use Rattle.rhai_machine.specs.machine.Settling.{Settles, at_end, at_charge, by_step, by_call, by_question, Falls}

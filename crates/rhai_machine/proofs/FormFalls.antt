@@ -18,7 +18,7 @@ use Rattle.rhai_values.specs.declared.base.value.Union.{Union}
 use Rattle.rhai_values.specs.declared.base.value.Union.TheVariants as value
 use Rattle.rhai_values.specs.Hashable.{is_hashable}
 use Rattle.rhai_values.specs.LiteralEquals.{equals}
-use Rattle.rhai_state.specs.declared.error.EvalAltResult.{EvalAltResult}
+use Rattle.rhai_errors.specs.declared.error.EvalAltResult.{EvalAltResult}
 use Rattle.rhai_state.specs.Scope.{found, index_of}
 use Rattle.rhai_machine.specs.machine.Settling.{Falls}
 use Rattle.rhai_machine.specs.language.Setting.{Setting}

@@ -2,7 +2,7 @@
 use Rattle.std.proofs.Common.{refl, ap}
 use Rattle.std.specs.Prelude.{◌≡◌, ℕ, Bool, true, false, List, ◌∷◌, Some}
 use Rattle.rhai_tree.specs.declared.position.Position.{Position}
-use Rattle.rhai_state.specs.Native.{Request}
+use Rattle.rhai_errors.specs.Native.{Request}
 use Rattle.rhai_machine.specs.machine.Machine.{Move, Halt, Go, Charge, Native, AskPure, Machine, ended, next as further, charged}
 use Rattle.rhai_machine.specs.machine.Point.{Point, with_calls, paid, moved, after, Reaches, here, next, Logged}
 use Rattle.rhai_machine.specs.machine.Laws.{HasLog}

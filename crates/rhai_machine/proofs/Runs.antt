@@ -3,7 +3,7 @@ use Rattle.std.proofs.Common.{refl, sym, ◌∙◌, ap, subst, append_assoc, ari
 use Rattle.std.proofs.lemmas.Bool.Decides.{nat_tests}
 use Rattle.std.specs.Prelude.{◌≡◌, ◌≤◌, ◌<◌, ◌+◌, ℕ, Bool, true, false, List, [], ◌∷◌, ◌++◌, Some, None, nat_lt}
 use Rattle.rhai_tree.specs.declared.position.Position.{Position}
-use Rattle.rhai_state.specs.Native.{Request}
+use Rattle.rhai_errors.specs.Native.{Request}
 use Rattle.rhai_machine.specs.machine.Machine.{Move, Halt, Go, Charge, Native, AskPure, Machine, Config, Run, ended, next, act, charged}
 use Rattle.rhai_machine.specs.machine.Machine.{below, always}
 use Rattle.rhai_machine.specs.machine.Laws.{Begins, OneEnd, CallsAreAdded, ChargesAreAdded, StaysWithin, IsEnough}

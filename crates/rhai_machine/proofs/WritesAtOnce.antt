@@ -8,9 +8,9 @@ use Rattle.rhai_machine.specs.Types.{Dynamic, EvalAltResult}
 use Rattle.rhai_values.specs.declared.base.value.Union.TheVariants as value
 use Rattle.rhai_values.specs.declared.base.value.CellId.{CellId}
 use Rattle.rhai_values.specs.Cells.{value_of_cell, with_held}
-use Rattle.rhai_places.specs.Parts.{value_at}
-use Rattle.rhai_places.specs.Paths.{Avoids, Cells, IsSimple, Rooted, Step, ToPlace, ToCell, gone_back, leads_to, next as leads, read}
-use Rattle.rhai_places.specs.Paths.{read_from, write}
+use Rattle.rhai_spots.specs.Parts.{value_at}
+use Rattle.rhai_spots.specs.Paths.{Avoids, Cells, IsSimple, Rooted, Step, ToPlace, ToCell, gone_back, leads_to, next as leads, read}
+use Rattle.rhai_spots.specs.Paths.{read_from, write}
 use Rattle.rhai_machine.specs.machine.Point.{Reaches, after, here, next, ◌⨾◌}
 use Rattle.rhai_machine.specs.language.Setting.{Rules, cut}
 use Rattle.rhai_machine.specs.language.State.{State}

@@ -1,5 +1,5 @@
 -- The types that the definitions here speak of, gathered in one file.
-pub use Rattle.rhai_state.specs.declared.error.EvalAltResult.{EvalAltResult}
+pub use Rattle.rhai_errors.specs.declared.error.EvalAltResult.{EvalAltResult}
 pub use Rattle.rhai_state.specs.declared.limits.Limits.{Limits}
 pub use Rattle.rhai_state.specs.declared.scope.ScopeEntry.{ScopeEntry}
 pub use Rattle.rhai_tree.specs.declared.expr.ConditionalExpr.{ConditionalExpr}

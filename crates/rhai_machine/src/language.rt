@@ -8,7 +8,7 @@ ghost use Rattle.rhai_machine.specs.language.Laws.{IsNeverCaught, CutFollows, Cu
 ghost use Rattle.rhai_machine.specs.language.Laws.{HigherLimit, HigherLimitOfSteps};
 ghost use Rattle.rhai_machine.specs.language.Descents.{DescentLaws};
 
-use rhai_state::table::NativeTable;
+use rhai_errors::table::NativeTable;
 use rhai_values::base::value::Host;
 use std::marker::PhantomData;
 

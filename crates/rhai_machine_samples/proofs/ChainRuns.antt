@@ -3,7 +3,7 @@ use Rattle.std.specs.Prelude.{ℕ, Bool, true, false, List, [], ◌∷◌, ◌++
 use Rattle.rhai_tree.specs.declared.expr.Expr.TheVariants as expr
 use Rattle.rhai_values.specs.declared.base.value.Union.TheVariants as kind
 use Rattle.rhai_machine.specs.Types.{Dynamic, Expr, out-Expr, ScopeEntry, Token}
-use Rattle.rhai_state.specs.Native.{Request}
+use Rattle.rhai_errors.specs.Native.{Request}
 use Rattle.rhai_machine.specs.machine.Machine.{Config}
 use Rattle.rhai_machine.specs.language.State.{Local}
 use Rattle.rhai_machine.specs.language.Frames.{FromEntry, NewValue, Chain, Control, Frame, Core, core, ChainArguments, Walk, ChainEnd}

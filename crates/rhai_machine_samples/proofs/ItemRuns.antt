@@ -7,8 +7,8 @@ use Rattle.rhai_values.specs.declared.base.value.Union.TheVariants as kind
 use Rattle.rhai_values.specs.Copy.{plain}
 use Rattle.rhai_machine.specs.Types.{Dynamic, Expr, out-Expr}
 use Rattle.rhai_machine.specs.machine.Machine.{Config}
-use Rattle.rhai_places.specs.Paths.{ToPlace}
-use Rattle.rhai_places.specs.declared.spot.Spot.TheVariants as spot
+use Rattle.rhai_spots.specs.Paths.{ToPlace}
+use Rattle.rhai_spots.specs.declared.spot.Spot.TheVariants as spot
 use Rattle.rhai_machine_samples.specs.Handles.{handle, one_cell}
 use Rattle.rhai_machine.specs.language.Frames.{Control, NewValue, Frame, Core, core, StepDown, Argument, Back, CallArgument}
 use Rattle.rhai_machine.specs.language.Frames.{FromEntry, ChainArguments, ToChain, Measured, Eval, Walk, ChainEnd, RootValue, chain_on}

@@ -2,8 +2,8 @@
 use Rattle.std.proofs.Common.{refl}
 use Rattle.std.specs.Prelude.{ℕ, ◌+◌, Bool, true, false, List, [], ◌∷◌, ◌++◌, Some, None, codes}
 use Rattle.rhai_tree.specs.declared.token.Token.TheVariants.{Plus}
-use Rattle.rhai_state.specs.declared.error.EvalAltResult.TheVariants.{ErrorDotExpr, ErrorIndexingType}
-use Rattle.rhai_state.specs.Native.{Request}
+use Rattle.rhai_errors.specs.declared.error.EvalAltResult.TheVariants.{ErrorDotExpr, ErrorIndexingType}
+use Rattle.rhai_errors.specs.Native.{Request}
 use Rattle.rhai_machine.specs.Types.{Dynamic}
 use Rattle.rhai_machine.specs.machine.Machine.{Config}
 use Rattle.rhai_machine.specs.language.Frames.{FromEntry, Core, core, ChainEnd, Frame, Control, MemberAccess, Property, Item, GetterTried}

@@ -3,8 +3,8 @@ use Rattle.std.proofs.Common.{refl}
 use Rattle.std.specs.Prelude.{◌≡◌, ℕ, true, false, List, [], ◌∷◌, Some, None, codes, pos}
 use Rattle.std.specs.Str.{chars, encode_utf8_all}
 use lib.Utf8.{encode}
-use Rattle.rhai_places.specs.Bits.{digits, bits, bit, with_bit}
-use Rattle.rhai_state.specs.Native.{Request}
+use Rattle.rhai_spots.specs.Bits.{digits, bits, bit, with_bit}
+use Rattle.rhai_errors.specs.Native.{Request}
 use Rattle.rhai_values.specs.declared.base.value.FnPtr.{out-roll-FnPtr}
 use Rattle.rhai_values.specs.declared.base.value.Union.TheVariants as kind
 use Rattle.rhai_machine.specs.Types.{Dynamic, Expr}

@@ -3,9 +3,9 @@ use Rattle.std.proofs.Common.{refl}
 use Rattle.std.specs.Prelude.{ℕ, true, false, List, [], ◌∷◌, ◌++◌, Option, Some, None, codes}
 use Rattle.rhai_tree.specs.declared.expr.Stmt.TheVariants as stmt
 use Rattle.rhai_values.specs.declared.base.value.Union.TheVariants as kind
-use Rattle.rhai_state.specs.declared.error.EvalAltResult.TheFolds.{fold_out-EvalAltResult, fold_out-FunctionCallError}
-use Rattle.rhai_state.specs.declared.error.EvalAltResult.TheVariants as error
-use Rattle.rhai_state.specs.declared.error.FunctionCallError.{out-roll-FunctionCallError}
+use Rattle.rhai_errors.specs.declared.error.EvalAltResult.TheFolds.{fold_out-EvalAltResult, fold_out-FunctionCallError}
+use Rattle.rhai_errors.specs.declared.error.EvalAltResult.TheVariants as error
+use Rattle.rhai_errors.specs.declared.error.FunctionCallError.{out-roll-FunctionCallError}
 use Rattle.rhai_values.proofs.CopyLemmas.{copy-Map}
 use Rattle.rhai_values.proofs.ModeLemmas.{mode-Map}
 use Rattle.rhai_machine.specs.Types.{Dynamic, EvalAltResult, ScopeEntry}

@@ -4,13 +4,13 @@ use Rattle.rhai_tree.specs.declared.expr.Expr.TheVariants as expr
 use Rattle.rhai_machine.specs.Types.{Dynamic, Stmt}
 use Rattle.rhai_tree.specs.declared.token.Token.TheVariants.{Plus}
 use Rattle.rhai_tree.specs.Position.{none}
-use Rattle.rhai_state.specs.declared.error.EvalAltResult.TheVariants.{ErrorTooManyOperations, ErrorFunctionNotFound}
-use Rattle.rhai_state.specs.declared.error.EvalAltResult.TheVariants.{ErrorArithmetic, ErrorDataTooLarge, ErrorDotExpr}
-use Rattle.rhai_state.specs.declared.error.EvalAltResult.TheVariants.{ErrorIndexingType, Exit}
+use Rattle.rhai_errors.specs.declared.error.EvalAltResult.TheVariants.{ErrorTooManyOperations, ErrorFunctionNotFound}
+use Rattle.rhai_errors.specs.declared.error.EvalAltResult.TheVariants.{ErrorArithmetic, ErrorDataTooLarge, ErrorDotExpr}
+use Rattle.rhai_errors.specs.declared.error.EvalAltResult.TheVariants.{ErrorIndexingType, Exit}
 use Rattle.rhai_values.specs.declared.base.value.AccessMode.TheVariants.{ReadWrite}
 use Rattle.rhai_values.specs.declared.base.value.Union.TheVariants.{Str}
 use Rattle.rhai_machine.specs.language.Setting.{Setting}
-use Rattle.rhai_state.specs.Native.{Request, Missing, Gives, Faults, Named, request}
+use Rattle.rhai_errors.specs.Native.{Request, Missing, Gives, Faults, Named, request}
 use Rattle.rhai_machine_samples.specs.Trees.{column, unqualified, int, bool, op, value}
 use Rattle.rhai_machine_samples.specs.Runs.{usual_limits, Table, Replies, EndsScript, EndsFrom, Fails, usual, limited, integer, truth}
 use Rattle.rhai_machine_samples.specs.Runs.{nothing_but}

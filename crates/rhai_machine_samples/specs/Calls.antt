@@ -9,10 +9,10 @@ use Rattle.rhai_values.specs.declared.base.value.FnPtr.{roll-FnPtr}
 use Rattle.rhai_values.specs.declared.base.value.FnPtrKind.TheVariants as leads
 use Rattle.rhai_values.specs.declared.base.value.Union.TheVariants as kind
 use Rattle.rhai_values.specs.Copy.{plain}
-use Rattle.rhai_state.specs.declared.error.EvalAltResult.TheVariants.{ErrorTooManyOperations, ErrorVariableNotFound, ErrorArithmetic}
-use Rattle.rhai_state.specs.declared.error.EvalAltResult.TheVariants.{ErrorFunctionNotFound, ErrorMismatchDataType}
-use Rattle.rhai_state.specs.declared.error.EvalAltResult.TheVariants.{ErrorDataRace}
-use Rattle.rhai_state.specs.Native.{Request, Missing, Gives, Faults, Named, Numbered, request}
+use Rattle.rhai_errors.specs.declared.error.EvalAltResult.TheVariants.{ErrorTooManyOperations, ErrorVariableNotFound, ErrorArithmetic}
+use Rattle.rhai_errors.specs.declared.error.EvalAltResult.TheVariants.{ErrorFunctionNotFound, ErrorMismatchDataType}
+use Rattle.rhai_errors.specs.declared.error.EvalAltResult.TheVariants.{ErrorDataRace}
+use Rattle.rhai_errors.specs.Native.{Request, Missing, Gives, Faults, Named, Numbered, request}
 use Rattle.rhai_machine_samples.specs.Trees.{column, unqualified, int, var, value}
 use Rattle.rhai_machine_samples.specs.Runs.{Table, Replies, Answers, EndsScript, EndsFrom, Returns, Fails, usual, limited, nothing_but}
 use Rattle.rhai_machine_samples.specs.Runs.{entry, integer, fixed, truth, unit}

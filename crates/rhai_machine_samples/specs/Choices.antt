@@ -1,7 +1,7 @@
 -- Samples of the operators that stop early.
 use Rattle.std.specs.Prelude.{ℕ, true, false, List, [], ◌∷◌, Some, Ok, codes}
 use Rattle.rhai_machine.specs.Types.{Stmt}
-use Rattle.rhai_state.specs.declared.error.EvalAltResult.TheVariants.{ErrorMismatchDataType}
+use Rattle.rhai_errors.specs.declared.error.EvalAltResult.TheVariants.{ErrorMismatchDataType}
 use Rattle.rhai_machine_samples.specs.Trees.{column, int, bool, var, value, braces, unit_at, all_of, any_of, first_of, loop_, break_}
 use Rattle.rhai_machine_samples.specs.Runs.{Table, Returns, Fails, Ends, usual, integer, truth, unit}
 use Rattle.rhai_machine_samples.specs.Handles.{one_cell, handle}

@@ -5,9 +5,9 @@ use Rattle.rhai_tree.specs.declared.expr.Expr.TheVariants as expr
 use Rattle.rhai_tree.specs.declared.literal.Literal.TheVariants.{Unit}
 use Rattle.rhai_values.specs.declared.base.value.Union.TheVariants as kind
 use Rattle.rhai_values.specs.Copy.{plain}
-use Rattle.rhai_state.specs.declared.error.EvalAltResult.TheVariants.{ErrorDataTooLarge, ErrorVariableNotFound}
-use Rattle.rhai_state.specs.declared.error.EvalAltResult.TheVariants.{ErrorArithmetic, ErrorTooManyOperations}
-use Rattle.rhai_state.specs.Native.{Request, Missing, Gives, Faults, Named, request}
+use Rattle.rhai_errors.specs.declared.error.EvalAltResult.TheVariants.{ErrorDataTooLarge, ErrorVariableNotFound}
+use Rattle.rhai_errors.specs.declared.error.EvalAltResult.TheVariants.{ErrorArithmetic, ErrorTooManyOperations}
+use Rattle.rhai_errors.specs.Native.{Request, Missing, Gives, Faults, Named, request}
 use Rattle.rhai_tree.specs.Position.{none}
 use Rattle.rhai_machine.specs.language.Setting.{Setting}
 use Rattle.rhai_machine_samples.specs.Trees.{column, int, var, value}

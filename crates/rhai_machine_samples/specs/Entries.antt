@@ -5,9 +5,9 @@ use Rattle.rhai_tree.specs.declared.token.Token.TheVariants.{Plus}
 use Rattle.rhai_values.specs.declared.base.value.AccessMode.TheVariants.{ReadOnly}
 use Rattle.rhai_values.specs.declared.base.value.Union.TheVariants as kind
 use Rattle.rhai_values.specs.Copy.{plain}
-use Rattle.rhai_state.specs.declared.error.EvalAltResult.TheVariants.{ErrorAssignmentToConstant}
-use Rattle.rhai_state.specs.declared.error.EvalAltResult.TheVariants.{ErrorPropertyNotFound}
-use Rattle.rhai_state.specs.declared.error.EvalAltResult.TheVariants.{ErrorDataTooLarge}
+use Rattle.rhai_errors.specs.declared.error.EvalAltResult.TheVariants.{ErrorAssignmentToConstant}
+use Rattle.rhai_errors.specs.declared.error.EvalAltResult.TheVariants.{ErrorPropertyNotFound}
+use Rattle.rhai_errors.specs.declared.error.EvalAltResult.TheVariants.{ErrorDataTooLarge}
 use Rattle.rhai_machine_samples.specs.Trees.{column, int, var, value, assign}
 use Rattle.rhai_machine_samples.specs.Runs.{Table, usual, usual_limits, integer, fixed}
 use Rattle.rhai_machine_samples.specs.Runs.{unit}

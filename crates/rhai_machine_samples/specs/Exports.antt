@@ -2,7 +2,7 @@
 use Rattle.std.specs.Prelude.{ℕ, ◌+◌, List, [], ◌∷◌, Option, Some, None, Result, Ok, Err, codes}
 use Rattle.rhai_machine.specs.Types.{Ident, ScopeEntry, Stmt}
 use Rattle.rhai_tree.specs.declared.expr.Stmt.TheVariants as stmt
-use Rattle.rhai_state.specs.declared.error.EvalAltResult.TheVariants.{ErrorTooManyOperations, ErrorVariableNotFound}
+use Rattle.rhai_errors.specs.declared.error.EvalAltResult.TheVariants.{ErrorTooManyOperations, ErrorVariableNotFound}
 use Rattle.rhai_machine_samples.specs.Trees.{column, ident, int, export_let, export_const}
 use Rattle.rhai_machine_samples.specs.Runs.{Table, Ends, Fails, usual, limited, nothing_but, entry, integer, fixed, unit}
 

@@ -7,8 +7,8 @@ use Rattle.rhai_tree.specs.declared.function.ScriptFuncPayload.TheVariants.{Stat
 use Rattle.rhai_machine.specs.Types.{Dynamic, EvalAltResult, Expr, Module, ModuleFn, Position, ScopeEntry, ScriptFuncDef, Stmt}
 use Rattle.rhai_values.specs.declared.base.value.Module.{roll-Module}
 use Rattle.rhai_values.specs.declared.base.value.ModuleFn.{roll-ModuleFn}
-use Rattle.rhai_state.specs.declared.error.EvalAltResult.TheVariants.{ErrorStackOverflow, ErrorTooManyVariables, ErrorUnboundThis}
-use Rattle.rhai_state.specs.declared.error.EvalAltResult.TheVariants.{ErrorVariableNotFound, ErrorAssignmentToConstant}
+use Rattle.rhai_errors.specs.declared.error.EvalAltResult.TheVariants.{ErrorStackOverflow, ErrorTooManyVariables, ErrorUnboundThis}
+use Rattle.rhai_errors.specs.declared.error.EvalAltResult.TheVariants.{ErrorVariableNotFound, ErrorAssignmentToConstant}
 use Rattle.rhai_machine.specs.language.Setting.{Setting}
 use Rattle.rhai_machine.specs.language.State.{Local}
 use Rattle.rhai_machine.specs.language.Activations.{ThisFrom, NoThis, TheFocus, Caller}

@@ -4,7 +4,7 @@ use Rattle.rhai_machine.specs.Types.{Dynamic, EvalAltResult, ScopeEntry, Stmt}
 use Rattle.rhai_tree.specs.declared.token.Token.TheVariants.{Plus}
 use Rattle.rhai_values.specs.declared.base.value.AccessMode.TheVariants.{ReadWrite}
 use Rattle.rhai_values.specs.declared.base.value.Union.TheVariants.{Cell}
-use Rattle.rhai_state.specs.declared.error.EvalAltResult.TheVariants.{ErrorDataRace}
+use Rattle.rhai_errors.specs.declared.error.EvalAltResult.TheVariants.{ErrorDataRace}
 use Rattle.rhai_machine.specs.language.State.{Local}
 use Rattle.rhai_machine_samples.specs.Trees.{column, int, var, op, value, braces, let_, if_, no_else}
 use Rattle.rhai_machine_samples.specs.Runs.{Table, Ends, nothing_but, usual, integer, truth, unit, entry}

@@ -5,8 +5,8 @@ use Rattle.rhai_tree.specs.declared.expr.Stmt.TheVariants as stmt
 use Rattle.rhai_tree.specs.declared.token.Token.TheVariants.{Plus}
 use Rattle.rhai_values.specs.declared.base.value.Union.TheVariants.{Str}
 use Rattle.rhai_values.specs.Copy.{plain}
-use Rattle.rhai_state.specs.declared.error.EvalAltResult.TheVariants.{ErrorMismatchDataType, ErrorModuleNotFound, ErrorTooManyModules}
-use Rattle.rhai_state.specs.declared.error.EvalAltResult.TheVariants.{ErrorTooManyOperations, ErrorVariableNotFound}
+use Rattle.rhai_errors.specs.declared.error.EvalAltResult.TheVariants.{ErrorMismatchDataType, ErrorModuleNotFound, ErrorTooManyModules}
+use Rattle.rhai_errors.specs.declared.error.EvalAltResult.TheVariants.{ErrorTooManyOperations, ErrorVariableNotFound}
 use Rattle.rhai_state.specs.State.{import_as}
 use Rattle.rhai_machine.specs.language.Setting.{Setting}
 use Rattle.rhai_machine.specs.language.State.{Local}

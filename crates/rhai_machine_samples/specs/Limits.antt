@@ -1,6 +1,6 @@
 -- Samples of the limit of operations, and of the count as a script starts.
 use Rattle.std.specs.Prelude.{◌^◌, ◌-◌, ℕ, List, [], Ok, Err}
-use Rattle.rhai_state.specs.declared.error.EvalAltResult.TheVariants.{ErrorTooManyOperations}
+use Rattle.rhai_errors.specs.declared.error.EvalAltResult.TheVariants.{ErrorTooManyOperations}
 use Rattle.rhai_machine_samples.specs.Trees.{column}
 use Rattle.rhai_machine_samples.specs.Runs.{Table, EndsFrom, usual, limited, integer, unit}
 use Rattle.rhai_machine_samples.specs.Operators.{forty_two}

@@ -2,7 +2,7 @@
 use Rattle.std.specs.Prelude.{ℕ, false, List, [], ◌∷◌, Some, None, Ok, codes}
 use Rattle.rhai_machine.specs.Types.{Expr, Stmt, StmtBlock}
 use Rattle.rhai_tree.specs.declared.token.Token.TheVariants.{Plus, Bang, LessThan, GreaterThanEqualsTo}
-use Rattle.rhai_state.specs.declared.error.EvalAltResult.TheVariants.{ErrorTooManyOperations}
+use Rattle.rhai_errors.specs.declared.error.EvalAltResult.TheVariants.{ErrorTooManyOperations}
 use Rattle.rhai_machine_samples.specs.Trees.{column, int, bool, var, op, value, braces, inner, let_, if_, no_else, assign, while_, loop_}
 use Rattle.rhai_machine_samples.specs.Trees.{do_while, do_until, break_, continue_, return_}
 use Rattle.rhai_machine_samples.specs.Runs.{Table, Returns, Fails, Ends, usual, limited, integer, unit, entry, nothing_but}

@@ -2,11 +2,11 @@
 use Rattle.std.specs.Prelude.{◌≡◌, ℕ, true, false, List, [], ◌∷◌, Some, None, Result, Ok, Err, codes}
 use Rattle.rhai_machine.specs.Types.{Dynamic, EvalAltResult, Expr, Stmt}
 use Rattle.rhai_tree.specs.declared.token.Token.TheVariants.{Plus}
-use Rattle.rhai_state.specs.declared.error.EvalAltResult.TheVariants.{ErrorArithmetic, ErrorAssignmentToConstant, ErrorDotExpr}
-use Rattle.rhai_state.specs.declared.error.EvalAltResult.TheVariants.{ErrorIndexingType}
-use Rattle.rhai_state.specs.declared.error.EvalAltResult.TheVariants.{ErrorNonPureMethodCallOnConstant}
-use Rattle.rhai_state.specs.declared.error.EvalAltResult.TheVariants.{ErrorTooManyOperations}
-use Rattle.rhai_state.specs.Native.{Request, Purity, Missing, Gives, Faults, Named, OfName, request}
+use Rattle.rhai_errors.specs.declared.error.EvalAltResult.TheVariants.{ErrorArithmetic, ErrorAssignmentToConstant, ErrorDotExpr}
+use Rattle.rhai_errors.specs.declared.error.EvalAltResult.TheVariants.{ErrorIndexingType}
+use Rattle.rhai_errors.specs.declared.error.EvalAltResult.TheVariants.{ErrorNonPureMethodCallOnConstant}
+use Rattle.rhai_errors.specs.declared.error.EvalAltResult.TheVariants.{ErrorTooManyOperations}
+use Rattle.rhai_errors.specs.Native.{Request, Purity, Missing, Gives, Faults, Named, OfName, request}
 use Rattle.rhai_tree.specs.Position.{none}
 use Rattle.rhai_machine.specs.language.Setting.{Setting}
 use Rattle.rhai_machine_samples.specs.Trees.{column, int, bool, var, value, assign}

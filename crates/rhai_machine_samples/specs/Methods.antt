@@ -5,9 +5,9 @@ use Rattle.rhai_values.specs.declared.base.value.FnPtr.{roll-FnPtr}
 use Rattle.rhai_values.specs.declared.base.value.FnPtrKind.TheVariants as leads
 use Rattle.rhai_values.specs.declared.base.value.Union.TheVariants as kind
 use Rattle.rhai_values.specs.Copy.{plain}
-use Rattle.rhai_state.specs.declared.error.EvalAltResult.TheVariants.{ErrorMismatchDataType, ErrorDataRace}
-use Rattle.rhai_state.specs.declared.error.EvalAltResult.TheVariants.{ErrorNonPureMethodCallOnConstant}
-use Rattle.rhai_state.specs.Native.{Request, Gives, Named, OfName, OfNumber, request}
+use Rattle.rhai_errors.specs.declared.error.EvalAltResult.TheVariants.{ErrorMismatchDataType, ErrorDataRace}
+use Rattle.rhai_errors.specs.declared.error.EvalAltResult.TheVariants.{ErrorNonPureMethodCallOnConstant}
+use Rattle.rhai_errors.specs.Native.{Request, Gives, Named, OfName, OfNumber, request}
 use Rattle.rhai_machine.specs.machine.Point.{Reaches}
 use Rattle.rhai_machine.specs.language.Setting.{cut}
 use Rattle.rhai_machine.specs.language.State.{Local}

@@ -2,7 +2,7 @@
 use Rattle.std.specs.Prelude.{ℕ, true, false, List, [], ◌∷◌, codes}
 use Rattle.rhai_machine.specs.Types.{Stmt}
 use Rattle.rhai_tree.specs.declared.token.Token.TheVariants.{Plus, Bang, EqualsTo, NotEqualsTo}
-use Rattle.rhai_state.specs.declared.error.EvalAltResult.TheVariants.{ErrorTooManyOperations, ErrorVariableNotFound, ErrorArithmetic}
+use Rattle.rhai_errors.specs.declared.error.EvalAltResult.TheVariants.{ErrorTooManyOperations, ErrorVariableNotFound, ErrorArithmetic}
 use Rattle.rhai_machine_samples.specs.Trees.{column, int, bool, var, op, value}
 use Rattle.rhai_machine_samples.specs.Runs.{Table, Returns, Fails, usual, limited, integer, truth}
 

@@ -3,7 +3,7 @@ use Rattle.std.specs.Prelude.{ℕ, List, [], ◌∷◌, Some, Ok, Err, codes}
 use Rattle.std.specs.declared.num.NonZeroUsize.{NonZeroUsize}
 use Rattle.rhai_machine.specs.Types.{Dynamic, ScopeEntry, Stmt}
 use Rattle.rhai_tree.specs.declared.token.Token.TheVariants.{Plus}
-use Rattle.rhai_state.specs.declared.error.EvalAltResult.TheVariants.{ErrorVariableExists, ErrorVariableNotFound}
+use Rattle.rhai_errors.specs.declared.error.EvalAltResult.TheVariants.{ErrorVariableExists, ErrorVariableNotFound}
 use Rattle.rhai_machine.specs.language.Setting.{Setting}
 use Rattle.rhai_machine_samples.specs.Trees.{column, int, var, op, let_over, const_over, export_let}
 use Rattle.rhai_machine_samples.specs.Runs.{Table, Ends, usual, nothing_but, entry, integer, fixed, unit}

@@ -7,9 +7,9 @@ use Rattle.rhai_values.specs.declared.base.value.FnPtr.{roll-FnPtr}
 use Rattle.rhai_values.specs.declared.base.value.FnPtrKind.TheVariants as leads
 use Rattle.rhai_values.specs.declared.base.value.Union.TheVariants as kind
 use Rattle.rhai_values.specs.Copy.{plain}
-use Rattle.rhai_state.specs.declared.error.EvalAltResult.TheVariants.{ErrorAssignmentToConstant, ErrorDataRace, ErrorMismatchDataType}
-use Rattle.rhai_state.specs.declared.error.EvalAltResult.TheVariants.{ErrorTooManyOperations}
-use Rattle.rhai_state.specs.Native.{Request, Purity, Gives, Named, OfName, request}
+use Rattle.rhai_errors.specs.declared.error.EvalAltResult.TheVariants.{ErrorAssignmentToConstant, ErrorDataRace, ErrorMismatchDataType}
+use Rattle.rhai_errors.specs.declared.error.EvalAltResult.TheVariants.{ErrorTooManyOperations}
+use Rattle.rhai_errors.specs.Native.{Request, Purity, Gives, Named, OfName, request}
 use Rattle.rhai_machine_samples.specs.Trees.{column, int, bool, var, value, assign}
 use Rattle.rhai_machine_samples.specs.Runs.{Table, Answers, IsImpure, EndsScript, usual, limited, integer, truth}
 use Rattle.rhai_machine_samples.specs.Data.{word}

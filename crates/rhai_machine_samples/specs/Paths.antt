@@ -7,8 +7,8 @@ use Rattle.rhai_machine.specs.Types.{Dynamic, EvalAltResult, Expr, Import, Modul
 use Rattle.rhai_values.specs.declared.base.value.Module.{roll-Module}
 use Rattle.rhai_values.specs.declared.base.value.Union.TheVariants.{Array}
 use Rattle.rhai_values.specs.Copy.{plain}
-use Rattle.rhai_state.specs.declared.error.EvalAltResult.TheVariants.{ErrorAssignmentToConstant, ErrorFunctionNotFound}
-use Rattle.rhai_state.specs.declared.error.EvalAltResult.TheVariants.{ErrorModuleNotFound, ErrorVariableNotFound}
+use Rattle.rhai_errors.specs.declared.error.EvalAltResult.TheVariants.{ErrorAssignmentToConstant, ErrorFunctionNotFound}
+use Rattle.rhai_errors.specs.declared.error.EvalAltResult.TheVariants.{ErrorModuleNotFound, ErrorVariableNotFound}
 use Rattle.rhai_state.specs.State.{import_as}
 use Rattle.rhai_machine.specs.language.Setting.{Setting}
 use Rattle.rhai_machine.specs.language.State.{Local}

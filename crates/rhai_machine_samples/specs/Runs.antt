@@ -3,7 +3,7 @@ use Rattle.std.specs.Prelude.{◌≡◌, ℕ, Bool, true, false, List, [], Some,
 use Rattle.rhai_machine.specs.Types.{Dynamic, EvalAltResult, Limits, ScopeEntry, Stmt}
 use Rattle.rhai_values.specs.declared.base.value.AccessMode.TheVariants.{ReadWrite, ReadOnly}
 use Rattle.rhai_values.specs.declared.base.value.Union.TheVariants as value
-use Rattle.rhai_state.specs.Native.{Request, Reply, Natives, Purity, effect}
+use Rattle.rhai_errors.specs.Native.{Request, Reply, Natives, Purity, effect}
 use Rattle.rhai_machine.specs.machine.Machine.{Run}
 use Rattle.rhai_machine.specs.machine.Point.{with_calls}
 use Rattle.rhai_machine.specs.language.Setting.{Setting, Rules, cut, over}

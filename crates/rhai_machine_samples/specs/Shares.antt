@@ -5,7 +5,7 @@ use Rattle.rhai_tree.specs.declared.expr.Stmt.TheVariants as stmt
 use Rattle.rhai_tree.specs.Position.{none}
 use Rattle.rhai_values.specs.declared.base.value.AccessMode.TheVariants.{ReadOnly, ReadWrite}
 use Rattle.rhai_values.specs.declared.base.value.Union.TheVariants.{Cell}
-use Rattle.rhai_state.specs.declared.error.EvalAltResult.TheVariants.{ErrorTooManyOperations, ErrorVariableNotFound}
+use Rattle.rhai_errors.specs.declared.error.EvalAltResult.TheVariants.{ErrorTooManyOperations, ErrorVariableNotFound}
 use Rattle.rhai_machine.specs.language.State.{Local}
 use Rattle.rhai_machine_samples.specs.Trees.{column, shared}
 use Rattle.rhai_machine_samples.specs.Runs.{Table, Ends, Fails, Returns, usual, limited, nothing_but, entry, integer, fixed, unit}

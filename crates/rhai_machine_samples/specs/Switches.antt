@@ -6,8 +6,8 @@ use Rattle.rhai_tree.specs.declared.literal.Literal.TheVariants as literal
 use Rattle.rhai_tree.specs.declared.token.Token.TheVariants.{EqualsTo}
 use Rattle.rhai_values.specs.declared.base.value.Union.TheVariants as kind
 use Rattle.rhai_values.specs.Copy.{plain}
-use Rattle.rhai_state.specs.declared.error.EvalAltResult.TheVariants.{ErrorDataRace, ErrorMismatchDataType, ErrorTooManyOperations}
-use Rattle.rhai_state.specs.declared.error.EvalAltResult.TheVariants.{ErrorVariableNotFound}
+use Rattle.rhai_errors.specs.declared.error.EvalAltResult.TheVariants.{ErrorDataRace, ErrorMismatchDataType, ErrorTooManyOperations}
+use Rattle.rhai_errors.specs.declared.error.EvalAltResult.TheVariants.{ErrorVariableNotFound}
 use Rattle.rhai_machine_samples.specs.Trees.{column, int, bool, var, op, braces, inner, switch_, result_if, result_of, case_of, break_}
 use Rattle.rhai_machine_samples.specs.Trees.{loop_}
 use Rattle.rhai_machine_samples.specs.Runs.{Table, Ends, Fails, Returns, usual, limited, nothing_but, entry, integer, truth, unit}

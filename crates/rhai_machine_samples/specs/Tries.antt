@@ -3,8 +3,8 @@ use Rattle.std.specs.Prelude.{ℕ, List, [], ◌∷◌, ◌++◌, Option, Some, 
 use Rattle.rhai_machine.specs.Types.{Dynamic, EvalAltResult, Expr, Stmt, StmtBlock}
 use Rattle.rhai_values.specs.declared.base.value.Union.TheVariants as kind
 use Rattle.rhai_values.specs.Copy.{plain}
-use Rattle.rhai_state.specs.declared.error.EvalAltResult.TheVariants.{ErrorRuntime, ErrorTooManyOperations, ErrorTooManyVariables}
-use Rattle.rhai_state.specs.declared.error.EvalAltResult.TheVariants.{ErrorUnboundThis, ErrorVariableNotFound}
+use Rattle.rhai_errors.specs.declared.error.EvalAltResult.TheVariants.{ErrorRuntime, ErrorTooManyOperations, ErrorTooManyVariables}
+use Rattle.rhai_errors.specs.declared.error.EvalAltResult.TheVariants.{ErrorUnboundThis, ErrorVariableNotFound}
 use Rattle.rhai_machine.specs.language.State.{Local}
 use Rattle.rhai_machine.specs.language.Frames.{Fail, CatchBranch, TryBody}
 use Rattle.rhai_machine_samples.specs.Trees.{column, int, var, value, braces, assign, break_, loop_, return_, throw_, try_, no_variable}

@@ -4,9 +4,9 @@ use Rattle.rhai_machine.specs.Types.{Stmt}
 use Rattle.rhai_tree.specs.declared.token.Token.TheVariants.{Plus, EqualsTo}
 use Rattle.rhai_values.specs.declared.base.value.AccessMode.TheVariants.{ReadOnly}
 use Rattle.rhai_values.specs.declared.base.value.Union.TheVariants as value_of
-use Rattle.rhai_state.specs.declared.error.EvalAltResult.TheVariants.{ErrorTooManyOperations, ErrorTooManyVariables}
-use Rattle.rhai_state.specs.declared.error.EvalAltResult.TheVariants.{ErrorVariableExists, ErrorVariableNotFound}
-use Rattle.rhai_state.specs.declared.error.EvalAltResult.TheVariants.{ErrorMismatchDataType}
+use Rattle.rhai_errors.specs.declared.error.EvalAltResult.TheVariants.{ErrorTooManyOperations, ErrorTooManyVariables}
+use Rattle.rhai_errors.specs.declared.error.EvalAltResult.TheVariants.{ErrorVariableExists, ErrorVariableNotFound}
+use Rattle.rhai_errors.specs.declared.error.EvalAltResult.TheVariants.{ErrorMismatchDataType}
 use Rattle.rhai_machine.specs.language.Setting.{Setting}
 use Rattle.rhai_machine_samples.specs.Trees.{column, int, var, op, value, braces, block, inner, let_, const_, if_, no_else}
 use Rattle.rhai_machine_samples.specs.Runs.{usual_limits, Table, Returns, Fails, usual, limited, integer, unit, entry}

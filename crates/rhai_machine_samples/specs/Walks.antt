@@ -7,9 +7,9 @@ use Rattle.rhai_tree.specs.declared.token.Token.TheVariants.{InclusiveRange, Plu
 use Rattle.rhai_values.specs.declared.base.value.AccessMode.TheVariants.{ReadWrite}
 use Rattle.rhai_values.specs.declared.base.value.Union.TheVariants as kind
 use Rattle.rhai_values.specs.Copy.{plain}
-use Rattle.rhai_state.specs.declared.error.EvalAltResult.TheVariants.{ErrorArithmetic, ErrorAssignmentToConstant, ErrorDataRace, ErrorFor}
-use Rattle.rhai_state.specs.declared.error.EvalAltResult.TheVariants.{ErrorRuntime, ErrorTooManyOperations, ErrorTooManyVariables}
-use Rattle.rhai_state.specs.declared.error.EvalAltResult.TheVariants.{ErrorVariableNotFound}
+use Rattle.rhai_errors.specs.declared.error.EvalAltResult.TheVariants.{ErrorArithmetic, ErrorAssignmentToConstant, ErrorDataRace, ErrorFor}
+use Rattle.rhai_errors.specs.declared.error.EvalAltResult.TheVariants.{ErrorRuntime, ErrorTooManyOperations, ErrorTooManyVariables}
+use Rattle.rhai_errors.specs.declared.error.EvalAltResult.TheVariants.{ErrorVariableNotFound}
 use Rattle.rhai_machine.specs.language.State.{Local}
 use Rattle.rhai_machine.specs.language.Setting.{Setting}
 use Rattle.rhai_machine.specs.language.Turns.{ForLoop, Turns, OfItems, OfIntegers}

@@ -37,8 +37,8 @@ ghost use Rattle.rhai_machine_samples.specs.Imports.{Imports};
 ghost use Rattle.rhai_machine_samples.specs.Paths.{Paths, PathCalls, GlobalConstants};
 ghost use Rattle.rhai_machine_samples.specs.Overwrites.{Overwrites};
 
+use rhai_errors::table::NativeTable;
 use rhai_machine::laws::{Language, always_ends};
-use rhai_state::table::NativeTable;
 use rhai_values::base::value::Host;
 use std::marker::PhantomData;
 

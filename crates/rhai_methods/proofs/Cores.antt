@@ -11,7 +11,7 @@ use Rattle.rhai_values.specs.declared.base.value.FnPtrKind.TheVariants as kind
 use Rattle.rhai_values.specs.Copy.{copy_of, copy_pointer}
 use Rattle.rhai_values.specs.Layers.{UnionLayer, layer_of}
 use Rattle.rhai_values.proofs.CopyLemmas.{copy-pointer}
-use Rattle.rhai_state.specs.declared.error.EvalAltResult.{EvalAltResult}
+use Rattle.rhai_errors.specs.declared.error.EvalAltResult.{EvalAltResult}
 use Rattle.rhai_functions.specs.declared.function.Function.{Function}
 use Rattle.rhai_machine.specs.language.Setting.{Setting}
 use Rattle.rhai_machine.specs.language.State.{Local}
@@ -19,7 +19,7 @@ use Rattle.rhai_machine.specs.language.Frames.{EnterOnFocus, Frame, Core, core, 
 use Rattle.rhai_machine.specs.language.Arguments.{linked, linked_core, linked_to}
 use Rattle.rhai_machine.specs.language.Methods.{Method, call_argument, call_core, copied_before, curry_core, entry_core, own_seen}
 use Rattle.rhai_machine.specs.language.Methods.{pointer_alone, pointer_on, pointer_there, unlinked_alone, unlinked_on}
-use Rattle.rhai_callees.specs.Pointers.{native_number_of}
+use Rattle.rhai_call_forms.specs.Pointers.{native_number_of}
 use Rattle.rhai_methods.specs.Calls.{alone_by, named_on, on_by}
 use Rattle.rhai_methods.specs.Copies.{curried_in, curried_seen, found_copy}
 use Rattle.rhai_methods.specs.Parts.{all_of, alone_as, alone_with, name_called, on_as, on_with}

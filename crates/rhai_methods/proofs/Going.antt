@@ -2,9 +2,9 @@
 use Rattle.std.proofs.Common.{◌≡◌, Bool, true, false, List, ◌∷◌, Some, Result, Ok, Err, refl, sym, ap, subst}
 use Rattle.std.specs.Prelude.{ℕ, codes, if◌then◌else◌}
 use Rattle.rhai_values.specs.declared.base.value.Dynamic.{Dynamic}
-use Rattle.rhai_state.specs.declared.error.EvalAltResult.{EvalAltResult}
-use Rattle.rhai_state.specs.declared.error.EvalAltResult.TheVariants as error
-use Rattle.rhai_state.specs.Errors.{is_out_of_memory}
+use Rattle.rhai_errors.specs.declared.error.EvalAltResult.{EvalAltResult}
+use Rattle.rhai_errors.specs.declared.error.EvalAltResult.TheVariants as error
+use Rattle.rhai_errors.specs.Errors.{is_out_of_memory}
 use Rattle.rhai_tree.specs.declared.position.Position.{Position}
 use Rattle.rhai_functions.specs.declared.function.Function.{Function}
 use Rattle.rhai_machine.specs.machine.Memory.{here, ◌⨾◌, Leads}
@@ -22,7 +22,7 @@ use Rattle.rhai_steps.proofs.Pieces.{faulted, told}
 use Rattle.rhai_calls.specs.declared.dispatch.Called.TheVariants.{Ended, Enters}
 use Rattle.rhai_calls.specs.Dispatch.{came_to}
 use Rattle.rhai_calls.specs.ToldChanges.{with_changed}
-use Rattle.rhai_callees.proofs.Levels.{IsLevel, call_runs_out_at}
+use Rattle.rhai_call_forms.proofs.Levels.{IsLevel, call_runs_out_at}
 use Rattle.rhai_methods.specs.Calls.{named_alone, named_on, number_alone}
 use Rattle.rhai_methods.specs.Methods.{came_from, IsEntered, MethodCall}
 use Rattle.rhai_methods.specs.Parts.{IsLinkedAlone}

@@ -19,8 +19,8 @@ use Rattle.rhai_machine.specs.language.Arguments.{linked_core, linked_to, native
 use Rattle.rhai_machine.specs.language.Methods.{Method, CallWord, argument_at, as_method, call_argument, call_core, copied_before}
 use Rattle.rhai_machine.specs.language.Methods.{entry_core, numbered_on, on_focus, own_core, own_entry, pointer_alone, pointer_on}
 use Rattle.rhai_machine.specs.language.Methods.{unlinked_alone, unlinked_on, word_core}
-use Rattle.rhai_callees.specs.Pointers.{native_number_of}
-use Rattle.rhai_callees.proofs.Levels.{IsLevel, dispatch_level, either, number_level, on_level, there_level}
+use Rattle.rhai_call_forms.specs.Pointers.{native_number_of}
+use Rattle.rhai_call_forms.proofs.Levels.{IsLevel, dispatch_level, either, number_level, on_level, there_level}
 use Rattle.rhai_methods.specs.Calls.{alone_by, on_by}
 use Rattle.rhai_methods.specs.Methods.{came_from, MethodCall}
 use Rattle.rhai_methods.specs.Parts.{all_of, alone_as, alone_with, on_as, on_with}

@@ -12,7 +12,7 @@ use Rattle.rhai_machine.specs.language.State.{State}
 use Rattle.rhai_machine.specs.language.Arguments.{linked_to}
 use Rattle.rhai_machine.specs.machine.Memory.{here}
 use Rattle.rhai_machine.specs.language.Runs.{Goes}
-use Rattle.rhai_callees.specs.Pointers.{native_number_of}
+use Rattle.rhai_call_forms.specs.Pointers.{native_number_of}
 use Rattle.rhai_methods.specs.Calls.{alone_by, on_by}
 use Rattle.rhai_methods.specs.Methods.{IsEntered, MethodCall, came_from}
 use Rattle.rhai_methods.specs.Parts.{all_of, alone_as, alone_with, name_called, on_as, on_with, IsLinkedAlone}

@@ -8,8 +8,8 @@ use Rattle.rhai_values.specs.declared.base.value.FnPtrKind.TheOpen as union
 use Rattle.rhai_values.specs.Copy.{copy_pointer}
 use Rattle.rhai_values.specs.Layers.{UnionLayer, layer_of}
 use Rattle.rhai_values.specs.TypeNames.{type_name_of}
-use Rattle.rhai_state.specs.declared.error.EvalAltResult.{EvalAltResult}
-use Rattle.rhai_state.specs.Errors.{mismatch}
+use Rattle.rhai_errors.specs.declared.error.EvalAltResult.{EvalAltResult}
+use Rattle.rhai_errors.specs.Errors.{mismatch}
 use Rattle.rhai_machine.specs.language.Values.{Cells, through}
 use Rattle.rhai_machine.specs.language.Methods.{entry_seen, own_in, own_seen, pointer_with}
 

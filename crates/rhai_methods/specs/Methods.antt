@@ -1,7 +1,7 @@
 -- A method that is called on a value, and the parts of its call.
 use Rattle.std.specs.Prelude.{◌≡◌, Bool, true, List, Err}
 use Rattle.rhai_tree.specs.declared.position.Position.{Position}
-use Rattle.rhai_state.specs.Errors.{is_out_of_memory}
+use Rattle.rhai_errors.specs.Errors.{is_out_of_memory}
 use Rattle.rhai_machine.specs.language.State.{Local}
 use Rattle.rhai_machine.specs.language.Activations.{NoThis}
 use Rattle.rhai_machine.specs.language.Frames.{EnterFunction, EnterOnFocus, Frame, Core, core, ended_or_changed}

@@ -4,8 +4,8 @@
 ghost use Rattle.std.specs.Prelude.{◌≡◌};
 ghost use Rattle.rhai_calls.specs.Targets.{ComesBack};
 
+use rhai_errors::error::EvalAltResult;
 use rhai_places::target::Target;
-use rhai_state::error::EvalAltResult;
 use rhai_steps::values::let_go;
 use rhai_tree::position::Position;
 use rhai_values::base::value::{Dynamic, Host};

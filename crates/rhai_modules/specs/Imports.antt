@@ -3,8 +3,8 @@ use Rattle.std.specs.Prelude.{◌≡◌, Bool, true, false, Option, Result, Ok, 
 use Rattle.rhai_tree.specs.declared.expr.Ident.{Ident}
 use Rattle.rhai_tree.specs.declared.position.Position.{Position}
 use Rattle.rhai_values.specs.declared.base.value.Module.{Module}
-use Rattle.rhai_state.specs.declared.error.EvalAltResult.{EvalAltResult}
-use Rattle.rhai_state.specs.declared.error.EvalAltResult.TheVariants as error
+use Rattle.rhai_errors.specs.declared.error.EvalAltResult.{EvalAltResult}
+use Rattle.rhai_errors.specs.declared.error.EvalAltResult.TheVariants as error
 use Rattle.rhai_machine.specs.language.Imports.{importing, name_asked}
 use Rattle.rhai_machine.specs.language.State.{Local}
 

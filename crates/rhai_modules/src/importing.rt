@@ -4,7 +4,7 @@
 ghost use Rattle.std.specs.Prelude.{◌≡◌, Err, IfOk, IsTrue, OnErr, OnOk, false, nat_le, true};
 ghost use Rattle.rhai_tree.specs.Positions.{position_of, start_of};
 ghost use Rattle.rhai_values.specs.Cells.{cells_of};
-ghost use Rattle.rhai_state.specs.Errors.{is_out_of_memory};
+ghost use Rattle.rhai_errors.specs.Errors.{is_out_of_memory};
 ghost use Rattle.rhai_machine.specs.language.Imports.{importing, module_meant, name_asked};
 ghost use Rattle.rhai_machine.specs.language.State.{Answers};
 ghost use Rattle.rhai_machine.specs.language.Values.{unit_value as unit};
@@ -15,7 +15,7 @@ ghost use Rattle.rhai_modules.specs.Imports.{Imports, importable};
 
 use rhai_call_forms::pointers::text_of;
 use rhai_context::ends::{stop, take_value};
-use rhai_state::error::EvalAltResult;
+use rhai_errors::error::EvalAltResult;
 use rhai_state::limits::Limits;
 use rhai_state::state::GlobalRuntimeState;
 use rhai_tree::expr::{Expr, Ident};

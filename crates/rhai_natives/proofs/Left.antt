@@ -3,7 +3,7 @@ use Rattle.std.proofs.Common.{◌≡◌, ℕ, Bool, List, Option, Some, sym, ap,
 use Rattle.std.specs.Option.{option_map}
 use Rattle.rhai_values.specs.declared.base.value.Dynamic.{Dynamic}
 use Rattle.rhai_values.specs.declared.base.value.Union.{Union}
-use Rattle.rhai_state.specs.Native.{Request, Reply, HasNoHandle, Leaves, Obeys}
+use Rattle.rhai_errors.specs.Native.{Request, Reply, HasNoHandle, Leaves, Obeys}
 use Rattle.rhai_natives.specs.declared.listed.Found.{Found}
 use Rattle.rhai_natives.specs.Law.{left_no_handle, list_leaves}
 use Rattle.rhai_natives.specs.Found.{found, is_pure}

@@ -3,7 +3,7 @@ use Rattle.std.specs.Prelude.{◌==◌, ◌-◌, Bool, true, List, Option, Some,
 use Rattle.std.specs.Borrow.{Bor}
 use Rattle.std.specs.Option.{option_map}
 use Rattle.std.specs.Str.{bytes_eq}
-use Rattle.rhai_state.specs.Native.{Key, Named, Numbered, Purity, OfName, OfNumber}
+use Rattle.rhai_errors.specs.Native.{Key, Named, Numbered, Purity, OfName, OfNumber}
 use Rattle.rhai_natives.specs.declared.listed.Found.{Found}
 use Rattle.rhai_natives.specs.declared.listed.Listed.{Listed}
 use Rattle.rhai_natives.specs.Listed.{Entry, entry_of}

@@ -4,8 +4,8 @@ use Rattle.std.specs.Option.{option_map}
 use Rattle.rhai_values.specs.declared.base.value.Dynamic.{Dynamic}
 use Rattle.rhai_values.specs.declared.base.value.Union.{Union}
 use Rattle.rhai_values.specs.Cells.{IsNoHandle}
-use Rattle.rhai_state.specs.Native.{Request, Key, Named, Numbered, HasNoHandle, IsAllowed, KeepsFirst, Leaves, Lawful, AreReached}
-use Rattle.rhai_state.specs.Native.{ByFirst, reply_contents, purity_of}
+use Rattle.rhai_errors.specs.Native.{Request, Key, Named, Numbered, HasNoHandle, IsAllowed, KeepsFirst, Leaves, Lawful, AreReached}
+use Rattle.rhai_errors.specs.Native.{ByFirst, reply_contents, purity_of}
 use Rattle.rhai_natives.specs.declared.response.Datum.{Datum}
 use Rattle.rhai_natives.specs.declared.response.Datum.TheVariants as datum
 use Rattle.rhai_natives.specs.declared.response.Fault.TheVariants as fault

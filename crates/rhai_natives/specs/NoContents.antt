@@ -7,13 +7,14 @@ use Rattle.rhai_values.specs.declared.base.value.FnPtrKind.TheFolds.{fold_out-Dy
 use Rattle.rhai_values.specs.declared.base.value.Union.TheVariants as value
 use Rattle.rhai_values.specs.declared.base.value.Union.TheVariants.{outs-Char}
 use Rattle.rhai_values.specs.Copy.{plain}
-use Rattle.rhai_state.specs.declared.error.EvalAltResult.TheFolds.{fold_out-EvalAltResult}
-use Rattle.rhai_state.specs.declared.error.EvalAltResult.TheVariants.{outs-ErrorArithmetic, outs-ErrorIndexingType}
-use Rattle.rhai_state.specs.declared.error.EvalAltResult.TheVariants.{outs-ErrorPropertyNotFound}
-use Rattle.rhai_state.specs.Native.{Request, IsReached, reply_contents}
-use Rattle.rhai_state.specs.ValueContents.{Reached, each, contents_of, first_contents, error_contents}
-use Rattle.rhai_state.proofs.ContentLemmas.{contents-mode, contents-unit, contents-bool, contents-int, contents-text, contents-host}
-use Rattle.rhai_state.proofs.ContentLemmas.{contents-array, contents-runtime}
+use Rattle.rhai_errors.specs.declared.error.EvalAltResult.TheFolds.{fold_out-EvalAltResult}
+use Rattle.rhai_errors.specs.declared.error.EvalAltResult.TheVariants.{outs-ErrorArithmetic, outs-ErrorIndexingType}
+use Rattle.rhai_errors.specs.declared.error.EvalAltResult.TheVariants.{outs-ErrorPropertyNotFound}
+use Rattle.rhai_errors.specs.Native.{Request, IsReached, reply_contents}
+use Rattle.rhai_values.specs.ValueContents.{Reached, each, contents_of, first_contents}
+use Rattle.rhai_errors.specs.ErrorContents.{error_contents}
+use Rattle.rhai_errors.proofs.ContentLemmas.{contents-mode, contents-unit, contents-bool, contents-int, contents-text, contents-host}
+use Rattle.rhai_errors.proofs.ContentLemmas.{contents-array, contents-runtime}
 use Rattle.rhai_natives.specs.declared.response.Datum.{Datum}
 use Rattle.rhai_natives.specs.declared.response.Datum.TheVariants as datum
 use Rattle.rhai_natives.specs.declared.response.Fault.{Fault}

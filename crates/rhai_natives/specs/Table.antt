@@ -4,8 +4,8 @@ use Rattle.std.specs.Option.{option_map}
 use Rattle.rhai_values.specs.declared.base.value.Dynamic.{Dynamic}
 use Rattle.rhai_values.specs.declared.base.value.Union.{Union}
 use Rattle.rhai_values.specs.Copy.{plain}
-use Rattle.rhai_state.specs.Native.{Effect, Natives, Reply, Missing, Gives, Faults, effect}
-use Rattle.rhai_state.specs.ValueContents.{Holdings}
+use Rattle.rhai_errors.specs.Native.{Effect, Natives, Reply, Missing, Gives, Faults, effect}
+use Rattle.rhai_values.specs.ValueContents.{Holdings}
 use Rattle.rhai_natives.specs.declared.listed.Found.{Found}
 use Rattle.rhai_natives.specs.declared.response.Datum.{Datum}
 use Rattle.rhai_natives.specs.declared.response.Response.{Response}

@@ -3,7 +3,7 @@
 ghost use Rattle.std.specs.Prelude.{◌≡◌, ◌==◌, ◌-◌, None, find, if◌then◌else◌, map, slice_get};
 ghost use Rattle.std.specs.Option.{option_map};
 ghost use Rattle.std.specs.Str.{bytes_eq};
-ghost use Rattle.rhai_state.specs.Native.{Named, Numbered};
+ghost use Rattle.rhai_errors.specs.Native.{Named, Numbered};
 ghost use Rattle.rhai_natives.specs.Arguments.{values_of};
 ghost use Rattle.rhai_natives.specs.Listed.{entry_of};
 ghost use Rattle.rhai_natives.specs.Found.{found, found_at};

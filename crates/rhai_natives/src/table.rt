@@ -1,7 +1,7 @@
 //! The table of natives of a list.
 
 ghost use Rattle.std.specs.Prelude.{◌≡◌, Some, None};
-ghost use Rattle.rhai_state.specs.Native.{Obeys, reply_of};
+ghost use Rattle.rhai_errors.specs.Native.{Obeys, reply_of};
 ghost use Rattle.rhai_natives.specs.declared.response.Response.TheVariants as response;
 ghost use Rattle.rhai_natives.specs.Table.{IsLeft, IsReplied, change_in, changed, effect_of};
 ghost use Rattle.rhai_natives.specs.Found.{is_pure as purity_of};
@@ -9,8 +9,8 @@ ghost use Rattle.rhai_natives.specs.Found.{is_pure as purity_of};
 use crate::arguments::Arguments;
 use crate::listed::{Found, ListedNatives, find_named, find_numbered};
 use crate::response::{Datum, Fault, Response};
-use rhai_state::error::EvalAltResult;
-use rhai_state::table::{Answer, NativeTable};
+use rhai_errors::error::EvalAltResult;
+use rhai_errors::table::{Answer, NativeTable};
 use rhai_tree::Boxed;
 use rhai_tree::literal::NativeId;
 use rhai_tree::position::Position;

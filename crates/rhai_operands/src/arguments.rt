@@ -12,10 +12,10 @@ ghost use Rattle.rhai_steps.specs.States.{state_of};
 ghost use Rattle.rhai_context.specs.Ends.{came};
 
 use rhai_context::ends::{settle, stop};
-use rhai_state::error::EvalAltResult;
+use rhai_errors::error::EvalAltResult;
+use rhai_errors::table::NativeTable;
 use rhai_state::session::Session;
 use rhai_state::state::GlobalRuntimeState;
-use rhai_state::table::NativeTable;
 use rhai_steps::charges::charge_one;
 use rhai_steps::values::{
     bool_value, char_value, constant_value, int_value, text_value, unit_value,

@@ -5,10 +5,10 @@ use Rattle.rhai_tree.specs.declared.token.Token.{Token}
 use Rattle.rhai_values.specs.declared.base.value.Dynamic.{Dynamic}
 use Rattle.rhai_values.specs.declared.base.value.Union.{Union}
 use Rattle.rhai_values.specs.declared.base.value.Union.TheVariants as value
-use Rattle.rhai_state.specs.declared.error.EvalAltResult.{EvalAltResult}
-use Rattle.rhai_state.specs.declared.error.EvalAltResult.TheVariants as error
+use Rattle.rhai_errors.specs.declared.error.EvalAltResult.{EvalAltResult}
+use Rattle.rhai_errors.specs.declared.error.EvalAltResult.TheVariants as error
 use Rattle.rhai_values.specs.Copy.{plain}
-use Rattle.rhai_state.specs.Errors.{is_out_of_memory, position_of}
+use Rattle.rhai_errors.specs.Errors.{is_out_of_memory, position_of}
 use Rattle.rhai_operators.specs.declared.integers.ArithmeticFault.{ArithmeticFault}
 use Rattle.rhai_operators.specs.declared.integers.ArithmeticFault.TheVariants as fault
 use Rattle.rhai_operators.specs.Operators.{Outcome, unary_at, binary_at, op_assign_at}

@@ -3,13 +3,13 @@
 
 ghost use Rattle.std.specs.Prelude.{◌≡◌, false};
 ghost use Rattle.rhai_tree.specs.Position.{none};
-ghost use Rattle.rhai_state.specs.Errors.{is_out_of_memory, position_of};
+ghost use Rattle.rhai_errors.specs.Errors.{is_out_of_memory, position_of};
 ghost use Rattle.rhai_operators.specs.Answers as spec;
 ghost use Rattle.rhai_operators.specs.Answers.{IsAnswer};
 
 use crate::integers::ArithmeticFault;
-use rhai_state::error::EvalAltResult;
-use rhai_state::errors::shared_text;
+use rhai_errors::error::EvalAltResult;
+use rhai_errors::errors::shared_text;
 use rhai_tree::position::Position;
 use rhai_values::base::value::{Dynamic, Host, Union};
 use std::alloc::Global;

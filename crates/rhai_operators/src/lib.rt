@@ -17,7 +17,7 @@ use crate::answer::answer;
 use crate::compare::comparison_of_order;
 use crate::rows::{assigns, if_compares, of_integers, of_truths, of_types, unary};
 use crate::texts::{of_characters, of_mixed, of_texts};
-use rhai_state::error::EvalAltResult;
+use rhai_errors::error::EvalAltResult;
 use rhai_tree::token::Token;
 use rhai_values::base::value::{Dynamic, Host, Union};
 use std::alloc::Global;

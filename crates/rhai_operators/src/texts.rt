@@ -10,7 +10,7 @@ ghost use Rattle.rhai_values.specs.declared.base.value.Union.TheVariants as valu
 use crate::answer::answer;
 use crate::compare::{comparison_of_order, comparison_of_types};
 use crate::rows::if_compares;
-use rhai_state::error::EvalAltResult;
+use rhai_errors::error::EvalAltResult;
 use rhai_tree::position::Position;
 use rhai_tree::token::Token;
 use rhai_tree::{Shared, Text};

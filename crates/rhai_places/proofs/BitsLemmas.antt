@@ -15,7 +15,7 @@ use Rattle.std.proofs.Math.Pow.{pow_mono}
 use Rattle.std.specs.List.{slice_range}
 use Rattle.std.proofs.lemmas.Nat.Bits.{bit_at-zero, bit_at-suc, bit_at_lowest, bit_at-lt, bit_at_and, bit_at_ones, bit_at_set_same}
 use Rattle.std.proofs.lemmas.Nat.Bits.{bit_at_set_other, bit_at_clear_same, bit_at_clear_other, same_from_bits_below}
-use Rattle.rhai_places.specs.Bits.{digits, number, bits, integer, field, field_of}
+use Rattle.rhai_spots.specs.Bits.{digits, number, bits, integer, field, field_of}
 
 one_or_none : (x : ℕ) → x < 2 → (if x == 1 then 1 else 0) ≡ x
 one_or_none zero lt = refl

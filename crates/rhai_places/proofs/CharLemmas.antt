@@ -5,7 +5,7 @@ use Rattle.std.proofs.Math.Seq.{take-suc, take-append_seam, drop-append_seam}
 use Rattle.std.proofs.lemmas.List.{take_all, drop-drop}
 use Rattle.std.proofs.lemmas.Str.{encodes-chars, scalars-chars, chars-encodes, encodes-append, IsCharBoundary-at_seam, length-encode}
 use Rattle.std.proofs.lemmas.Str.{length-le-encodes}
-use Rattle.rhai_places.specs.Characters.{with_char, with_slice}
+use Rattle.rhai_spots.specs.Characters.{with_char, with_slice}
 use Rattle.std.specs.Char.{encode_utf8, len_utf8}
 use Rattle.std.specs.Str.{chars, encode_utf8_all, all_scalars, IsUtf8, IsCharBoundary}
 

@@ -11,7 +11,7 @@ use Rattle.std.proofs.lemmas.Nat.{or_lt, and_le_l, and_le_r, and_mask}
 use Rattle.std.proofs.lemmas.Nat.Bits.{bit_at-lt, bit_at_and, bit_at_or, bit_at_not, bit_at_ones, bit_at_cat_high, bit_at_mask_inside}
 use Rattle.std.proofs.lemmas.Nat.Bits.{bit_at_mask_below, bit_at_mask_above}
 use Rattle.std.proofs.lemmas.List.{get_or-take, get_or-drop, get_or_append_left}
-use Rattle.rhai_places.specs.Bits.{digits, number}
+use Rattle.rhai_spots.specs.Bits.{digits, number}
 use Rattle.rhai_places.proofs.BitsLemmas.{length-digits, number_is, digit_is}
 
 bit_at-wrapped : (n i : ℕ) → i < 64 → bit_at (n % 2 ^ 64) i ≡ bit_at n i

@@ -1,7 +1,6 @@
 pub mod BitsLemmas
 pub mod CharLemmas
 pub mod FieldLemmas
-pub mod FoundLemmas
 pub mod PartLemmas
 pub mod PathLemmas
 pub mod PlaceLemmas

@@ -8,12 +8,12 @@ use Rattle.rhai_values.specs.declared.base.value.Dynamic.{Dynamic}
 use Rattle.rhai_values.specs.declared.base.value.FnPtrKind.TheOpen as layer
 use Rattle.rhai_values.specs.Cells.{value_of_cell, with_value as with_cell}
 use Rattle.rhai_values.specs.Layers.{UnionLayer, layer_of}
-use Rattle.rhai_places.specs.declared.spot.Spot.{Spot}
-use Rattle.rhai_places.specs.declared.spot.Spot.TheVariants as spot
-use Rattle.rhai_places.specs.Parts.{IsPlace, value_at, value_in, with_value}
+use Rattle.rhai_spots.specs.declared.spot.Spot.{Spot}
+use Rattle.rhai_spots.specs.declared.spot.Spot.TheVariants as spot
+use Rattle.rhai_spots.specs.Parts.{IsPlace, value_at, value_in, with_value}
 use Rattle.rhai_places.proofs.PlaceLemmas.{written as place_written, stays as place_stays}
-use Rattle.rhai_places.specs.Paths.{Step, ToPlace, ToCell, Avoids, IsPlain, IsSimple, Parts, Cells, Rooted}
-use Rattle.rhai_places.specs.Paths.{gone_back, leads_to, next, read, read_from, write}
+use Rattle.rhai_spots.specs.Paths.{Step, ToPlace, ToCell, Avoids, IsPlain, IsSimple, Parts, Cells, Rooted}
+use Rattle.rhai_spots.specs.Paths.{gone_back, leads_to, next, read, read_from, write}
 
 set_stays : {X : Type 0} → (xs : List X) (i j : ℕ) (x : X) → (i ≡ j → ⊥) → slice_get (slice_set xs i x) j ≡ slice_get xs j
 set_stays [] i j x ne = refl

@@ -1,8 +1,9 @@
 -- Laws of places: what is written is read, and what stands elsewhere stays.
 use Rattle.std.specs.Prelude.{◌≡◌, Some}
 use Rattle.rhai_values.specs.Layers.{layer_of}
-use Rattle.rhai_places.specs.Types.{Dynamic, Spot}
-use Rattle.rhai_places.specs.Parts.{IsPlace, value_at, with_value}
+use Rattle.rhai_values.specs.declared.base.value.Dynamic.{Dynamic}
+use Rattle.rhai_spots.specs.declared.spot.Spot.{Spot}
+use Rattle.rhai_spots.specs.Parts.{IsPlace, value_at, with_value}
 
 module _ (H : Type 0) where
   -- what is written at a place is read there, and what stands at another place stays

@@ -4,22 +4,19 @@ use Rattle.std.specs.Borrow.{Lends, follows_so, MutBor, RattleType, Fml, GName}
 use mathlib.Core.Option as maybe
 use Rattle.rhai_values.specs.contracts.base.value.Dynamic as dynamic
 use Rattle.rhai_values.specs.contracts.base.value.Union as union
-use Rattle.rhai_places.specs.contracts.target.Part as part
-use Rattle.rhai_places.specs.Types.{Dynamic, EvalAltResult, Part, Spot}
+use Rattle.rhai_values.specs.declared.base.value.Dynamic.{Dynamic}
+use Rattle.rhai_errors.specs.declared.error.EvalAltResult.{EvalAltResult}
+use Rattle.rhai_spots.specs.declared.spot.Spot.{Spot}
 use Rattle.rhai_values.specs.declared.base.value.Union.{Union, out-Union}
 use Rattle.rhai_places.specs.declared.target.Target.{Target}
-use Rattle.rhai_places.specs.Parts.{with_value_in}
-use Rattle.rhai_places.specs.Found.{EndsBy}
-use Rattle.rhai_places.specs.Targets.{with_place, with_shown}
+use Rattle.rhai_spots.specs.Parts.{with_value_in}
+use Rattle.rhai_spots.specs.Found.{EndsBy}
+use Rattle.rhai_spots.specs.Targets.{with_place}
 
 module _ (H : RattleType) where
   -- the place that is lent ends with what it was changed to
   abbrev pub lends_place : MutBor (Union H.Denot) → Spot → MutBor (Dynamic H.Denot) → Fml
   lends_place s at r = Lends (union.the_row H) (dynamic.the_row H) s r (with_value_in s.now (out-Union H.Denot s.now) at)
-
-  -- a temporary or a part ends with what it was changed to
-  abbrev pub lends_shown : MutBor (Part H.Denot) → MutBor (Dynamic H.Denot) → Fml
-  lends_shown s r = Lends (part.the_row H) (dynamic.the_row H) s r (with_shown s.now)
 
   -- the place that a result borrows
   abbrev pub result_name : Result (Target H.Denot) (EvalAltResult H.Denot) → maybe.Option GName

@@ -1,13 +1,3 @@
-pub mod Bits
-pub mod Characters
-pub mod Found
-pub mod Indexing
 pub mod Laws
 pub mod Lends
-pub mod Parts
 pub mod PathLaws
-pub mod Paths
-pub mod PutBack
-pub mod Refusals
-pub mod Targets
-pub mod Types

@@ -1,7 +1,7 @@
 -- Laws of paths: what is written is read, what stands off the path stays, and what goes back step by step is written at its end.
 use Rattle.std.specs.Prelude.{◌≡◌, List, [], ◌∷◌, ◌++◌, Some}
 use Rattle.rhai_values.specs.declared.base.value.Dynamic.{Dynamic}
-use Rattle.rhai_places.specs.Paths.{IsPlain, IsSimple, Parts, Rooted, Step, gone_back, next, read, write}
+use Rattle.rhai_spots.specs.Paths.{IsPlain, IsSimple, Parts, Rooted, Step, gone_back, next, read, write}
 
 module _ (H : Type 0) where
   -- what is written at a path's end is read there, what stands off it stays, and going back step by step writes it at once

@@ -2,7 +2,7 @@
 //! cite specs/Bits.antt.
 
 ghost use Rattle.std.specs.Prelude.{◌≡◌, ◌<◌, ◌≤◌, ◌-◌, ◌^◌};
-ghost use Rattle.rhai_places.specs.Bits as spec;
+ghost use Rattle.rhai_spots.specs.Bits as spec;
 
 /// Reads a bit of an integer, counted from the lowest.
 pub fn bit(number: i64, at: usize) -> bool

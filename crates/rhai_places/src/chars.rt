@@ -3,7 +3,7 @@
 
 ghost use Rattle.std.specs.Prelude.{◌≡◌, ◌<◌, ◌≤◌, length, take, drop, IfOk};
 ghost use Rattle.std.specs.Str.{chars, encode_utf8_all, IsCharBoundary};
-ghost use Rattle.rhai_places.specs.Characters as spec;
+ghost use Rattle.rhai_spots.specs.Characters as spec;
 
 use rhai_tree::Text;
 use std::alloc::{AllocError, Global};

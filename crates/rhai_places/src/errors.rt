@@ -2,13 +2,12 @@
 
 ghost use Rattle.std.specs.Prelude.{◌≡◌, IfOk};
 ghost use Rattle.rhai_values.specs.Cells.{cells_of};
-ghost use Rattle.rhai_state.specs.Errors.{indexing_text as indexed_text};
-ghost use Rattle.rhai_places.specs.Refusals.{IsTold, refused};
+ghost use Rattle.rhai_spots.specs.Refusals.{IsTold, refused};
 
-use crate::spot::{Access, Refusal};
-use rhai_state::error::EvalAltResult;
-use rhai_state::errors::type_mismatch;
-use rhai_tree::{Boxed, Shared, Text};
+use rhai_errors::error::EvalAltResult;
+use rhai_errors::errors::{indexing_text, type_mismatch};
+use rhai_spots::spot::{Access, Refusal};
+use rhai_tree::{Boxed, Shared};
 use rhai_values::base::value::{Dynamic, Host};
 use rhai_values::cells::CellStore;
 use std::alloc::{AllocError, Global};
@@ -68,15 +67,4 @@ fn refusal_error<H: Host>(
             Ok(EvalAltResult::ErrorIndexingType(Shared::new(alloc, text)?, op_pos))
         }
     }
-}
-
-/// Writes the text of a value and an index that do not go together.
-pub fn indexing_text(alloc: Global, object: &str, index: &str) -> Result<Text, AllocError>
-    ensures { IfOk result (λ t. t ≡ indexed_text object.now index.now) }
-{
-    let mut text = String::from_str(alloc, object)?;
-    text.push_str(" [")?;
-    text.push_str(index)?;
-    text.push_str("]")?;
-    Ok(Text::from_string(text))
 }

@@ -11,5 +11,4 @@ pub mod locate;
 pub mod part;
 pub mod place;
 pub mod put;
-pub mod spot;
 pub mod target;

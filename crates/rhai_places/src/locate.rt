@@ -4,15 +4,15 @@
 ghost use Rattle.std.specs.Prelude.{◌≡◌, ◌<◌, ◌≤◌, length, IfOk, IfSome, unsigned_abs};
 ghost use Rattle.std.specs.Str.{chars};
 ghost use Rattle.rhai_values.specs.Layers.{layer_of};
-ghost use Rattle.rhai_places.specs.Indexing.{index_in, slice_start, slice_spot, in_integer, in_text};
-ghost use Rattle.rhai_places.specs.Indexing.{in_array, in_blob, in_map, located};
-ghost use Rattle.rhai_places.specs.Indexing as spec;
-ghost use Rattle.rhai_places.specs.Parts.{IsThere, IsOfArray, IsOfBits, IsOfBlob, IsOfMap, IsOfText};
+ghost use Rattle.rhai_spots.specs.Indexing.{index_in, slice_start, slice_spot, in_integer, in_text};
+ghost use Rattle.rhai_spots.specs.Indexing.{in_array, in_blob, in_map, located};
+ghost use Rattle.rhai_spots.specs.Indexing as spec;
+ghost use Rattle.rhai_spots.specs.Parts.{IsThere, IsOfArray, IsOfBits, IsOfBlob, IsOfMap, IsOfText};
 ghost use Rattle.rhai_values.specs.declared.base.value.Union.{out-Union};
 
 use crate::chars::char_count;
-use crate::spot::{Refusal, Spot};
-use rhai_state::error::Bounds;
+use rhai_errors::error::Bounds;
+use rhai_spots::spot::{Refusal, Spot};
 use rhai_tree::Table;
 use rhai_values::base::value::{Dynamic, Union};
 

@@ -3,11 +3,11 @@
 
 ghost use Rattle.std.specs.Prelude.{◌≡◌, ◌↔◌, ◌<◌, true, pos, length, slice_index, IsTrue, IfOk, OnErr};
 ghost use Rattle.rhai_values.specs.Layers.{layer_of};
-ghost use Rattle.rhai_places.specs.Parts.{IsPart, part_of, is_slice};
+ghost use Rattle.rhai_spots.specs.Parts.{IsPart, part_of, is_slice};
 
 use crate::bits::{bit, field};
 use crate::chars::{char_at, char_count, slice};
-use crate::spot::Spot;
+use rhai_spots::spot::Spot;
 use rhai_tree::{Items, Shared};
 use rhai_values::base::value::{Dynamic, Union};
 use std::alloc::{AllocError, Global};

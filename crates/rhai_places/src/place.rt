@@ -4,10 +4,10 @@
 ghost use Rattle.std.specs.Prelude.{◌≡◌, Some};
 ghost use Rattle.std.specs.Borrow.{sem};
 ghost use Rattle.rhai_values.specs.declared.base.value.Union.{out-Union};
-ghost use Rattle.rhai_places.specs.Parts.{IsPlace, value_in};
+ghost use Rattle.rhai_spots.specs.Parts.{IsPlace, value_in};
 ghost use Rattle.rhai_places.specs.Lends.{lends_place};
 
-use crate::spot::Spot;
+use rhai_spots::spot::Spot;
 use rhai_values::base::value::{Dynamic, Union};
 
 /// Lends the item or the value at a place. What it is changed to stands there afterwards.

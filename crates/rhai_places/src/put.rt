@@ -4,18 +4,18 @@
 ghost use Rattle.std.specs.Prelude.{◌≡◌, ◌<◌, Some, None, IfErr, IsOk, IsSome, OnErr, OnOk, false};
 ghost use Rattle.rhai_values.specs.Layers.{layer_of};
 ghost use Rattle.rhai_values.specs.declared.base.value.FnPtrKind.TheOpen as layer;
-ghost use Rattle.rhai_places.specs.declared.spot.Spot.TheVariants as spot;
-ghost use Rattle.rhai_places.specs.Parts.{IsPart};
-ghost use Rattle.rhai_places.specs.PutBack.{IsNotPut, is_of_text, low_byte as low_byte_of, put, put_back};
-ghost use Rattle.rhai_places.specs.PutBack.{wanted as wanted_by};
-ghost use Rattle.rhai_state.specs.Errors.{is_out_of_memory, mismatch as mismatch_of};
+ghost use Rattle.rhai_spots.specs.declared.spot.Spot.TheVariants as spot;
+ghost use Rattle.rhai_spots.specs.Parts.{IsPart};
+ghost use Rattle.rhai_spots.specs.PutBack.{IsNotPut, is_of_text, low_byte as low_byte_of, put, put_back};
+ghost use Rattle.rhai_spots.specs.PutBack.{wanted as wanted_by};
+ghost use Rattle.rhai_errors.specs.Errors.{is_out_of_memory, mismatch as mismatch_of};
 ghost use Rattle.rhai_values.specs.TypeNames.{own_type_name};
 
 use crate::bits::{with_bit, with_field};
 use crate::chars::{with_char, with_slice};
-use crate::spot::Spot;
-use rhai_state::error::EvalAltResult;
-use rhai_state::errors::mismatch;
+use rhai_errors::error::EvalAltResult;
+use rhai_errors::errors::mismatch;
+use rhai_spots::spot::Spot;
 use rhai_tree::Shared;
 use rhai_tree::position::Position;
 use rhai_values::base::value::{Dynamic, Host, Union};

@@ -4,47 +4,16 @@
 ghost use Rattle.std.specs.Prelude.{◌≡◌, Some, true, false, IfErr, IfOk, IsOk, IsSome, OnErr, OnOk};
 ghost use Rattle.std.specs.Borrow.{sem};
 ghost use Rattle.rhai_tree.specs.Position.{none};
-ghost use Rattle.rhai_state.specs.declared.error.EvalAltResult.TheVariants as error;
-ghost use Rattle.rhai_places.specs.Targets.{is_place, taken_value};
+ghost use Rattle.rhai_errors.specs.declared.error.EvalAltResult.TheVariants as error;
+ghost use Rattle.rhai_spots.specs.Targets.{is_place, taken_value};
 
 use crate::part::is_part;
 use crate::put::put_part;
-use crate::spot::Spot;
-use rhai_state::error::EvalAltResult;
+use rhai_errors::error::EvalAltResult;
+use rhai_spots::part::Part;
 use rhai_tree::position::Position;
 use rhai_values::base::value::{Dynamic, Host, Union};
 use std::alloc::Global;
-
-/// What a target shows of its place.
-#[derive(Drop)]
-pub enum Part<H> {
-    /// The place itself.
-    Whole,
-    /// A value that stands in no place. What the target borrows is not touched.
-    Temporary(Dynamic<H>),
-    /// A bit, a bit field, a byte, a character or a slice of the value at the place, as it was
-    /// read or has been changed since.
-    Of(Spot, Dynamic<H>),
-}
-
-impl<H> Part<H> {
-    ghost use Rattle.rhai_places.specs.Lends.{lends_shown};
-    ghost use Rattle.rhai_places.specs.Targets.{is_place, shown};
-
-    /// Lends the value shown beside the place, to be changed: a temporary, or a part as it was read. When the
-    /// borrow ends it is what it was changed to. Asked: it is not the place that is shown.
-    pub fn value_mut(&mut self) -> &mut Dynamic<H>
-        requires { is_place self.old ≡ false }
-        ensures* writes_back { sem 𝓛 (lends_shown H.row self.entry result) }
-        ensures value { (place : _) → result.now ≡ shown self.old place }
-    {
-        match self {
-            Part::Temporary(value) => value,
-            Part::Of(_, value) => value,
-            Part::Whole => unreachable!(),
-        }
-    }
-}
 
 /// A borrowed place, a temporary, or a part of the value at a borrowed place. Ports upstream's
 /// `Target`.
@@ -55,7 +24,7 @@ pub struct Target<'t, H> {
 }
 
 impl<'t, H> Target<'t, H> {
-    ghost use Rattle.rhai_places.specs.Targets.{shown, is_place, is_temporary, is_shared as shows_handle};
+    ghost use Rattle.rhai_spots.specs.Targets.{shown, is_place, is_temporary, is_shared as shows_handle};
 
     /// Returns the value that the target shows.
     pub fn as_ref(&self) -> &Dynamic<H>
@@ -133,8 +102,8 @@ pub fn take_shown<H: Host>(
 }
 
 impl<'t, H: Host> Target<'t, H> {
-    ghost use Rattle.rhai_places.specs.Targets.{is_of_a_text, is_place, propagated, taken_value, IsFit};
-    ghost use Rattle.rhai_places.specs.Targets.{IsNotPropagated};
+    ghost use Rattle.rhai_spots.specs.Targets.{is_of_a_text, is_place, propagated, taken_value, IsFit};
+    ghost use Rattle.rhai_spots.specs.Targets.{IsNotPropagated};
 
     /// Takes the value of the target: a copy of a place, a temporary or a part as it is. The place stays as
     /// it is: that is said by `take_shown`, which this calls.

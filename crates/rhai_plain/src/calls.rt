@@ -3,9 +3,9 @@
 ghost use Rattle.std.specs.Prelude.{◌≡◌, ◌≢◌, ◌<◌, ◌≤◌, ◌+◌, [], Err, IsTrue, None, Some, false, length, map, true};
 ghost use Rattle.std.specs.Option.{option_copied};
 ghost use Rattle.rhai_values.specs.Cells.{cells_of};
-ghost use Rattle.rhai_state.specs.Errors.{is_out_of_memory};
+ghost use Rattle.rhai_errors.specs.Errors.{is_out_of_memory};
 ghost use Rattle.rhai_state.specs.Scope.{entries_of, scope_of, value_of};
-ghost use Rattle.rhai_state.specs.declared.error.EvalAltResult.TheVariants as error;
+ghost use Rattle.rhai_errors.specs.declared.error.EvalAltResult.TheVariants as error;
 ghost use Rattle.rhai_machine.specs.language.Activations as machine;
 ghost use Rattle.rhai_machine.specs.language.Bodies.{statements_of as statements_in};
 ghost use Rattle.rhai_machine.specs.language.Calls.{races};
@@ -22,7 +22,7 @@ use rhai_bodies::opening::{CallExit, enter_level, may_run, statements_of, take_b
 use rhai_context::ends::put_unit;
 use rhai_context::outcomes::charge;
 use rhai_context::{Caller, Context, enter_variables, leave_variables};
-use rhai_state::error::EvalAltResult;
+use rhai_errors::error::EvalAltResult;
 use rhai_state::limits::Limits;
 use rhai_state::scope::ScopeEntry;
 use rhai_state::state::GlobalRuntimeState;

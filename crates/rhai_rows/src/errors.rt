@@ -2,9 +2,9 @@
 
 use crate::maker::Maker;
 use crate::sheet::Sheet;
+use rhai_errors::error::{Bounds, FunctionCallError, TypeMismatch};
+use rhai_errors::errors::shared_text;
 use rhai_eval_base::base::{Boxed, Dynamic, EvalAltResult, Position, Shared, Text, Union};
-use rhai_state::error::{Bounds, FunctionCallError, TypeMismatch};
-use rhai_state::errors::shared_text;
 use rhai_tables::host::Pair;
 use std::alloc::{AllocError, Global};
 use std::io;

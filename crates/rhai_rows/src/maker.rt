@@ -2,10 +2,10 @@
 
 ghost use Rattle.rhai_values.specs.Cells.{IsNoHandle};
 
+use rhai_errors::errors::shared_text;
 use rhai_eval_base::base::{
     AccessMode, Boxed, Dynamic, FnPtr, FnPtrKind, Items, Scope, Shared, Table, Text, Union,
 };
-use rhai_state::errors::shared_text;
 use rhai_tables::host::Pair;
 use std::alloc::{AllocError, Global};
 

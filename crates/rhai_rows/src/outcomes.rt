@@ -2,10 +2,10 @@
 
 use crate::outcome::{Ending, Outcome};
 use crate::sheet::Sheet;
+use rhai_errors::error::Bounds;
 use rhai_eval_base::base::{AccessMode, CellId, EvalAltResult, Scope, ScopeEntry, Shared, Text};
 use rhai_eval_base::cells::CellStore;
 use rhai_eval_base::state::Import;
-use rhai_state::error::Bounds;
 use rhai_tables::host::Pair;
 use std::alloc::Global;
 use std::io;

@@ -26,7 +26,7 @@ use Rattle.rhai_values.specs.declared.base.value.FnPtrKind.TheBlock.{more_of-Uni
 use Rattle.rhai_values.specs.declared.base.value.FnPtrKind.TheBlock.{Row_of-Union-Map-0-1 as Map_row, end_of-Union-Map-0-1 as map_end}
 use Rattle.rhai_values.specs.declared.base.value.FnPtrKind.TheBlock.{more_of-Union-Map-0-1 as map_more}
 use Rattle.rhai_values.specs.declared.base.value.Union.{Union, Array', Map'}
-use Rattle.rhai_state.specs.declared.error.EvalAltResult.TheVariants as error
+use Rattle.rhai_errors.specs.declared.error.EvalAltResult.TheVariants as error
 use Rattle.rhai_state.specs.declared.scope.ScopeEntry.{ScopeEntry}
 use Rattle.rhai_machine.specs.language.State.{Local}
 use Rattle.rhai_machine.specs.language.Frames.{Frame, Back, Fail, core}

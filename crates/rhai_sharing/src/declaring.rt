@@ -6,7 +6,7 @@ ghost use Rattle.std.specs.Prelude.{is_none, length, slice_get};
 ghost use Rattle.std.specs.Option.{option_map};
 ghost use Rattle.rhai_tree.specs.Forms.{is_exported as exported};
 ghost use Rattle.rhai_tree.specs.Frame.{var_names};
-ghost use Rattle.rhai_state.specs.Errors.{is_out_of_memory};
+ghost use Rattle.rhai_errors.specs.Errors.{is_out_of_memory};
 ghost use Rattle.rhai_state.specs.Scope.{entries_of, index_of, names_in, value_of};
 ghost use Rattle.rhai_machine.specs.language.State.{Answers};
 ghost use Rattle.rhai_machine.specs.language.Statements.{constant_core, enters};
@@ -18,7 +18,7 @@ ghost use Rattle.rhai_context.specs.Ends.{came, error_in};
 ghost use Rattle.rhai_sharing.specs.Declares.{own_alias, Declares, Misses};
 
 use rhai_context::ends::{stop, take_value};
-use rhai_state::error::EvalAltResult;
+use rhai_errors::error::EvalAltResult;
 use rhai_state::limits::Limits;
 use rhai_state::scope::Scope;
 use rhai_state::state::GlobalRuntimeState;

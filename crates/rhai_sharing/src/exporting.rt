@@ -12,11 +12,11 @@ ghost use Rattle.rhai_steps.specs.States.{state_of};
 ghost use Rattle.rhai_context.specs.Ends.{came};
 
 use rhai_context::ends::{put_unit, stop};
-use rhai_state::error::EvalAltResult;
-use rhai_state::errors::variable_not_found;
+use rhai_errors::error::EvalAltResult;
+use rhai_errors::errors::variable_not_found;
+use rhai_errors::table::NativeTable;
 use rhai_state::scope::Scope;
 use rhai_state::session::Session;
-use rhai_state::table::NativeTable;
 use rhai_tree::expr::Ident;
 use rhai_tree::{Shared, Text};
 use rhai_values::base::value::{Dynamic, Host};

@@ -5,7 +5,7 @@
 ghost use Rattle.std.specs.Prelude.{◌≡◌, ◌<◌, IfErr, IfSome, OnErr, OnOk, Some, length, true};
 ghost use Rattle.rhai_tree.specs.Frame.{shared_resolve};
 ghost use Rattle.rhai_values.specs.Cells.{cells_of};
-ghost use Rattle.rhai_state.specs.Errors.{is_out_of_memory};
+ghost use Rattle.rhai_errors.specs.Errors.{is_out_of_memory};
 ghost use Rattle.rhai_state.specs.Scope.{entries_of, names_in, value_in};
 ghost use Rattle.rhai_machine.specs.language.Frames.{Share};
 ghost use Rattle.rhai_machine.specs.language.Runs.{Runs};
@@ -20,12 +20,12 @@ pub mod declaring;
 pub mod exporting;
 
 use rhai_context::ends::settle;
-use rhai_state::error::EvalAltResult;
-use rhai_state::errors::variable_not_found;
+use rhai_errors::error::EvalAltResult;
+use rhai_errors::errors::variable_not_found;
+use rhai_errors::table::NativeTable;
 use rhai_state::scope::Scope;
 use rhai_state::session::Session;
 use rhai_state::state::GlobalRuntimeState;
-use rhai_state::table::NativeTable;
 use rhai_steps::values::unit_value;
 use rhai_steps::variables::index_of_variable;
 use rhai_tree::expr::SharedVariable;

@@ -14,7 +14,7 @@ use Rattle.rhai_values.specs.declared.base.value.Union.TheVariants as value
 use Rattle.rhai_values.specs.Cells.{cells_of, IsNoHandle}
 use Rattle.rhai_state.specs.declared.scope.Scope.{Scope}
 use Rattle.rhai_state.specs.declared.state.GlobalRuntimeState.{GlobalRuntimeState}
-use Rattle.rhai_state.specs.ValueContents.{Reached, Cell, Function, Constants}
+use Rattle.rhai_values.specs.ValueContents.{Reached, Cell, Function, Constants}
 use Rattle.rhai_state.specs.Reached.{Reaches, reached_from}
 use Rattle.rhai_state.specs.Fitting.{FitsTogether}
 use Rattle.rhai_state.specs.Deciding.{has_table, is_there, are_there, is_no_handle, is_sealed}

@@ -13,7 +13,7 @@ use Rattle.rhai_values.specs.declared.base.value.Union.TheVariants.{rolls-Array,
 use Rattle.rhai_values.specs.declared.base.value.FnPtrKind.TheFolds.{fold-Union, fold-roll-Union, fold_out-Dynamic}
 use Rattle.rhai_values.specs.declared.base.value.FnPtrKind.TheFolds.{fold_out-EncapsulatedEnviron, fold_out-FnPtr}
 use Rattle.rhai_values.specs.declared.base.value.FnPtrKind.TheFolds.{fold_out-Import, fold_out-Module, fold_out-ModuleFn}
-use Rattle.rhai_state.specs.ValueContents.{Constants, Function, each, in_kind, in_union}
+use Rattle.rhai_values.specs.ValueContents.{Constants, Function, each, in_kind, in_union}
 use Rattle.rhai_state.specs.Reached.{ReachedList, nothing, in_value, in_environ, in_pointer, in_import, in_module, in_function}
 use Rattle.rhai_state.specs.Reached.{value_holds, pointer_holds, kind_holds, environ_holds, import_holds, module_holds, function_holds}
 

@@ -6,7 +6,7 @@ use Rattle.rhai_values.specs.declared.base.value.Union.{Union}
 use Rattle.rhai_values.specs.declared.base.value.Union.TheVariants as value
 use Rattle.rhai_values.specs.Cells.{cells_of, value_of_cell}
 use Rattle.rhai_state.specs.declared.state.GlobalRuntimeState.{GlobalRuntimeState}
-use Rattle.rhai_state.specs.ValueContents.{Reached, Cell, Function, Constants}
+use Rattle.rhai_values.specs.ValueContents.{Reached, Cell, Function, Constants}
 
 module _ {H : Type 0} where
   -- the state has the cell of a number, and the cell is not held

@@ -4,7 +4,7 @@ use Rattle.rhai_values.specs.declared.base.value.Dynamic.{Dynamic}
 use Rattle.rhai_values.specs.Cells.{cells_of, value_of_cell, IsHeld, IsNoHandle}
 use Rattle.rhai_state.specs.declared.scope.Scope.{Scope}
 use Rattle.rhai_state.specs.declared.state.GlobalRuntimeState.{GlobalRuntimeState}
-use Rattle.rhai_state.specs.ValueContents.{Cell, Constants}
+use Rattle.rhai_values.specs.ValueContents.{Cell, Constants}
 use Rattle.rhai_state.specs.Reached.{Reaches}
 
 module _ {H : Type 0} where

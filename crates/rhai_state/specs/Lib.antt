@@ -1,12 +1,9 @@
 pub mod Caches
 pub mod Deciding
-pub mod Errors
 pub mod Fitting
 pub mod Lends
 pub mod Limits
-pub mod Native
 pub mod Newest
-pub mod ValueContents
 pub mod Reached
 pub mod Scope
 pub mod Slots

@@ -15,7 +15,7 @@ use Rattle.rhai_values.specs.Cells.{cells_of}
 use Rattle.rhai_state.specs.declared.scope.Scope.{Scope}
 use Rattle.rhai_state.specs.declared.scope.ScopeEntry.{ScopeEntry}
 use Rattle.rhai_state.specs.declared.state.GlobalRuntimeState.{GlobalRuntimeState}
-use Rattle.rhai_state.specs.ValueContents.{Reached, Function, Constants, each, maybe, in_kind, in_union, contents_of}
+use Rattle.rhai_values.specs.ValueContents.{Reached, Function, Constants, each, maybe, in_kind, in_union, contents_of}
 use Rattle.rhai_state.specs.Scope.{entries_of}
 
 -- what stands in something, as a list of cells, script functions and tables of constants

@@ -8,10 +8,10 @@ use Rattle.rhai_values.specs.declared.base.value.Dynamic.{Dynamic}
 use Rattle.rhai_values.specs.declared.base.value.Union.TheVariants as value
 use Rattle.rhai_values.specs.Copy.{plain}
 use Rattle.rhai_values.specs.TypeNames.{type_name_of}
-use Rattle.rhai_state.specs.declared.error.EvalAltResult.{EvalAltResult}
-use Rattle.rhai_state.specs.declared.error.EvalAltResult.TheVariants as error
+use Rattle.rhai_errors.specs.declared.error.EvalAltResult.{EvalAltResult}
+use Rattle.rhai_errors.specs.declared.error.EvalAltResult.TheVariants as error
 use Rattle.rhai_state.specs.declared.limits.Limits.{Limits}
-use Rattle.rhai_state.specs.Errors.{is_out_of_memory, at_position}
+use Rattle.rhai_errors.specs.Errors.{is_out_of_memory, at_position}
 use Rattle.rhai_functions.specs.declared.function.Function.{Function}
 use Rattle.rhai_operators.specs.Answers as operators
 use Rattle.rhai_machine.specs.machine.Memory.{here, out_before_step, Leads}

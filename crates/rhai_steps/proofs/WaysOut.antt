@@ -1,9 +1,9 @@
 -- An error that is no way out passes a loop and a script's end.
 use Rattle.std.proofs.Common.{◌≡◌, Bool, true, false, Err}
-use Rattle.rhai_state.specs.declared.error.EvalAltResult.{EvalAltResult}
-use Rattle.rhai_state.specs.declared.error.EvalAltResult.TheVariants as error
-use Rattle.rhai_state.specs.declared.error.WayOut.TheVariants as way
-use Rattle.rhai_state.specs.Errors.{way_out_of}
+use Rattle.rhai_errors.specs.declared.error.EvalAltResult.{EvalAltResult}
+use Rattle.rhai_errors.specs.declared.error.EvalAltResult.TheVariants as error
+use Rattle.rhai_errors.specs.declared.error.WayOut.TheVariants as way
+use Rattle.rhai_errors.specs.Errors.{way_out_of}
 use Rattle.rhai_machine.specs.language.Unwinding.{script_ended}
 use Rattle.rhai_steps.specs.Loops.{turn_in}
 

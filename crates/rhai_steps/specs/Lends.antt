@@ -6,7 +6,7 @@ use Rattle.rhai_values.specs.contracts.base.value.Dynamic as dynamic
 use Rattle.rhai_values.specs.declared.base.value.Dynamic.{Dynamic}
 use Rattle.rhai_state.specs.contracts.scope.Scope as scope
 use Rattle.rhai_state.specs.declared.scope.Scope.{Scope}
-use Rattle.rhai_state.specs.declared.error.EvalAltResult.{EvalAltResult}
+use Rattle.rhai_errors.specs.declared.error.EvalAltResult.{EvalAltResult}
 use Rattle.rhai_state.specs.Scope.{entries_of, place_of, revalued}
 
 module _ {H : Type 0} where

@@ -1,6 +1,6 @@
 -- What a run has from its engine, as the rules of the machine have it.
 use Rattle.std.specs.Prelude.{ℕ, List}
-use Rattle.rhai_state.specs.Native.{Natives}
+use Rattle.rhai_errors.specs.Native.{Natives}
 use Rattle.rhai_state.specs.declared.session.Session.{Session}
 use Rattle.rhai_machine.specs.language.Setting.{Offer, Rules, rules_of}
 

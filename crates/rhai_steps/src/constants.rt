@@ -4,7 +4,7 @@
 ghost use Rattle.std.specs.Prelude.{◌≡◌, OnOk, OnErr, IfErr, slice_get, true};
 ghost use Rattle.std.specs.List.{list_any};
 ghost use Rattle.rhai_values.specs.Copy.{copy_of};
-ghost use Rattle.rhai_state.specs.Errors.{is_out_of_memory};
+ghost use Rattle.rhai_errors.specs.Errors.{is_out_of_memory};
 ghost use Rattle.rhai_machine.specs.language.Statements.{constant_core, enters as enters_in};
 ghost use Rattle.rhai_machine.specs.language.Statements.{has_some as has_some_in, with_entry_at};
 ghost use Rattle.rhai_steps.specs.Agreement.{KeepsSight};
@@ -12,7 +12,7 @@ ghost use Rattle.rhai_steps.specs.States.{local_of};
 
 use crate::values::copy;
 use bitflags::Flags;
-use rhai_state::error::EvalAltResult;
+use rhai_errors::error::EvalAltResult;
 use rhai_state::state::GlobalRuntimeState;
 use rhai_tree::flags::ASTFlags;
 use rhai_tree::position::Position;

@@ -9,7 +9,7 @@ ghost use Rattle.rhai_steps.specs.Loops.{after_body, after_test, turn_in};
 
 use crate::values::{let_go, unit_value};
 use bitflags::Flags;
-use rhai_state::error::{EvalAltResult, WayOut};
+use rhai_errors::error::{EvalAltResult, WayOut};
 use rhai_tree::expr::{Expr, Stmt, StmtBlock};
 use rhai_tree::flags::ASTFlags;
 use rhai_values::base::value::{Dynamic, Host};

@@ -3,7 +3,7 @@
 ghost use Rattle.std.specs.Prelude.{◌≡◌, Ok, IfOk, IfErr};
 ghost use Rattle.rhai_machine.specs.language.Unwinding.{script_ended};
 
-use rhai_state::error::{EvalAltResult, WayOut};
+use rhai_errors::error::{EvalAltResult, WayOut};
 use rhai_values::base::value::{Dynamic, Host};
 
 /// Tells what a script's end makes of an error. A `return` gives its value, and so does an exit where that is

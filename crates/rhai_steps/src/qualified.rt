@@ -2,8 +2,8 @@
 
 ghost use Rattle.std.specs.Prelude.{◌≡◌, ◌++◌, ◌∷◌, [], IfOk, Ok, OnOk, false};
 ghost use Rattle.std.specs.String.{string_bytes};
-ghost use Rattle.rhai_state.specs.Errors.{is_out_of_memory};
-ghost use Rattle.rhai_state.specs.declared.error.EvalAltResult.TheVariants as error;
+ghost use Rattle.rhai_errors.specs.Errors.{is_out_of_memory};
+ghost use Rattle.rhai_errors.specs.declared.error.EvalAltResult.TheVariants as error;
 ghost use Rattle.rhai_tree.specs.Lookup.{value_of};
 ghost use Rattle.rhai_machine.specs.language.Names.{own_constants};
 ghost use Rattle.rhai_machine.specs.language.State.{Answers};
@@ -12,8 +12,8 @@ ghost use Rattle.rhai_functions.specs.Qualified.{text_behind, found_or_missing, 
 ghost use Rattle.std.specs.Option.{option_copied};
 
 use crate::values::copy;
+use rhai_errors::error::EvalAltResult;
 use rhai_functions::paths::{find_constant, find_down, find_root};
-use rhai_state::error::EvalAltResult;
 use rhai_state::session::Session;
 use rhai_state::state::GlobalRuntimeState;
 use rhai_tree::position::Position;

@@ -11,9 +11,9 @@ ghost use Rattle.rhai_machine.specs.language.Values.{is_truth, through, truth, t
 ghost use Rattle.rhai_machine.specs.language.Values.{unit_value as unit, used};
 ghost use Rattle.rhai_steps.specs.Values.{unit_seen};
 
+use rhai_errors::error::EvalAltResult;
+use rhai_errors::errors::{data_race, mismatch};
 use rhai_few::Few;
-use rhai_state::error::EvalAltResult;
-use rhai_state::errors::{data_race, mismatch};
 use rhai_tree::literal::Literal;
 use rhai_tree::position::Position;
 use rhai_tree::{Items, Shared, Text};

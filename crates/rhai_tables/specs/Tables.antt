@@ -1,7 +1,7 @@
 -- What the bench's tables answer.
 use Rattle.std.specs.Prelude.{ℕ, List, [], true, refl}
-use Rattle.rhai_state.specs.Native.{Effect, Request, Missing, Natives, Leaves, Lawful, ByState, ByFirst, effect}
-use Rattle.rhai_state.specs.ValueContents.{Holdings}
+use Rattle.rhai_errors.specs.Native.{Effect, Request, Missing, Natives, Leaves, Lawful, ByState, ByFirst, effect}
+use Rattle.rhai_values.specs.ValueContents.{Holdings}
 
 -- the state of a table that has none
 abbrev pub Stateless : Type 0

@@ -1,12 +1,12 @@
 //! The bench's tables of natives.
 
 ghost use Rattle.std.specs.Prelude.{◌≡◌, Some};
-ghost use Rattle.rhai_state.specs.Native.{Missing, reply_of};
+ghost use Rattle.rhai_errors.specs.Native.{Missing, reply_of};
 
 pub mod counting;
 
 use crate::host::Pair;
-use rhai_state::table::{Answer, NativeTable};
+use rhai_errors::table::{Answer, NativeTable};
 use rhai_tree::literal::NativeId;
 use rhai_tree::position::Position;
 use rhai_values::base::value::Dynamic;

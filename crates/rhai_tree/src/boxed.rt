@@ -6,9 +6,17 @@ use std::alloc::{AllocError, AllocFailed, Global};
 use std::marker::Model;
 
 /// A `Box` that contracts see as its value.
-#[derive(Debug, Drop)]
+#[derive(Debug)]
 pub struct Boxed<T> {
     inner: Box<T>,
+}
+
+// Written by hand, so that the crates above call this, and need not go through the field.
+impl<T: Drop> Drop for Boxed<T> {
+    #[inline(always)]
+    fn drop(self) {
+        let Boxed { inner: _ } = self;
+    }
 }
 
 impl<T> Model for Boxed<T> {

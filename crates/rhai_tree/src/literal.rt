@@ -15,7 +15,6 @@ pub struct NativeId {
 /// A constant of the tree: a value without access modes, and without host values, cells, checked
 /// functions or environments.
 #[cycle(literal)]
-#[derive(Drop)]
 pub enum Literal {
     Unit,
     Bool(bool),
@@ -30,13 +29,45 @@ pub enum Literal {
     FnPtr(LiteralFnPtr),
 }
 
+// Written by hand, so that whoever lets a constant go calls this, and need not go through its
+// variants there.
+impl Drop for Literal {
+    #[cycle(literal)]
+    fn drop(self) {
+        match self {
+            Literal::Str(text) => drop(text),
+            Literal::Array(items) => drop(items),
+            Literal::Blob(bytes) => drop(bytes),
+            Literal::Map(entries) => drop(entries),
+            Literal::FnPtr(pointer) => drop(pointer),
+            Literal::Unit
+            | Literal::Bool(_)
+            | Literal::Int(_)
+            | Literal::Char(_)
+            | Literal::ExclusiveRange(_, _)
+            | Literal::InclusiveRange(_, _) => {}
+        }
+    }
+}
+
 /// A constant pointer to a function.
 #[cycle(literal)]
-#[derive(Drop)]
 pub struct LiteralFnPtr {
     pub name: Shared<Text>,
     pub curry: Items<Literal>,
     pub kind: LiteralFnPtrKind,
+}
+
+// Written by hand for the same reason.
+impl Drop for LiteralFnPtr {
+    #[cycle(literal)]
+    fn drop(self) {
+        let LiteralFnPtr {
+            name: _,
+            curry: _,
+            kind: _,
+        } = self;
+    }
 }
 
 /// What a constant pointer leads to.

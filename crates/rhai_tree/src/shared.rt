@@ -7,9 +7,16 @@ use std::marker::Model;
 use std::rc::Rc;
 
 /// An `Rc` that contracts see as its value.
-#[derive(Drop)]
 pub struct Shared<T> {
     inner: Rc<T>,
+}
+
+// Written by hand, so that the crates above call this, and need not go through the field.
+impl<T: Drop> Drop for Shared<T> {
+    #[inline(always)]
+    fn drop(self) {
+        let Shared { inner: _ } = self;
+    }
 }
 
 impl<T> Model for Shared<T> {

@@ -14,10 +14,16 @@ use std::marker::Model;
 
 /// A map from texts, in the order of their bytes. Contracts see it as its keys, in order, and
 /// their values.
-#[derive(Drop)]
 pub struct Table<T> {
     keys: Items<Shared<Text>>,
     values: Items<T>,
+}
+
+// Written by hand, so that the crates above call this, and need not go through the fields.
+impl<T: Drop> Drop for Table<T> {
+    fn drop(self) {
+        let Table { keys: _, values: _ } = self;
+    }
 }
 
 impl<T> Model for Table<T> {

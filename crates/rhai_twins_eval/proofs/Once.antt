@@ -5,8 +5,8 @@ use Rattle.rhai_tree.specs.Position.{none}
 use Rattle.rhai_tree.specs.declared.position.Position.{Position}
 use Rattle.rhai_tree.specs.declared.expr.Stmt.{Stmt}
 use Rattle.rhai_values.specs.declared.base.value.Dynamic.{Dynamic}
-use Rattle.rhai_state.specs.declared.error.EvalAltResult.{EvalAltResult}
-use Rattle.rhai_state.specs.declared.error.EvalAltResult.TheVariants as error
+use Rattle.rhai_errors.specs.declared.error.EvalAltResult.{EvalAltResult}
+use Rattle.rhai_errors.specs.declared.error.EvalAltResult.TheVariants as error
 use Rattle.rhai_machine.specs.machine.Machine.{Halt}
 use Rattle.rhai_machine.specs.machine.Point.{Point, Reaches, here, next, after, ◌⨾◌}
 use Rattle.rhai_machine.specs.language.Setting.{Rules, cut}

@@ -3,12 +3,12 @@ use Rattle.std.proofs.Common.{◌≡◌, Bool, true, false, List, ℕ, Option, R
 use Rattle.rhai_values.specs.declared.base.value.Dynamic.{Dynamic}
 use Rattle.rhai_values.specs.Cells.{cells_of}
 use Rattle.rhai_values.specs.Layers.{layer_of}
-use Rattle.rhai_state.specs.declared.error.EvalAltResult.{EvalAltResult}
+use Rattle.rhai_errors.specs.declared.error.EvalAltResult.{EvalAltResult}
 use Rattle.rhai_state.specs.declared.limits.Limits.{Limits}
 use Rattle.rhai_state.specs.declared.state.GlobalRuntimeState.{GlobalRuntimeState}
-use Rattle.rhai_state.specs.Native.{Natives}
+use Rattle.rhai_errors.specs.Native.{Natives}
 use Rattle.rhai_machine.specs.language.State.{HasMemory}
-use Rattle.rhai_places.specs.declared.spot.Access.{Access}
+use Rattle.rhai_spots.specs.declared.spot.Access.{Access}
 use Rattle.rhai_places.specs.declared.target.Target.{Target}
 use Rattle.rhai_index.specs.Indexers.{effect_of, is_called, read_call, request_of}
 use Rattle.rhai_index.specs.Lends.{EndsRefused, MayEndAs}

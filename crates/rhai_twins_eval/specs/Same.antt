@@ -1,6 +1,6 @@
 -- Two ends of a run from one start.
 use Rattle.std.specs.Prelude.{◌≡◌, Result}
-use Rattle.rhai_state.specs.declared.error.EvalAltResult.{EvalAltResult}
+use Rattle.rhai_errors.specs.declared.error.EvalAltResult.{EvalAltResult}
 use Rattle.rhai_machine.specs.language.State.{HasMemory}
 
 -- the answers are one, and so is what is left, where neither run ended out of memory

@@ -2,20 +2,20 @@
 
 ghost use Rattle.std.specs.Prelude.{◌≡◌, Some};
 ghost use Rattle.rhai_values.specs.Cells.{IsNoHandle};
-ghost use Rattle.rhai_places.specs.Targets.{shown};
+ghost use Rattle.rhai_spots.specs.Targets.{shown};
 ghost use Rattle.rhai_machine.specs.language.State.{HasMemory};
 ghost use Rattle.rhai_calls.specs.Targets.{value_walked_on};
 ghost use Rattle.rhai_eval.specs.Places.{with_place};
 ghost use Rattle.rhai_steps.specs.States.{holding, state_of};
 ghost use Rattle.rhai_twins_eval.specs.Same.{Same};
 
+use rhai_errors::error::EvalAltResult;
+use rhai_errors::table::NativeTable;
 use rhai_eval::engine::Engine;
 use rhai_places::target::Target;
 use rhai_state::caches::Caches;
-use rhai_state::error::EvalAltResult;
 use rhai_state::scope::Scope;
 use rhai_state::state::GlobalRuntimeState;
-use rhai_state::table::NativeTable;
 use rhai_tree::expr::{Expr, OpAssignment};
 use rhai_tree::position::Position;
 use rhai_tree::token::Token;

@@ -4,8 +4,8 @@
 ghost use Rattle.rhai_machine.specs.language.Setting.{Offer, rules_of};
 ghost use Rattle.rhai_twins_eval.specs.AskedIndexer.{IndexerIsAsked};
 
+use rhai_errors::table::NativeTable;
 use rhai_state::limits::Limits;
-use rhai_state::table::NativeTable;
 use rhai_values::base::value::Host;
 use std::marker::PhantomData;
 

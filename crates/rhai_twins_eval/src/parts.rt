@@ -13,12 +13,12 @@ ghost use Rattle.rhai_steps.specs.Agreement.{AgreesAt, passes};
 ghost use Rattle.rhai_steps.specs.States.{holding, state_of};
 ghost use Rattle.rhai_twins_eval.specs.Same.{Same};
 
+use rhai_errors::error::EvalAltResult;
+use rhai_errors::table::NativeTable;
 use rhai_eval::engine::Engine;
 use rhai_state::caches::Caches;
-use rhai_state::error::EvalAltResult;
 use rhai_state::scope::Scope;
 use rhai_state::state::GlobalRuntimeState;
-use rhai_state::table::NativeTable;
 use rhai_tree::expr::{Expr, FnCallExpr, Namespace, OpAssignment, Stmt};
 use rhai_tree::position::Position;
 use rhai_tree::token::Token;

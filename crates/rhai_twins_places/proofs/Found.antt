@@ -1,10 +1,10 @@
 -- An index leads to one target, or is refused for one reason.
 use Rattle.std.proofs.Common.{◌≡◌, Result, Ok, Err, MatchResult, sym, subst, ◌∙◌}
 use Rattle.rhai_values.specs.declared.base.value.Dynamic.{Dynamic}
-use Rattle.rhai_state.specs.declared.error.EvalAltResult.{EvalAltResult}
-use Rattle.rhai_places.specs.declared.spot.Spot.{Spot}
+use Rattle.rhai_errors.specs.declared.error.EvalAltResult.{EvalAltResult}
+use Rattle.rhai_spots.specs.declared.spot.Spot.{Spot}
 use Rattle.rhai_places.specs.declared.target.Target.{Target}
-use Rattle.rhai_places.specs.Found.{IsFound, IsMissed}
+use Rattle.rhai_spots.specs.Found.{IsFound, IsMissed}
 use Rattle.rhai_twins_places.specs.Ends.{SameTarget, EndsOnce}
 
 module _ {H : Type 0} where

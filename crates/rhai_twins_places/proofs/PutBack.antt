@@ -2,11 +2,11 @@
 use Rattle.std.proofs.Common.{◌≡◌, ℕ, List, Some, Result, Ok, Err, false, refl, sym, ap, subst, ◌∙◌, OnOk, IfErr}
 use Rattle.rhai_tree.specs.declared.position.Position.{Position}
 use Rattle.rhai_values.specs.declared.base.value.Dynamic.{Dynamic}
-use Rattle.rhai_state.specs.declared.error.EvalAltResult.{EvalAltResult}
-use Rattle.rhai_state.specs.Errors.{is_out_of_memory}
-use Rattle.rhai_places.specs.declared.target.Part.{Part}
-use Rattle.rhai_places.specs.declared.target.Part.TheVariants as part
-use Rattle.rhai_places.specs.Targets.{propagated, IsNotPropagated}
+use Rattle.rhai_errors.specs.declared.error.EvalAltResult.{EvalAltResult}
+use Rattle.rhai_errors.specs.Errors.{is_out_of_memory}
+use Rattle.rhai_spots.specs.declared.part.Part.{Part}
+use Rattle.rhai_spots.specs.declared.part.Part.TheVariants as part
+use Rattle.rhai_spots.specs.Targets.{propagated, IsNotPropagated}
 use Rattle.rhai_twins_places.specs.Ends.{SameAnswer}
 
 module _ {H : Type 0} (name : H → List ℕ) (position : Position) where

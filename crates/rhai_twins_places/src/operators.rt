@@ -3,9 +3,9 @@
 ghost use Rattle.std.specs.Prelude.{◌≡◌};
 ghost use Rattle.rhai_twins_places.specs.Ends.{option_ran_out};
 
+use rhai_errors::error::EvalAltResult;
 use rhai_operators::direct::{assign_integers, compare_integers};
 use rhai_operators::{builtin_binary, builtin_op_assign, builtin_unary};
-use rhai_state::error::EvalAltResult;
 use rhai_tree::token::Token;
 use rhai_values::base::value::{Dynamic, Host};
 use std::alloc::Global;

@@ -1,14 +1,15 @@
 //! Targets.
 
 ghost use Rattle.std.specs.Prelude.{◌≡◌, false};
-ghost use Rattle.rhai_places.specs.Targets.{is_place};
+ghost use Rattle.rhai_spots.specs.Targets.{is_place};
 ghost use Rattle.rhai_twins_places.specs.Ends.{memory_ran_out, SameAnswer, SameTarget, EndsOnce};
 
+use rhai_errors::error::EvalAltResult;
 use rhai_places::indexing::get_indexed_mut;
-use rhai_places::spot::Access;
 use rhai_places::target;
-use rhai_places::target::{Part, Target};
-use rhai_state::error::EvalAltResult;
+use rhai_places::target::Target;
+use rhai_spots::part::Part;
+use rhai_spots::spot::Access;
 use rhai_tree::position::Position;
 use rhai_values::base::value::{Dynamic, Host};
 use rhai_values::cells::CellStore;

@@ -2,7 +2,7 @@
 
 ghost use Rattle.std.specs.Prelude.{◌≡◌};
 
-use rhai_state::error::{EvalAltResult, WayOut};
+use rhai_errors::error::{EvalAltResult, WayOut};
 use rhai_tree::position::Position;
 
 /// Shows that `EvalAltResult::way_out` makes equal ways out of equal errors.

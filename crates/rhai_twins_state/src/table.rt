@@ -1,10 +1,10 @@
 //! A table of natives, whatever it is: two that are in the same state answer the same.
 
 ghost use Rattle.std.specs.Prelude.{◌≡◌};
-ghost use Rattle.rhai_state.specs.Native.{reply_of, HasNoHandle};
+ghost use Rattle.rhai_errors.specs.Native.{reply_of, HasNoHandle};
 ghost use Rattle.rhai_twins_state.specs.Replies.{BothAnswer};
 
-use rhai_state::table::{Answer, NativeTable};
+use rhai_errors::table::{Answer, NativeTable};
 use rhai_tree::literal::NativeId;
 use rhai_tree::position::Position;
 use rhai_values::base::value::{Dynamic, Host};

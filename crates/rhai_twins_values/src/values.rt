@@ -2,15 +2,19 @@
 
 ghost use Rattle.std.specs.Prelude.{◌≡◌, is_ok};
 
-use rhai_tree::Shared;
 use rhai_tree::literal::Literal;
+use rhai_tree::{Items, Shared, Text};
 use rhai_values::base::hashable::literal_equals;
 use rhai_values::base::literal::literal_value;
 use rhai_values::base::value::{
-    AccessMode, Dynamic, EncapsulatedEnviron, Host, Import, Module, ModuleTable, Union,
+    AccessMode, Dynamic, EncapsulatedEnviron, FnPtr, FnPtrKind, Host, Import, Module, ModuleTable,
+    Union,
 };
 use rhai_values::cells::CellStore;
 use std::alloc::{AllocError, Global};
+
+/// What a pointer is taken apart into.
+type Parts<H> = (Shared<Text>, Items<Dynamic<H>>, FnPtrKind<H>);
 
 /// Shows that `Dynamic::new` builds equal values of equal content.
 pub fn value<H>(value: Union<H>, also_value: Union<H>) -> (Dynamic<H>, Dynamic<H>)
@@ -134,6 +138,14 @@ pub fn environ<H: Drop>(
     ensures { is_ok result.0 ≡ is_ok result.1 → result.0 ≡ result.1 }
 {
     (one.try_clone(alloc), other.try_clone(alloc))
+}
+
+/// Shows that `FnPtr::into_parts` hands out equal parts of equal pointers.
+pub fn into_parts<H>(one: FnPtr<H>, other: FnPtr<H>) -> (Parts<H>, Parts<H>)
+    requires { one ≡ other }
+    ensures { result.0 ≡ result.1 }
+{
+    (one.into_parts(), other.into_parts())
 }
 
 /// Shows that two calls of `Module::new` create equal modules.

@@ -8,3 +8,4 @@ pub mod Literals
 pub mod Modes
 pub mod Modules
 pub mod TypeNames
+pub mod ValueContents

@@ -3,7 +3,7 @@
 use crate::host::Stone;
 use crate::reader::Reader;
 use crate::sheet::Sheet;
-use rhai_state::errors::shared_text;
+use rhai_errors::errors::shared_text;
 use rhai_state::scope::Scope;
 use rhai_state::state::GlobalRuntimeState;
 use rhai_tree::checked::CheckedFn;

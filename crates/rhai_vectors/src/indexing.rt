@@ -3,10 +3,10 @@
 use crate::host::{Stone, cells};
 use crate::reader::Reader;
 use crate::sheet::Sheet;
+use rhai_errors::error::EvalAltResult;
 use rhai_places::indexing::get_indexed_mut;
-use rhai_places::spot::Access;
 use rhai_places::target::Target;
-use rhai_state::error::EvalAltResult;
+use rhai_spots::spot::Access;
 use rhai_tree::position::Position;
 use rhai_values::base::value::{Dynamic, Union};
 use rhai_values::cells::CellStore;

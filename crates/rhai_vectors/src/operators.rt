@@ -3,8 +3,8 @@
 use crate::host::Stone;
 use crate::reader::Reader;
 use crate::sheet::Sheet;
+use rhai_errors::error::EvalAltResult;
 use rhai_operators::{builtin_binary, builtin_op_assign, builtin_unary};
-use rhai_state::error::EvalAltResult;
 use rhai_tree::token::Token;
 use rhai_values::base::value::Dynamic;
 

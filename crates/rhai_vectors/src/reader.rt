@@ -2,7 +2,7 @@
 
 mod literals;
 
-use rhai_state::errors::shared_text;
+use rhai_errors::errors::shared_text;
 use rhai_tree::position::Position;
 use rhai_tree::{Boxed, Items, Shared, Text};
 use std::alloc::Global;

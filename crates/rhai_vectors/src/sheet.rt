@@ -3,7 +3,7 @@
 use crate::host::Stone;
 use crate::reader::Fault;
 use rhai_check::check::CheckFault;
-use rhai_state::error::{Bounds, EvalAltResult, TypeMismatch};
+use rhai_errors::error::{Bounds, EvalAltResult, TypeMismatch};
 use rhai_tree::position::Position;
 use rhai_values::base::value::{AccessMode, Dynamic};
 use std::alloc::{AllocError, Global};

@@ -3,18 +3,18 @@
 
 ghost use Rattle.std.specs.Prelude.{◌≡◌, None, IfSome, true};
 ghost use Rattle.rhai_values.specs.Layers.{layer_of};
-ghost use Rattle.rhai_places.specs.Parts.{IsPart, part_of};
-ghost use Rattle.rhai_state.specs.Errors.{is_out_of_memory};
+ghost use Rattle.rhai_spots.specs.Parts.{IsPart, part_of};
+ghost use Rattle.rhai_errors.specs.Errors.{is_out_of_memory};
 ghost use Rattle.rhai_machine.specs.language.Links.{first_position as first_position_in};
 ghost use Rattle.rhai_calls.specs.Targets.{ComesBack};
 ghost use Rattle.rhai_context.specs.Ends.{came_changed, error_in};
-ghost use Rattle.rhai_places.specs.declared.target.Part.TheVariants as part;
+ghost use Rattle.rhai_spots.specs.declared.part.Part.TheVariants as part;
 
 use rhai_context::ends::fail;
+use rhai_errors::error::EvalAltResult;
 use rhai_places::part::read_part;
 use rhai_places::put::put_part;
-use rhai_places::spot::Spot;
-use rhai_state::error::EvalAltResult;
+use rhai_spots::spot::Spot;
 use rhai_tree::expr::Expr;
 use rhai_tree::position::Position;
 use rhai_values::base::value::{Dynamic, Host};

@@ -21,9 +21,9 @@ use rhai_chains::chain::NewValue;
 use rhai_chains::links::Link;
 use rhai_chains::members::{MemberAccess, get_member};
 use rhai_context::ends::{fail, put, settle_changed};
-use rhai_state::error::EvalAltResult;
+use rhai_errors::error::EvalAltResult;
+use rhai_errors::table::NativeTable;
 use rhai_state::state::GlobalRuntimeState;
-use rhai_state::table::NativeTable;
 use rhai_values::base::value::{Dynamic, Host};
 
 /// Ends the chain in what an index or a key leads to, which is taken or assigned to. How it ended goes where

@@ -2,9 +2,9 @@
 
 ghost use Rattle.std.specs.Prelude.{◌≡◌, [], None, Some, false, is_some, true};
 ghost use Rattle.rhai_values.specs.Cells.{cells_of};
-ghost use Rattle.rhai_state.specs.Errors.{is_out_of_memory};
+ghost use Rattle.rhai_errors.specs.Errors.{is_out_of_memory};
 ghost use Rattle.rhai_state.specs.Scope.{entries_of};
-ghost use Rattle.rhai_state.specs.declared.error.EvalAltResult.TheVariants as error;
+ghost use Rattle.rhai_errors.specs.declared.error.EvalAltResult.TheVariants as error;
 ghost use Rattle.rhai_machine.specs.language.Calls.{is_held as held_in, races as races_in};
 ghost use Rattle.rhai_context.specs.Ends.{error_in};
 ghost use Rattle.rhai_walk.specs.Walking.{Enters, Leaves};
@@ -13,9 +13,9 @@ use crate::ways::{step_in, step_out};
 use rhai_calls::dispatch::{is_held, races};
 use rhai_context::ends::stop;
 use rhai_context::{Aside, Context, put_aside, take_up};
+use rhai_errors::error::EvalAltResult;
+use rhai_errors::errors::{data_race, data_race_by};
 use rhai_functions::function::Function;
-use rhai_state::error::EvalAltResult;
-use rhai_state::errors::{data_race, data_race_by};
 use rhai_steps::values::{let_go, unit_value};
 use rhai_tree::position::Position;
 use rhai_values::base::value::{CellId, Dynamic, Host};

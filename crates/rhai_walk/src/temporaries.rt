@@ -2,7 +2,7 @@
 
 ghost use Rattle.std.specs.Prelude.{◌≡◌, ◌≤◌, ◌∷◌, None, Some, false, true, IfErr, IfOk, IfSome, Err, Ok};
 ghost use Rattle.std.specs.Option.{option_map};
-ghost use Rattle.rhai_state.specs.Errors.{is_out_of_memory};
+ghost use Rattle.rhai_errors.specs.Errors.{is_out_of_memory};
 ghost use Rattle.rhai_machine.specs.language.Chains.{is_property as is_property_in, kept_access, way_back};
 ghost use Rattle.rhai_machine.specs.language.Frames.{core, ended_or_changed, MemberSet, Temporary};
 ghost use Rattle.rhai_machine.specs.language.Members.{focused_on, set_core, get_core};
@@ -20,9 +20,9 @@ use crate::Walker;
 use rhai_chains::links::{Link, LinkForm};
 use rhai_chains::members::{Member, MemberAccess, get_member, set_member};
 use rhai_context::ends::{fail, stop};
-use rhai_state::error::EvalAltResult;
+use rhai_errors::error::EvalAltResult;
+use rhai_errors::table::NativeTable;
 use rhai_state::state::GlobalRuntimeState;
-use rhai_state::table::NativeTable;
 use rhai_steps::values::copy;
 use rhai_values::base::value::{Dynamic, Host};
 use std::alloc::Global;

@@ -4,8 +4,8 @@ ghost use Rattle.std.specs.Prelude.{◌≡◌, ◌+◌, ◌++◌, IfErr, IfSome,
 ghost use Rattle.std.specs.Prelude.{nat_le, true};
 ghost use Rattle.rhai_tree.specs.Positions.{start_of};
 ghost use Rattle.rhai_values.specs.Layers.{layer_of};
-ghost use Rattle.rhai_state.specs.declared.error.EvalAltResult.TheVariants as error;
-ghost use Rattle.rhai_state.specs.Errors.{is_out_of_memory};
+ghost use Rattle.rhai_errors.specs.declared.error.EvalAltResult.TheVariants as error;
+ghost use Rattle.rhai_errors.specs.Errors.{is_out_of_memory};
 ghost use Rattle.rhai_state.specs.Scope.{entries_of};
 ghost use Rattle.rhai_machine.specs.language.Turns.{turns_of as turns_in_value};
 ghost use Rattle.rhai_machine.specs.language.Walks.{counter_entry, counters, loop_entries};
@@ -15,7 +15,7 @@ ghost use Rattle.rhai_walks.specs.Loops.{loop_in};
 
 use crate::turns::{Turns, turns_of};
 use rhai_context::ends::{stop, take_value};
-use rhai_state::error::EvalAltResult;
+use rhai_errors::error::EvalAltResult;
 use rhai_state::limits::Limits;
 use rhai_state::scope::Scope;
 use rhai_steps::values::unit_value;

@@ -2,16 +2,16 @@
 
 ghost use Rattle.std.specs.Prelude.{◌≡◌, ◌<◌, None, false, is_some, length, true};
 ghost use Rattle.rhai_values.specs.Cells.{cells_of, value_of_cell, with_value};
-ghost use Rattle.rhai_state.specs.declared.error.EvalAltResult.TheVariants as error;
-ghost use Rattle.rhai_state.specs.Errors.{is_out_of_memory};
+ghost use Rattle.rhai_errors.specs.declared.error.EvalAltResult.TheVariants as error;
+ghost use Rattle.rhai_errors.specs.Errors.{is_out_of_memory};
 ghost use Rattle.rhai_state.specs.Scope.{entries_of};
 ghost use Rattle.rhai_machine.specs.language.Walks.{place_of_entry};
 ghost use Rattle.rhai_context.specs.Ends.{came, error_in};
 ghost use Rattle.rhai_walks.specs.Variables.{Wrote, cell_in, seen_as};
 
 use rhai_context::ends::{stop, write_number};
-use rhai_state::error::EvalAltResult;
-use rhai_state::errors::data_race_of;
+use rhai_errors::error::EvalAltResult;
+use rhai_errors::errors::data_race_of;
 use rhai_state::scope::Scope;
 use rhai_steps::values::let_go;
 use rhai_tree::position::Position;

@@ -3,8 +3,8 @@
 ghost use Rattle.std.specs.Prelude.{◌≡◌, length, IfOk, IfErr, IsTrue, true, false, Some, Ok, Err};
 ghost use Rattle.rhai_tree.specs.Frame.{resolves_expr};
 ghost use Rattle.rhai_tree.specs.declared.expr.Expr.{out-Expr};
-ghost use Rattle.rhai_state.specs.Errors.{is_out_of_memory};
-ghost use Rattle.rhai_state.specs.Native.{left_by, lent_value};
+ghost use Rattle.rhai_errors.specs.Errors.{is_out_of_memory};
+ghost use Rattle.rhai_errors.specs.Native.{left_by, lent_value};
 ghost use Rattle.std.specs.Option.{option_copied};
 ghost use Rattle.rhai_state.specs.Scope.{entries_of, in_use, names_in, Fits};
 ghost use Rattle.rhai_machine.specs.language.Frames.{Eval};
@@ -22,13 +22,14 @@ use crate::eval::search::{is_behind_path, seen_variable, value_named, variable_m
 use crate::this::{give_back_with_this, take_with_this};
 use rhai_context::ends::finish;
 use rhai_context::{give_back, take};
+use rhai_errors::error::EvalAltResult;
+use rhai_errors::table::NativeTable;
 use rhai_functions::paths::find_root;
-use rhai_places::target::{Part, Target};
+use rhai_places::target::Target;
+use rhai_spots::part::Part;
 use rhai_state::caches::Caches;
-use rhai_state::error::EvalAltResult;
 use rhai_state::scope::Scope;
 use rhai_state::state::GlobalRuntimeState;
-use rhai_state::table::NativeTable;
 use rhai_steps::variables::scope_index;
 use rhai_tree::expr::{Expr, Namespace};
 use rhai_values::base::value::{Dynamic, Host, Module};

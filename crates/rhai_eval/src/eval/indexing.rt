@@ -19,15 +19,15 @@ ghost use Rattle.rhai_eval.specs.States.{limits_of, under};
 
 use crate::engine::Engine;
 use rhai_calls::native::{Passing, call_native, pass_native};
+use rhai_errors::error::EvalAltResult;
+use rhai_errors::table::NativeTable;
 use rhai_few::Few;
 use rhai_index::indexing;
-use rhai_places::spot::Access;
 use rhai_places::target::Target;
+use rhai_spots::spot::Access;
 use rhai_state::caches::Caches;
-use rhai_state::error::EvalAltResult;
 use rhai_state::session::Session;
 use rhai_state::state::GlobalRuntimeState;
-use rhai_state::table::NativeTable;
 use rhai_steps::operation::Operation;
 use rhai_steps::values::{let_go, list_of, unit_value};
 use rhai_tree::position::Position;

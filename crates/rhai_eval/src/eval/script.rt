@@ -2,7 +2,7 @@
 
 ghost use Rattle.std.specs.Prelude.{◌≡◌, ◌≤◌, length, true, None, IfErr, IsTrue};
 ghost use Rattle.rhai_tree.specs.Names.{Begins};
-ghost use Rattle.rhai_state.specs.Errors.{is_out_of_memory};
+ghost use Rattle.rhai_errors.specs.Errors.{is_out_of_memory};
 ghost use Rattle.rhai_state.specs.Scope.{names_in};
 ghost use Rattle.rhai_machine.specs.language.Memory.{UpToMemory};
 ghost use Rattle.rhai_machine.specs.language.Script.{EndsAsMachine, AgreesWithHigherLimits, start_of_script};
@@ -15,11 +15,11 @@ ghost use Rattle.rhai_eval.specs.States.{under};
 use crate::engine::Engine;
 use rhai_context::ends::finish;
 use rhai_context::{give_back, take};
+use rhai_errors::error::EvalAltResult;
+use rhai_errors::table::NativeTable;
 use rhai_state::caches::Caches;
-use rhai_state::error::EvalAltResult;
 use rhai_state::scope::Scope;
 use rhai_state::state::GlobalRuntimeState;
-use rhai_state::table::NativeTable;
 use rhai_steps::outcome::end_script;
 use rhai_tree::checked::CheckedTree;
 use rhai_values::base::value::{Dynamic, Host};

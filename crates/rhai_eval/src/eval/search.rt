@@ -5,7 +5,7 @@ ghost use Rattle.std.specs.Borrow.{sem};
 ghost use Rattle.std.specs.Option.{option_copied};
 ghost use Rattle.rhai_tree.specs.declared.expr.Expr.{out-Expr};
 ghost use Rattle.rhai_values.specs.Cells.{cells_of};
-ghost use Rattle.rhai_state.specs.Errors.{is_out_of_memory};
+ghost use Rattle.rhai_errors.specs.Errors.{is_out_of_memory};
 ghost use Rattle.rhai_state.specs.Scope.{entries_of, Fits};
 ghost use Rattle.rhai_steps.specs.Lends.{lends_variable};
 ghost use Rattle.rhai_steps.specs.Offers.{globals_in};
@@ -14,7 +14,7 @@ ghost use Rattle.rhai_steps.specs.States.{surroundings_of};
 ghost use Rattle.rhai_eval.specs.Lends.{with_variable};
 ghost use Rattle.rhai_eval.specs.Search.{is_variable, names_variable, value_there, variable_searched, IsBeside};
 
-use rhai_state::error::EvalAltResult;
+use rhai_errors::error::EvalAltResult;
 use rhai_state::scope::Scope;
 use rhai_state::session::Session;
 use rhai_state::state::GlobalRuntimeState;

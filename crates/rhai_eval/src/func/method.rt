@@ -3,7 +3,7 @@
 //! specs/Targets.antt of `rhai_methods`.
 
 ghost use Rattle.std.specs.Prelude.{◌≡◌, length, replicate, Some};
-ghost use Rattle.rhai_places.specs.Targets.{is_shared as shows_handle, shown};
+ghost use Rattle.rhai_spots.specs.Targets.{is_shared as shows_handle, shown};
 ghost use Rattle.rhai_machine.specs.language.Methods.{method_core};
 ghost use Rattle.rhai_machine.specs.language.State.{HasMemory};
 ghost use Rattle.rhai_machine.specs.language.Values.{unit_value as unit};
@@ -22,14 +22,15 @@ use crate::engine::Engine;
 use crate::func::arguments::empty;
 use rhai_context::ends::finish_changed;
 use rhai_context::{Context, give_back, take};
+use rhai_errors::error::EvalAltResult;
+use rhai_errors::table::NativeTable;
 use rhai_eval_core::evaluator::Evaluator;
 use rhai_methods::target::put_back;
-use rhai_places::target::{Part, Target};
+use rhai_places::target::Target;
+use rhai_spots::part::Part;
 use rhai_state::caches::Caches;
-use rhai_state::error::EvalAltResult;
 use rhai_state::scope::Scope;
 use rhai_state::state::GlobalRuntimeState;
-use rhai_state::table::NativeTable;
 use rhai_tree::position::Position;
 use rhai_values::base::value::{Dynamic, Host};
 use std::alloc::Global;

@@ -3,7 +3,7 @@
 
 ghost use Rattle.std.specs.Prelude.{◌≡◌};
 ghost use Rattle.std.specs.Option.{option_copied};
-ghost use Rattle.rhai_state.specs.Native.{left_by, lent_value};
+ghost use Rattle.rhai_errors.specs.Native.{left_by, lent_value};
 ghost use Rattle.rhai_machine.specs.language.Frames.{Ask, core};
 ghost use Rattle.rhai_steps.specs.States.{state_of};
 ghost use Rattle.rhai_laws.specs.Kept.{Kept};
@@ -13,10 +13,10 @@ ghost use Rattle.rhai_eval.specs.States.{under};
 
 use crate::engine::Engine;
 use rhai_calls::native::{Passing, pass_native, pass_native_alone};
+use rhai_errors::error::EvalAltResult;
+use rhai_errors::table::NativeTable;
 use rhai_state::caches::Caches;
-use rhai_state::error::EvalAltResult;
 use rhai_state::state::GlobalRuntimeState;
-use rhai_state::table::NativeTable;
 use rhai_steps::operation::Operation;
 use rhai_tree::position::Position;
 use rhai_tree::token::Token;

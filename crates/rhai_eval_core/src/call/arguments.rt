@@ -15,9 +15,9 @@ ghost use Rattle.rhai_eval_core.specs.Calls.{Collects};
 use crate::evaluator::Evaluator;
 use rhai_callees::arguments::push_argument;
 use rhai_context::Context;
+use rhai_errors::table::NativeTable;
 use rhai_few::Few;
 use rhai_operands::arguments::read_literal;
-use rhai_state::table::NativeTable;
 use rhai_tree::expr::Expr;
 use rhai_values::base::value::{Dynamic, Host};
 

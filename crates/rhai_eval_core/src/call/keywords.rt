@@ -22,17 +22,16 @@ use rhai_call_forms::keywords::Keyword;
 use rhai_call_forms::linked::function_linked;
 use rhai_call_forms::names::natives_alone;
 use rhai_call_forms::pointers::{
-    is_defined, is_shared, make_pointer, pointer_of, text_of, with_curried,
+    is_defined, is_shared, make_pointer, parts_of, pointer_of, text_of, with_curried,
 };
-use rhai_callees::pointer::parts_of;
 use rhai_callees::{call_function, call_number};
 use rhai_calls::dispatch::Called;
 use rhai_context::Context;
 use rhai_context::ends::{put, settle, stop, take_value};
+use rhai_errors::error::EvalAltResult;
+use rhai_errors::table::NativeTable;
 use rhai_few::Few;
 use rhai_functions::function::Function;
-use rhai_state::error::EvalAltResult;
-use rhai_state::table::NativeTable;
 use rhai_steps::operation::Operation;
 use rhai_tree::Items;
 use rhai_tree::expr::Expr;

@@ -23,7 +23,7 @@ use rhai_chains::chain::NewValue;
 use rhai_chains::links::link_of;
 use rhai_context::Context;
 use rhai_context::ends::settle_changed;
-use rhai_state::table::NativeTable;
+use rhai_errors::table::NativeTable;
 use rhai_tree::expr::Expr;
 use rhai_values::base::value::{Dynamic, Host};
 use rhai_walk::Walker;

@@ -14,7 +14,7 @@ use crate::evaluator::Evaluator;
 use rhai_context::Context;
 use rhai_context::ends::{put_truth, put_unit};
 use rhai_context::outcomes::unit_left;
-use rhai_state::table::NativeTable;
+use rhai_errors::table::NativeTable;
 use rhai_tree::expr::Expr;
 use rhai_values::base::value::Host;
 

@@ -14,7 +14,7 @@ use rhai_context::Context;
 use rhai_data::array::ArrayItems;
 use rhai_data::map::EntryValues;
 use rhai_data::text::{finish, join};
-use rhai_state::table::NativeTable;
+use rhai_errors::table::NativeTable;
 use rhai_tree::expr::{Expr, MapEntry};
 use rhai_tree::position::Position;
 use rhai_values::base::value::Host;

@@ -14,7 +14,7 @@ use rhai_choices::{candidates_for, default_result, written_truth};
 use rhai_context::Context;
 use rhai_context::ends::put_unit;
 use rhai_context::outcomes::flatten_at;
-use rhai_state::table::NativeTable;
+use rhai_errors::table::NativeTable;
 use rhai_tree::expr::{ConditionalExpr, Expr, RangeCase, SwitchCase};
 use rhai_values::base::value::Host;
 

@@ -18,8 +18,8 @@ use crate::evaluator::Evaluator;
 use rhai_catches::branches::{bind_caught, leave_branch};
 use rhai_context::Context;
 use rhai_context::ends::{may_catch, stopped};
-use rhai_state::error::EvalAltResult;
-use rhai_state::table::NativeTable;
+use rhai_errors::error::EvalAltResult;
+use rhai_errors::table::NativeTable;
 use rhai_tree::expr::{Expr, StmtBlock};
 use rhai_values::base::value::Host;
 

@@ -19,7 +19,7 @@ use crate::evaluator::Evaluator;
 use rhai_context::Context;
 use rhai_context::ends::put_unit;
 use rhai_context::outcomes::{charge, flatten_at, turn_end};
-use rhai_state::table::NativeTable;
+use rhai_errors::table::NativeTable;
 use rhai_steps::values::let_go;
 use rhai_tree::expr::{Expr, Ident, StmtBlock};
 use rhai_values::base::value::Host;

@@ -4,8 +4,8 @@ use Rattle.rhai_tree.specs.declared.expr.Expr.TheVariants as exprs
 use Rattle.rhai_tree.specs.declared.expr.Expr.TheOpen as layer
 use Rattle.rhai_values.specs.Layers.{layer_of}
 use Rattle.rhai_state.specs.Scope.{entries_of}
-use Rattle.rhai_places.specs.declared.spot.Spot.TheVariants as spot
-use Rattle.rhai_places.specs.Parts.{value_at, with_value}
+use Rattle.rhai_spots.specs.declared.spot.Spot.TheVariants as spot
+use Rattle.rhai_spots.specs.Parts.{value_at, with_value}
 use Rattle.rhai_steps.specs.Sessions.{under}
 use Rattle.rhai_steps.proofs.Agreeing.{brings}
 use Rattle.rhai_operands.specs.Standing.{assigned_known, integer_of, standing}

@@ -8,9 +8,9 @@ use Rattle.rhai_tree.specs.Positions.{position_of}
 use Rattle.rhai_tree.specs.Tokens.{syntax_of}
 use Rattle.rhai_values.specs.declared.base.value.AccessMode.TheVariants.{ReadWrite}
 use Rattle.rhai_values.specs.declared.base.value.Union.TheVariants as value
-use Rattle.rhai_state.specs.declared.error.EvalAltResult.TheVariants as error
+use Rattle.rhai_errors.specs.declared.error.EvalAltResult.TheVariants as error
 use Rattle.rhai_values.specs.Modes.{with_mode}
-use Rattle.rhai_state.specs.Native.{Reply, Missing, Gives, Faults, Named, OfName, request}
+use Rattle.rhai_errors.specs.Native.{Reply, Missing, Gives, Faults, Named, OfName, request}
 use Rattle.rhai_values.specs.TypeNames.{type_name_of}
 use Rattle.rhai_operators.specs.Answers.{Answer, op_assign_of}
 use Rattle.rhai_machine.specs.machine.Machine.{Move, Halt, Go, Native, AskPure}

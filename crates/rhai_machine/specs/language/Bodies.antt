@@ -5,9 +5,9 @@ use Rattle.std.specs.Option.{unwrap_or}
 use Rattle.rhai_machine.specs.Types.{Dynamic, EncapsulatedEnviron, EvalAltResult, Limits, Module, ScopeEntry, ScriptFuncPayload, Stmt}
 use Rattle.rhai_machine.specs.Types.{out-EncapsulatedEnviron, out-Module}
 use Rattle.rhai_tree.specs.declared.function.ScriptFuncPayload.TheVariants.{Statements}
-use Rattle.rhai_state.specs.declared.error.EvalAltResult.TheVariants as error
-use Rattle.rhai_state.specs.declared.error.FunctionCallError.{roll-FunctionCallError}
-use Rattle.rhai_state.specs.Errors.{at_position, is_system}
+use Rattle.rhai_errors.specs.declared.error.EvalAltResult.TheVariants as error
+use Rattle.rhai_errors.specs.declared.error.FunctionCallError.{roll-FunctionCallError}
+use Rattle.rhai_errors.specs.Errors.{at_position, is_system}
 use Rattle.rhai_functions.specs.Entering.{parameters}
 use Rattle.rhai_machine.specs.language.State.{Local, Surroundings}
 use Rattle.rhai_machine.specs.language.Values.{unit_value}

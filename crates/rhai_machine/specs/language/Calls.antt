@@ -6,9 +6,9 @@ use Rattle.std.specs.Option.{option_and_then, option_map, option_or}
 use Rattle.std.specs.Str.{bytes_eq}
 use Rattle.rhai_machine.specs.Types.{Dynamic, EvalAltResult, Import, Limits, Module, ModuleFn, Position, Token, Union}
 use Rattle.rhai_values.specs.declared.base.value.Union.TheVariants as value
-use Rattle.rhai_state.specs.declared.error.EvalAltResult.TheVariants as error
-use Rattle.rhai_state.specs.Native.{Key, Named, Numbered, Reply, Missing, Gives, Faults, purity_of, request}
-use Rattle.rhai_state.specs.Errors.{indexing_text, position_of, at_position}
+use Rattle.rhai_errors.specs.declared.error.EvalAltResult.TheVariants as error
+use Rattle.rhai_errors.specs.Native.{Key, Named, Numbered, Reply, Missing, Gives, Faults, purity_of, request}
+use Rattle.rhai_errors.specs.Errors.{indexing_text, position_of, at_position}
 use Rattle.rhai_values.specs.Cells.{value_of_cell}
 use Rattle.rhai_values.specs.Copy.{copy_of, plain}
 use Rattle.rhai_values.specs.TypeNames.{type_name_of}

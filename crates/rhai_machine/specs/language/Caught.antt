@@ -5,10 +5,10 @@ use Rattle.rhai_tree.specs.Position.{number_of}
 use Rattle.rhai_tree.specs.Lookup.{with_entry}
 use Rattle.rhai_values.specs.declared.base.value.Union.TheVariants as value
 use Rattle.rhai_values.specs.Copy.{copy_of, plain}
-use Rattle.rhai_state.specs.declared.error.EvalAltResult.TheOpen as layer
-use Rattle.rhai_state.specs.declared.error.EvalAltResult.TheFolds.{fold-EvalAltResult}
-use Rattle.rhai_state.specs.declared.error.EvalAltResult.TheVariants as error
-use Rattle.rhai_state.specs.Errors.{at_position, error_name, position_of}
+use Rattle.rhai_errors.specs.declared.error.EvalAltResult.TheOpen as layer
+use Rattle.rhai_errors.specs.declared.error.EvalAltResult.TheFolds.{fold-EvalAltResult}
+use Rattle.rhai_errors.specs.declared.error.EvalAltResult.TheVariants as error
+use Rattle.rhai_errors.specs.Errors.{at_position, error_name, position_of}
 use Rattle.rhai_machine.specs.language.Values.{Cells, through}
 use Rattle.rhai_machine.specs.language.Located.{is_unit}
 

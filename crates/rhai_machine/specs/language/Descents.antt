@@ -6,9 +6,9 @@ use Rattle.rhai_tree.specs.Layers.{ExprLayer}
 use Rattle.rhai_values.specs.declared.base.value.Union.TheVariants as value
 use Rattle.rhai_values.specs.declared.base.value.CellId.{CellId}
 use Rattle.rhai_values.specs.Cells.{value_of_cell, with_held}
-use Rattle.rhai_places.specs.declared.spot.Spot.{Spot}
-use Rattle.rhai_places.specs.Parts.{value_at}
-use Rattle.rhai_places.specs.Paths.{Cells, IsSimple, Rooted, Step, ToPlace, ToCell, next, read, write}
+use Rattle.rhai_spots.specs.declared.spot.Spot.{Spot}
+use Rattle.rhai_spots.specs.Parts.{value_at}
+use Rattle.rhai_spots.specs.Paths.{Cells, IsSimple, Rooted, Step, ToPlace, ToCell, next, read, write}
 use Rattle.rhai_machine.specs.machine.Point.{Reaches}
 use Rattle.rhai_machine.specs.language.Setting.{Rules, cut}
 use Rattle.rhai_machine.specs.language.State.{Local, State}

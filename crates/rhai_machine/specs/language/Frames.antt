@@ -7,8 +7,8 @@ use Rattle.rhai_machine.specs.Types.{SharedVariable, Token}
 use Rattle.rhai_tree.specs.declared.expr.MapEntry.{MapEntry}
 use Rattle.rhai_tree.specs.Layers.{ExprLayer, StmtLayer}
 use Rattle.rhai_machine.specs.machine.Machine.{Move, Halt, Go}
-use Rattle.rhai_places.specs.declared.spot.Spot.{Spot}
-use Rattle.rhai_places.specs.Paths.{Step}
+use Rattle.rhai_spots.specs.declared.spot.Spot.{Spot}
+use Rattle.rhai_spots.specs.Paths.{Step}
 use Rattle.rhai_machine.specs.language.State.{Local}
 use Rattle.rhai_machine.specs.language.Places.{Place}
 use Rattle.rhai_machine.specs.language.Links.{Link}

@@ -4,7 +4,7 @@ use Rattle.rhai_machine.specs.Types.{Dynamic, EvalAltResult, Expr, Ident, Module
 pub use Rattle.rhai_tree.specs.Forms.{name_asked}
 use Rattle.rhai_tree.specs.Lookup.{value_of}
 use Rattle.rhai_tree.specs.Positions.{position_of, start_of}
-use Rattle.rhai_state.specs.declared.error.EvalAltResult.TheVariants as error
+use Rattle.rhai_errors.specs.declared.error.EvalAltResult.TheVariants as error
 use Rattle.rhai_state.specs.State.{import_as}
 use Rattle.rhai_machine.specs.language.State.{Local}
 use Rattle.rhai_machine.specs.language.Values.{Cells}

@@ -1,7 +1,7 @@
 -- The error of a refused charge.
 use Rattle.std.specs.Prelude.{◌≡◌}
 use Rattle.rhai_machine.specs.Types.{Position}
-use Rattle.rhai_state.specs.declared.error.EvalAltResult.TheVariants as error
+use Rattle.rhai_errors.specs.declared.error.EvalAltResult.TheVariants as error
 use Rattle.rhai_machine.specs.language.Frames.{Core, Fail}
 
 -- the error of a refused charge is on its way down

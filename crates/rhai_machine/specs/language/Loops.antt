@@ -3,7 +3,7 @@ use Rattle.std.specs.Prelude.{Bool, true, false, not, List, [], ◌∷◌, Resul
 use Rattle.rhai_machine.specs.Types.{EvalAltResult, Expr, Stmt, StmtBlock}
 use Rattle.rhai_tree.specs.declared.expr.Expr.TheOpen as layer
 use Rattle.rhai_tree.specs.Layers.{ExprLayer}
-use Rattle.rhai_state.specs.declared.error.EvalAltResult.TheVariants as error
+use Rattle.rhai_errors.specs.declared.error.EvalAltResult.TheVariants as error
 use Rattle.rhai_machine.specs.machine.Machine.{Move, Go, Charge}
 use Rattle.rhai_machine.specs.language.State.{Local}
 use Rattle.rhai_machine.specs.language.Values.{unit_value}

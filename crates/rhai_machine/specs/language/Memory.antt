@@ -1,7 +1,7 @@
 -- Where memory has run out.
 use Rattle.std.specs.Prelude.{◌≡◌, ◌⊎◌}
 use Rattle.rhai_machine.specs.Types.{Position}
-use Rattle.rhai_state.specs.declared.error.EvalAltResult.TheVariants as error
+use Rattle.rhai_errors.specs.declared.error.EvalAltResult.TheVariants as error
 use Rattle.rhai_machine.specs.machine.Point.{Point, Reaches}
 use Rattle.rhai_machine.specs.machine.Memory.{RunsOut}
 use Rattle.rhai_machine.specs.language.Setting.{Rules, cut}

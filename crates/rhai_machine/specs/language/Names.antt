@@ -3,7 +3,7 @@ use Rattle.std.specs.Prelude.{ℕ, List, [], ◌∷◌, Option, Some, None, Resu
 use Rattle.std.specs.Option.{option_map, option_or, unwrap_or}
 use Rattle.rhai_machine.specs.Types.{Dynamic, EvalAltResult, Module, Position, ScopeEntry, Union}
 use Rattle.rhai_values.specs.declared.base.value.Union.TheVariants as value
-use Rattle.rhai_state.specs.declared.error.EvalAltResult.TheVariants as error
+use Rattle.rhai_errors.specs.declared.error.EvalAltResult.TheVariants as error
 use Rattle.rhai_values.specs.Cells.{value_of_cell}
 use Rattle.rhai_values.specs.Copy.{copy_of}
 use Rattle.rhai_state.specs.Scope.{found, index_of}

@@ -1,7 +1,7 @@
 -- What is fixed while a script runs: the limits, what the engine offers, and the table of natives.
 use Rattle.std.specs.Prelude.{ℕ, Bool, List}
 use Rattle.rhai_machine.specs.Types.{Limits, Module}
-use Rattle.rhai_state.specs.Native.{Natives}
+use Rattle.rhai_errors.specs.Native.{Natives}
 use Rattle.rhai_machine.specs.machine.Machine.{below}
 
 -- the switches and the modules of an engine

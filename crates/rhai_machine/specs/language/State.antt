@@ -2,7 +2,7 @@
 use Rattle.std.specs.Prelude.{◌≡◌, ⊤, ℕ, ◌+◌, ◌-◌, ◌^◌, min, List, Option, Result, Ok, Err, false}
 use Rattle.rhai_machine.specs.Types.{Dynamic, EvalAltResult, Module, ScopeEntry}
 use Rattle.rhai_values.specs.declared.base.value.Import.{Import}
-use Rattle.rhai_state.specs.Errors.{is_out_of_memory}
+use Rattle.rhai_errors.specs.Errors.{is_out_of_memory}
 
 -- What surrounds the variables: the libraries, the imports, the number of the current table of constants and all these tables, how deep the
 -- calls are, how many modules are loaded, the source's name, and the cells, each with its value or none where it is held.

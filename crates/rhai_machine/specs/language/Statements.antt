@@ -12,7 +12,7 @@ use Rattle.rhai_tree.specs.Lookup.{with_entry}
 use Rattle.rhai_values.specs.Copy.{copy_of}
 use Rattle.rhai_values.specs.Modes.{with_mode}
 use Rattle.rhai_values.specs.declared.base.value.AccessMode.TheVariants.{ReadWrite, ReadOnly}
-use Rattle.rhai_state.specs.declared.error.EvalAltResult.TheVariants as error
+use Rattle.rhai_errors.specs.declared.error.EvalAltResult.TheVariants as error
 use Rattle.rhai_state.specs.Scope.{index_of, new_entry}
 use Rattle.rhai_machine.specs.machine.Machine.{Move, Go}
 use Rattle.rhai_machine.specs.language.Setting.{Setting}

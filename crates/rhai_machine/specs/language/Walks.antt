@@ -6,7 +6,7 @@ use Rattle.rhai_tree.specs.Positions.{position_of, start_of}
 use Rattle.rhai_values.specs.declared.base.value.AccessMode.TheVariants.{ReadWrite}
 use Rattle.rhai_values.specs.declared.base.value.Union.TheVariants as value
 use Rattle.rhai_values.specs.Cells.{value_of_cell}
-use Rattle.rhai_state.specs.declared.error.EvalAltResult.TheVariants as error
+use Rattle.rhai_errors.specs.declared.error.EvalAltResult.TheVariants as error
 use Rattle.rhai_state.specs.Scope.{new_entry, value_in}
 use Rattle.rhai_machine.specs.machine.Machine.{Move, Go, Charge}
 use Rattle.rhai_machine.specs.language.State.{Local}

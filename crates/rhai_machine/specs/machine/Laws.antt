@@ -1,7 +1,7 @@
 -- The laws of every machine, whatever its language and its table.
 use Rattle.std.specs.Prelude.{◌≡◌, ◌⊎◌, ◌<◌, ◌≤◌, ℕ, Bool, false, List, ◌++◌, Some}
 use Rattle.rhai_machine.specs.Types.{Position}
-use Rattle.rhai_state.specs.Native.{Request}
+use Rattle.rhai_errors.specs.Native.{Request}
 use Rattle.rhai_machine.specs.machine.Machine.{Halt, Charge, Machine, Config, step, Run, below, always}
 use Rattle.rhai_machine.specs.machine.Point.{Point, with_calls, Reaches, Logged}
 use Rattle.rhai_machine.specs.machine.Unwinding.{Unwinds, Unwound}

@@ -1,7 +1,7 @@
 -- A machine that knows no language: what one step does to the count, the table and the list of calls, and when a run ends.
 use Rattle.std.specs.Prelude.{◌≡◌, ℕ, ◌+◌, nat_lt, Bool, true, false, List, ◌∷◌, Option, Some, None}
 use Rattle.rhai_machine.specs.Types.{Dynamic, Position}
-use Rattle.rhai_state.specs.Native.{Request, Reply, Effect, Natives, Purity}
+use Rattle.rhai_errors.specs.Native.{Request, Reply, Effect, Natives, Purity}
 
 -- what a core does next; a core is all that a language works on: control, stack, scope and the rest of its state
 pub data Move (H Core : Type 0) : Type 0 where

@@ -1,7 +1,7 @@
 -- Steps on which memory may run out: the form in which a part of an evaluator tells what it did.
 use Rattle.std.specs.Prelude.{◌≡◌, ℕ, Bool, Option}
 use Rattle.rhai_machine.specs.Types.{Dynamic, EvalAltResult, Position}
-use Rattle.rhai_state.specs.Native.{MayLeave, Request, Reply, Faults}
+use Rattle.rhai_errors.specs.Native.{MayLeave, Request, Reply, Faults}
 use Rattle.rhai_machine.specs.machine.Machine.{Native, Machine}
 use Rattle.rhai_machine.specs.machine.Unwinding.{Passes}
 use Rattle.rhai_machine.specs.machine.Point.{Point, Reaches, after}

@@ -1,7 +1,7 @@
 -- Steps without the list of calls, which no step reads: the form in which a piece of a run is told.
 use Rattle.std.specs.Prelude.{ℕ, ◌+◌, Bool, true, false, List, Option}
 use Rattle.rhai_machine.specs.Types.{Dynamic, Position}
-use Rattle.rhai_state.specs.Native.{Request, Reply, Effect}
+use Rattle.rhai_errors.specs.Native.{Request, Reply, Effect}
 use Rattle.rhai_machine.specs.machine.Machine.{Move, Halt, Go, Charge, Native, AskPure, Machine, Config, Run}
 
 -- a configuration without its list of calls

@@ -1,7 +1,7 @@
 -- Cores from which no run goes on for ever without a charge.
 use Rattle.std.specs.Prelude.{◌≡◌, ◌<◌, ⊤, ℕ, Bool, Option}
 use Rattle.rhai_machine.specs.Types.{Dynamic, Position}
-use Rattle.rhai_state.specs.Native.{Request, Reply, Purity}
+use Rattle.rhai_errors.specs.Native.{Request, Reply, Purity}
 use Rattle.rhai_machine.specs.machine.Machine.{Move, Halt, Go, Charge, Native, AskPure, Machine}
 
 module _ {S H Core : Type 0} (M : Machine S H Core) where

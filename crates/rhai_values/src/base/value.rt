@@ -2,6 +2,7 @@
 
 ghost use Rattle.std.specs.Prelude.{◌≡◌, List, [], ℕ, IfOk};
 ghost use Rattle.rhai_values.specs.Copy.{plain};
+ghost use Rattle.rhai_values.specs.declared.base.value.FnPtr.{out-FnPtr};
 ghost use Rattle.rhai_values.specs.Modules.{empty_module};
 
 use rhai_tree::checked::CheckedFn;
@@ -112,11 +113,36 @@ pub enum Union<H> {
 
 /// A pointer to a function, with the arguments that it has already. Ports upstream's `FnPtr`.
 #[cycle(value)]
-#[derive(Drop)]
 pub struct FnPtr<H> {
     pub name: Shared<Text>,
     pub curry: Items<Dynamic<H>>,
     pub kind: FnPtrKind<H>,
+}
+
+// Written by hand, as that of a value is.
+impl<H: Drop> Drop for FnPtr<H> {
+    #[cycle(value)]
+    fn drop(self) {
+        let FnPtr {
+            name: _,
+            curry,
+            kind,
+        } = self;
+        drop(curry);
+        drop(kind);
+    }
+}
+
+impl<H> FnPtr<H> {
+    /// Hands out the pointer's name, its arguments and what it leads to.
+    pub fn into_parts(self) -> (Shared<Text>, Items<Dynamic<H>>, FnPtrKind<H>)
+        ensures name { result.0 ≡ (out-FnPtr H self).name }
+        ensures curried { result.1 ≡ (out-FnPtr H self).curry }
+        ensures kind { result.2 ≡ (out-FnPtr H self).kind }
+    {
+        let FnPtr { name, curry, kind } = self;
+        (name, curry, kind)
+    }
 }
 
 /// What a pointer leads to.
@@ -135,7 +161,6 @@ pub enum FnPtrKind<H> {
 
 /// What a function finds around it. Ports upstream's `EncapsulatedEnviron`.
 #[cycle(value)]
-#[derive(Drop)]
 pub struct EncapsulatedEnviron<H> {
     pub lib: Items<Shared<Module<H>>>,
     pub imports: Items<Import<H>>,
@@ -143,17 +168,38 @@ pub struct EncapsulatedEnviron<H> {
     pub constants: usize,
 }
 
+// Written by hand, as that of a value is.
+impl<H: Drop> Drop for EncapsulatedEnviron<H> {
+    #[cycle(value)]
+    fn drop(self) {
+        let EncapsulatedEnviron {
+            lib,
+            imports,
+            constants: _,
+        } = self;
+        drop(lib);
+        drop(imports);
+    }
+}
+
 /// A module under the name that it was imported by.
 #[cycle(value)]
-#[derive(Drop)]
 pub struct Import<H> {
     pub name: Shared<Text>,
     pub module: Shared<Module<H>>,
 }
 
+// Written by hand, as that of a value is.
+impl<H: Drop> Drop for Import<H> {
+    #[cycle(value)]
+    fn drop(self) {
+        let Import { name: _, module } = self;
+        drop(module);
+    }
+}
+
 /// A function of a module.
 #[cycle(value)]
-#[derive(Drop)]
 pub struct ModuleFn<H> {
     pub def: Shared<CheckedFn>,
     pub environ: Option<Shared<EncapsulatedEnviron<H>>>,
@@ -161,15 +207,43 @@ pub struct ModuleFn<H> {
     pub is_global: bool,
 }
 
+// Written by hand, as that of a value is.
+impl<H: Drop> Drop for ModuleFn<H> {
+    #[cycle(value)]
+    fn drop(self) {
+        let ModuleFn {
+            def: _,
+            environ,
+            is_global: _,
+        } = self;
+        drop(environ);
+    }
+}
+
 /// Constants, functions and modules under names. Ports upstream's `Module`.
 #[cycle(value)]
-#[derive(Drop)]
 pub struct Module<H> {
     pub id: Option<Shared<Text>>,
     pub constants: Table<Dynamic<H>>,
     /// Of two functions of one key the later stands.
     pub functions: Items<ModuleFn<H>>,
     pub sub_modules: Table<Shared<Module<H>>>,
+}
+
+// Written by hand, as that of a value is.
+impl<H: Drop> Drop for Module<H> {
+    #[cycle(value)]
+    fn drop(self) {
+        let Module {
+            id: _,
+            constants,
+            functions,
+            sub_modules,
+        } = self;
+        drop(constants);
+        drop(functions);
+        drop(sub_modules);
+    }
 }
 
 impl<H> Module<H> {

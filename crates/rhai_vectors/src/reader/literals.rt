@@ -3,7 +3,7 @@
 
 use crate::host::Stone;
 use crate::reader::Reader;
-use rhai_state::errors::shared_text;
+use rhai_errors::errors::shared_text;
 use rhai_tree::{Items, Shared, Table, Text};
 use rhai_values::base::value::{AccessMode, CellId, Dynamic, FnPtr, FnPtrKind, Union};
 use std::alloc::{AllocError, Global};

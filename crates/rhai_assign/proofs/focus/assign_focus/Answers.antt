@@ -2,7 +2,7 @@ use Rattle.std.proofs.Common.{Some, refl}
 use Rattle.rhai_tree.specs.declared.expr.Expr.{out-Expr}
 use Rattle.rhai_tree.specs.Positions.{start_of}
 use Rattle.rhai_values.specs.Cells.{cells_of}
-use Rattle.rhai_state.specs.Errors.{root_name}
+use Rattle.rhai_errors.specs.Errors.{root_name}
 use Rattle.rhai_machine.specs.language.Places.{InCell, InFocus, focus_target, target}
 use Rattle.rhai_machine.specs.language.Setting.{Rules}
 use Rattle.rhai_machine.specs.language.State.{State}

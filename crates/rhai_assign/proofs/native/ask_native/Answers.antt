@@ -1,5 +1,5 @@
 use Rattle.std.proofs.Common.{sym, ◌∙◌}
-use Rattle.rhai_state.specs.Native.{reply_of}
+use Rattle.rhai_errors.specs.Native.{reply_of}
 use Rattle.rhai_machine.specs.language.Frames.{Update}
 use Rattle.rhai_machine.specs.language.Setting.{Rules}
 use Rattle.rhai_steps.specs.Sessions.{under}

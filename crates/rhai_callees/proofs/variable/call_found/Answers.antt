@@ -1,5 +1,5 @@
 use Rattle.std.proofs.Common.{true, false, not, ◌∷◌, Some, None, Ok, Err, sym, ◌∙◌}
-use Rattle.rhai_state.specs.declared.error.EvalAltResult.TheVariants as error
+use Rattle.rhai_errors.specs.declared.error.EvalAltResult.TheVariants as error
 use Rattle.rhai_state.specs.Scope.{entries_of}
 use Rattle.rhai_machine.specs.language.Calls.{plainly}
 use Rattle.rhai_machine.specs.language.Setting.{Rules, globals_of}

@@ -1,5 +1,5 @@
 use Rattle.std.proofs.Common.{Bool, ◌&&◌, ap, refl, sym, ◌∙◌}
-use Rattle.rhai_state.specs.Native.{reply_of}
+use Rattle.rhai_errors.specs.Native.{reply_of}
 use Rattle.rhai_calls.specs.ToldChanges.{gives}
 use Rattle.rhai_calls.proofs.native.ask_native.Goals as goal
 

@@ -21,7 +21,7 @@ use rhai_chains::chain::NewValue;
 use rhai_chains::links::{Link, LinkForm};
 use rhai_chains::members::{Member, MemberAccess};
 use rhai_context::Context;
-use rhai_state::table::NativeTable;
+use rhai_errors::table::NativeTable;
 use rhai_steps::values::unit_value;
 use rhai_tree::expr::Expr;
 use rhai_tree::position::Position;

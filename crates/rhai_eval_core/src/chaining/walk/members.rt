@@ -21,7 +21,7 @@ use rhai_chains::chain::NewValue;
 use rhai_chains::links::Link;
 use rhai_chains::members::MemberAccess;
 use rhai_context::Context;
-use rhai_state::table::NativeTable;
+use rhai_errors::table::NativeTable;
 use rhai_tree::expr::Expr;
 use rhai_values::base::value::{Dynamic, Host};
 use rhai_walk::ends::end_member;

@@ -18,7 +18,7 @@ use rhai_chains::chain::NewValue;
 use rhai_chains::links::Link;
 use rhai_context::Context;
 use rhai_context::ends::take_value;
-use rhai_state::table::NativeTable;
+use rhai_errors::table::NativeTable;
 use rhai_tree::expr::{Expr, FnCallExpr};
 use rhai_tree::position::Position;
 use rhai_values::base::value::{Dynamic, Host};

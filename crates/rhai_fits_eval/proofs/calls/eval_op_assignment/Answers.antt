@@ -1,4 +1,4 @@
-use Rattle.rhai_places.specs.Targets.{shown}
+use Rattle.rhai_spots.specs.Targets.{shown}
 use Rattle.rhai_calls.specs.Targets.{value_walked_on}
 use Rattle.rhai_eval.specs.States.{under}
 use Rattle.rhai_fits_eval.proofs.Targets.{assignment_again, assignment_shows}

@@ -1,5 +1,5 @@
 use Rattle.std.proofs.Common.{Some, length}
-use Rattle.rhai_places.specs.Targets.{is_shared, shown}
+use Rattle.rhai_spots.specs.Targets.{is_shared, shown}
 use Rattle.rhai_calls.specs.Targets.{value_walked_on}
 use Rattle.rhai_eval.specs.States.{under}
 use Rattle.rhai_fits_eval.proofs.Targets.{method_again, method_shows}

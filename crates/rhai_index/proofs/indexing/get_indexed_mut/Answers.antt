@@ -1,5 +1,5 @@
 use Rattle.std.proofs.Common.{◌≤◌, ◌+◌, ap, arith, rules}
-use Rattle.rhai_state.specs.Native.{ByState}
+use Rattle.rhai_errors.specs.Native.{ByState}
 use Rattle.rhai_state.specs.declared.state.GlobalRuntimeState.{GlobalRuntimeState}
 use Rattle.rhai_index.proofs.Uncalled.{no_room, uncalled}
 use Rattle.rhai_index.proofs.indexing.get_indexed_mut.Goals as goal

@@ -1,5 +1,5 @@
 use Rattle.std.proofs.Common.{refl, sym, ap, arith, ◌∙◌, Some}
-use Rattle.rhai_state.specs.declared.error.EvalAltResult.TheVariants as error
+use Rattle.rhai_errors.specs.declared.error.EvalAltResult.TheVariants as error
 use Rattle.rhai_steps.specs.Sessions.{under}
 use Rattle.rhai_operands.proofs.Literals.{literal_told, literal_refused}
 use Rattle.rhai_operands.proofs.arguments.charge_literal.Goals as goal

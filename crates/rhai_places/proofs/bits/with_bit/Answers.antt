@@ -1,6 +1,6 @@
 use Rattle.std.proofs.Common.{sym, ap, ◌∙◌, set}
 use Rattle.std.specs.Int.{w64, cast_signed}
-use Rattle.rhai_places.specs.Bits.{integer, digits}
+use Rattle.rhai_spots.specs.Bits.{integer, digits}
 use Rattle.rhai_places.proofs.BitsLemmas.{set_on, set_off, set_on_fits, set_off_fits, stored, read}
 use Rattle.rhai_places.proofs.bits.with_bit.Goals as goal
 

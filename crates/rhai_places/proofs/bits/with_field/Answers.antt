@@ -3,7 +3,7 @@ use Rattle.std.specs.Int.{w64, bit_not, cast_signed, cast_unsigned}
 use Rattle.std.specs.List.{replace_range}
 use Rattle.std.proofs.Math.Facts.{Fits-of_z}
 use Rattle.std.proofs.Math.Pow.{pow_mono}
-use Rattle.rhai_places.specs.Bits.{digits, bits, number, integer}
+use Rattle.rhai_spots.specs.Bits.{digits, bits, number, integer}
 use Rattle.rhai_places.proofs.BitsLemmas.{stored, read, number-digits}
 use Rattle.rhai_places.proofs.FieldLemmas.{merged_is, merged-fits, replaced-none}
 use Rattle.rhai_places.proofs.bits.with_field.Goals as goal

@@ -1,6 +1,6 @@
 use Rattle.std.proofs.Common.{◌≡◌, ◌-◌, ℕ, List, IfOk, take, ap, subst, ◌∙◌, arith}
 use Rattle.std.specs.Str.{encode_utf8_all}
-use Rattle.rhai_places.specs.Characters.{slice_of}
+use Rattle.rhai_spots.specs.Characters.{slice_of}
 use Rattle.rhai_places.proofs.CharLemmas.{rest_chars}
 use Rattle.rhai_places.proofs.chars.slice.Goals as goal
 

@@ -1,6 +1,6 @@
 use Rattle.std.proofs.Common.{◌≡◌, ◌<◌, ℕ, Result, Ok, Err, ap, sym, subst, ◌∙◌, ok_or, length}
 use Rattle.rhai_tree.specs.Lookup.{place_of, rank}
-use Rattle.rhai_places.proofs.FoundLemmas.{new_place}
+use Rattle.rhai_spots.proofs.FoundLemmas.{new_place}
 use Rattle.rhai_places.proofs.indexing.insert_unit.Goals as goal
 
 abbrev place_in : Result ℕ ℕ → ℕ

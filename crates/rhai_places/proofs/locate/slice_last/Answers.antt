@@ -3,7 +3,7 @@ use Rattle.std.specs.Prelude.{unsigned_abs}
 use Rattle.std.specs.Int.{w64}
 use Rattle.std.proofs.lemmas.Int.{to_z-of_z}
 use lib.Signed.{le_z}
-use Rattle.rhai_places.specs.Indexing as spec
+use Rattle.rhai_spots.specs.Indexing as spec
 use Rattle.rhai_places.proofs.locate.slice_last.Goals as goal
 
 from_start : (count : ℕ) (last : ℤ) → le_z (pos 0) last ≡ true → min (unsigned_abs last + 1) count ≡ spec.slice_last count last

@@ -1,6 +1,6 @@
 use Rattle.std.proofs.Common.{[], Some, None, ap, refl, ◌∙◌}
 use Rattle.rhai_state.specs.declared.scope.Scope.{Scope}
-use Rattle.rhai_places.specs.Targets.{shown}
+use Rattle.rhai_spots.specs.Targets.{shown}
 use Rattle.rhai_machine.specs.language.Setting.{Rules}
 use Rattle.rhai_calls.specs.Targets.{value_walked_on}
 use Rattle.rhai_eval.specs.Assigned.{target_assigned, value_assigned}

@@ -3,8 +3,8 @@ use Rattle.rhai_machine.specs.language.Values.{unit_value as unit}
 use Rattle.rhai_machine.specs.language.Methods.{Method, method_core}
 use Rattle.rhai_state.specs.declared.scope.Scope.{Scope}
 use Rattle.rhai_machine.specs.language.Setting.{Rules}
-use Rattle.rhai_places.specs.Targets.{is_shared, shown}
-use Rattle.rhai_places.specs.declared.target.Part.{Part}
+use Rattle.rhai_spots.specs.Targets.{is_shared, shown}
+use Rattle.rhai_spots.specs.declared.part.Part.{Part}
 use Rattle.rhai_values.specs.declared.base.value.Dynamic.{Dynamic}
 use Rattle.rhai_calls.specs.Targets.{on_target}
 use Rattle.rhai_eval.specs.Places.{with_place}

@@ -1,5 +1,5 @@
 use Rattle.rhai_values.specs.Cells.{cells_of}
-use Rattle.rhai_places.specs.Found.{found}
+use Rattle.rhai_spots.specs.Found.{found}
 use Rattle.rhai_twins_places.proofs.Found.{found_from}
 use Rattle.rhai_twins_places.proofs.target.indexed.Goals as goal
 

@@ -1,7 +1,7 @@
 use Rattle.std.proofs.Common.{ap, subst}
 use Rattle.rhai_values.specs.Cells.{cells_of}
-use Rattle.rhai_places.specs.declared.spot.Access.{Access}
-use Rattle.rhai_places.specs.Found.{found}
+use Rattle.rhai_spots.specs.declared.spot.Access.{Access}
+use Rattle.rhai_spots.specs.Found.{found}
 use Rattle.rhai_walk.specs.Walking.{IsSpotBelow}
 use Rattle.rhai_walk.proofs.Descending.{spot_below, spot_stays}
 use Rattle.rhai_walk.proofs.ways.spot_below.Goals as goal

@@ -4,7 +4,7 @@ use Rattle.rhai_machine.specs.language.Setting.{Rules}
 use Rattle.rhai_machine.specs.language.State.{State}
 use Rattle.rhai_steps.specs.States.{state_of}
 use Rattle.rhai_calls.specs.Targets.{value_walked_on}
-use Rattle.rhai_places.specs.Targets.{shown}
+use Rattle.rhai_spots.specs.Targets.{shown}
 use Rattle.rhai_eval.specs.Assigned.{target_assigned}
 use Rattle.rhai_eval.specs.Places.{with_place}
 use Rattle.rhai_eval.specs.States.{under}

@@ -1,7 +1,7 @@
 use Rattle.std.proofs.Common.{◌≡◌, Option, Some, None, MutBor, ap, refl, sym, subst}
 use Rattle.std.specs.Option.{option_copied}
 use Rattle.rhai_values.specs.declared.base.value.Dynamic.{Dynamic}
-use Rattle.rhai_state.specs.Native.{left_by, lent_value}
+use Rattle.rhai_errors.specs.Native.{left_by, lent_value}
 use Rattle.rhai_machine.specs.language.Frames.{Operation, FromFocus}
 use Rattle.rhai_machine.specs.language.Setting.{Rules}
 use Rattle.rhai_machine.specs.language.State.{State}

@@ -2,7 +2,7 @@ use Rattle.std.proofs.Common.{Some, None, Option, ap, ◌∙◌}
 use Rattle.rhai_values.specs.declared.base.value.Dynamic.{Dynamic}
 use Rattle.rhai_state.specs.declared.scope.Scope.{Scope}
 use Rattle.rhai_state.specs.declared.state.GlobalRuntimeState.{GlobalRuntimeState}
-use Rattle.rhai_places.specs.Targets.{is_shared, shown}
+use Rattle.rhai_spots.specs.Targets.{is_shared, shown}
 use Rattle.rhai_machine.specs.language.Methods.{Method, method_core}
 use Rattle.rhai_machine.specs.language.Runs.{Goes}
 use Rattle.rhai_machine.specs.language.Frames.{core, ended_or_changed}

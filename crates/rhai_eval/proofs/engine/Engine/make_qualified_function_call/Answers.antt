@@ -1,6 +1,6 @@
 use Rattle.std.proofs.Common.{◌≡◌, ℕ, Bool, true, false, List, Option, Some, None, MutBor, ap, refl, subst, sym}
 use Rattle.rhai_values.specs.declared.base.value.Dynamic.{Dynamic}
-use Rattle.rhai_state.specs.Native.{left_by, lent_value}
+use Rattle.rhai_errors.specs.Native.{left_by, lent_value}
 use Rattle.rhai_steps.specs.States.{holding, state_of}
 use Rattle.rhai_eval.specs.States.{under}
 use Rattle.rhai_machine.specs.language.Runs.{Runs}

@@ -3,7 +3,7 @@ use Rattle.rhai_machine.specs.language.Setting.{Rules}
 use Rattle.rhai_steps.specs.Sessions.{under}
 use Rattle.rhai_steps.specs.States.{state_of}
 use Rattle.rhai_steps.specs.OnFocus.{lending}
-use Rattle.rhai_places.specs.declared.target.Part.TheVariants as part
+use Rattle.rhai_spots.specs.declared.part.Part.TheVariants as part
 use Rattle.rhai_eval.specs.Assigned.{assigned}
 use Rattle.rhai_eval.proofs.Assigned.{assigned_alone, assigned_memory, part_follows}
 use Rattle.rhai_eval.proofs.OnTargets.{answer_memory}

@@ -4,7 +4,7 @@ use Rattle.rhai_machine.specs.language.Setting.{Rules}
 use Rattle.rhai_steps.specs.States.{state_of}
 use Rattle.rhai_steps.specs.OnFocus.{lending}
 use Rattle.rhai_eval_core.specs.States.{under}
-use Rattle.rhai_places.specs.declared.target.Part.TheVariants as part
+use Rattle.rhai_spots.specs.declared.part.Part.TheVariants as part
 use Rattle.rhai_eval.proofs.OnTargets.{alone, answer_memory, part_runs}
 use Rattle.rhai_eval.proofs.func.method.call_on_target.Goals as goal
 

@@ -1,7 +1,7 @@
 use Rattle.std.proofs.Common.{◌≡◌, Option, Some, MutBor, ap, refl, sym, subst, ◌∙◌}
 use Rattle.rhai_values.specs.declared.base.value.Dynamic.{Dynamic}
 use Rattle.rhai_values.specs.Cells.{cells_of}
-use Rattle.rhai_state.specs.Native.{Numbered, left_by, request, lent_value}
+use Rattle.rhai_errors.specs.Native.{Numbered, left_by, request, lent_value}
 use Rattle.rhai_natives.specs.Found.{found}
 use Rattle.rhai_natives.proofs.Left.{leaves_left, no_handle_left, obeys_found}
 use Rattle.rhai_natives.proofs.table.NativesNativeTable.call_numbered.Given.{Over}

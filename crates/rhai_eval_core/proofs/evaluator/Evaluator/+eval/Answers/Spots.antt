@@ -2,8 +2,8 @@ use Rattle.std.proofs.Common.{sym, ap, ◌∙◌, ◌∷◌, ◌+◌, Ok, Err, S
 use Rattle.std.specs.Option.{option_copied, option_map}
 use Rattle.rhai_tree.specs.declared.expr.Expr.{out-Expr}
 use Rattle.rhai_values.specs.Cells.{cells_of}
-use Rattle.rhai_places.specs.Found.{found}
-use Rattle.rhai_places.specs.Parts.{part_of, with_value}
+use Rattle.rhai_spots.specs.Found.{found}
+use Rattle.rhai_spots.specs.Parts.{part_of, with_value}
 use Rattle.rhai_machine.specs.language.Chains.{method_of, part_core, way_back}
 use Rattle.rhai_machine.specs.language.Frames.{PartMethod}
 use Rattle.rhai_machine.specs.language.Links.{first_position, link_of}

@@ -1,0 +1,3 @@
+pub mod ContentLemmas
+pub mod Reached
+mod Tables

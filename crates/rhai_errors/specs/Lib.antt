@@ -1,0 +1,3 @@
+pub mod ErrorContents
+pub mod Errors
+pub mod Native

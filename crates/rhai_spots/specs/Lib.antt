@@ -1,0 +1,11 @@
+pub mod Bits
+pub mod Characters
+pub mod Found
+pub mod Indexing
+pub mod Lends
+pub mod Parts
+pub mod Paths
+pub mod PutBack
+pub mod Refusals
+pub mod Targets
+pub mod Types
