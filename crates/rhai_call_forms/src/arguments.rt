@@ -5,7 +5,7 @@ ghost use Rattle.std.specs.Option.{option_copied, option_map};
 ghost use Rattle.rhai_tree.specs.declared.expr.Expr.{out-Expr};
 ghost use Rattle.rhai_errors.specs.Errors.{is_out_of_memory};
 ghost use Rattle.rhai_state.specs.Scope.{entries_of};
-ghost use Rattle.rhai_machine.specs.language.Arguments.{this_in as this_at};
+ghost use Rattle.rhai_machine.specs.language.Arguments.{is_captured, this_in as this_at};
 ghost use Rattle.rhai_call_forms.specs.Leading.{all_args, takes_by_value, first_in, leading, lent_first, leading_seen, this_lent};
 
 use rhai_errors::error::EvalAltResult;
@@ -118,8 +118,8 @@ pub fn split_first(args: &[Expr]) -> (Option<&Expr>, &[Expr])
 }
 
 /// Tells whether a call captures a scope that is not empty.
-fn captures_some<H: Host>(scope: &Scope<H>, captures: bool) -> bool
-    ensures { result ≡ takes_by_value {H = H} [] captures (entries_of scope.now) }
+pub fn captures_some<H: Host>(scope: &Scope<H>, captures: bool) -> bool
+    ensures { result ≡ is_captured captures (entries_of scope.now) }
 {
     captures && scope.len() != 0
 }

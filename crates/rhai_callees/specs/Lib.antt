@@ -1,4 +1,5 @@
 pub mod Behind
 pub mod Kept
 pub mod Linked
+pub mod Pointers
 pub mod Variables

@@ -6,6 +6,8 @@
 
 pub mod arguments;
 pub mod path;
+pub mod pointers;
+pub mod runs;
 pub mod this;
 pub mod variable;
 

@@ -16,6 +16,7 @@ ghost use Rattle.rhai_machine.specs.language.Caught.{message_of as message_in, n
 ghost use Rattle.rhai_machine.specs.language.Caught.{text_of_error, text_value, thrown as thrown_by, with_known};
 
 pub mod branches;
+pub mod leaving;
 
 use rhai_errors::error::EvalAltResult;
 use rhai_tree::position::Position;

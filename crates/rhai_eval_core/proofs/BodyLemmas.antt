@@ -7,7 +7,6 @@ use Rattle.std.proofs.lemmas.Bool.{cases_lt, true≢false}
 use Rattle.std.proofs.lemmas.List.{append-nil, length-append, map-append}
 use Rattle.rhai_tree.specs.Frame.{all_resolve, resolves_body, resolves_stmt, ResolvesFunction}
 use Rattle.rhai_tree.specs.Names.{Frame as NamesFrame, Name}
-use Rattle.rhai_tree.specs.Reading as walk
 use Rattle.rhai_tree.specs.declared.function.ScriptFuncDef.{ScriptFuncDef}
 use Rattle.rhai_tree.specs.declared.function.ScriptFuncPayload.{ScriptFuncPayload}
 use Rattle.rhai_tree.specs.declared.function.ScriptFuncPayload.TheVariants.{Statements}

@@ -1,7 +1,6 @@
 -- Steps of calls.
 use Rattle.std.proofs.Common.{◌≡◌, ◌<◌, ◌≤◌, ◌+◌, ℕ, Bool, true, false, List, [], ◌∷◌, ◌++◌, Option, Some, None, Result, Ok, Err}
 use Rattle.std.proofs.Common.{refl, sym, ap, ◌∙◌, arith, codes, is_some, length, suc}
-use Rattle.std.specs.Prelude.{if◌then◌else◌}
 use Rattle.std.proofs.lemmas.Bool.{lt-ltb, le-ltb}
 use Rattle.std.proofs.lemmas.List.{length-append}
 use Rattle.rhai_tree.specs.declared.position.Position.{Position}
@@ -22,15 +21,15 @@ use Rattle.rhai_errors.specs.declared.error.EvalAltResult.{EvalAltResult}
 use Rattle.rhai_errors.specs.declared.error.EvalAltResult.TheVariants as error
 use Rattle.rhai_errors.specs.Errors.{is_out_of_memory}
 use Rattle.rhai_machine.specs.machine.Machine.{Go, Charge}
-use Rattle.rhai_machine.specs.machine.Memory.{here, out_before_step, Leads}
+use Rattle.rhai_machine.specs.machine.Memory.{here, Leads}
 use Rattle.rhai_machine.specs.machine.Point.{Point}
 use Rattle.rhai_machine.specs.language.Setting.{Rules, limit_under, cut}
 use Rattle.rhai_machine.specs.language.State.{Held, Local, State}
-use Rattle.rhai_machine.specs.language.Frames.{Operation, Control, Frame, Core, core, on_value, Argument, Back, CallNamed, EnterFunction}
+use Rattle.rhai_machine.specs.language.Frames.{Operation, Control, Frame, Core, core, on_value, Argument, Back, CallNamed}
 use Rattle.rhai_machine.specs.language.Frames.{Fail, OpenExpr}
 use Rattle.rhai_machine.specs.language.Frames.{CallArgument, KeywordArgument, Keyword, CallPointer, Curry, IsDefinedVariable, MakePointer}
 use Rattle.rhai_machine.specs.language.Frames.{Purpose, ToCallFunction, ToCallNumber, ToCurry, ended}
-use Rattle.rhai_machine.specs.language.Arguments.{arguments_core, flattens, function_core, keyword_of, linked_core, natives_alone}
+use Rattle.rhai_machine.specs.language.Arguments.{arguments_core, flattens, function_core, keyword_of, natives_alone}
 use Rattle.rhai_machine.specs.language.Arguments.{operation_named}
 use Rattle.rhai_machine.specs.language.Arguments.{pointer_core, taken, pointer_wanted, text_wanted, unlinked_core}
 use Rattle.rhai_machine.specs.language.Functions.{Function}
@@ -42,16 +41,12 @@ use Rattle.rhai_steps.specs.States.{local_of, state_of}
 use Rattle.rhai_steps.proofs.Pieces.{step_by}
 use Rattle.rhai_call_forms.specs.Forms.{is_operator_form}
 use Rattle.rhai_call_forms.proofs.FormLemmas.{function_goes}
-use Rattle.rhai_calls.specs.declared.dispatch.Called.TheVariants.{Ended, Enters}
-use Rattle.rhai_calls.specs.Called.{came_out, Outcome}
-use Rattle.rhai_machine.specs.language.Activations.{NoThis}
-use Rattle.rhai_machine.specs.language.Calls.{entry_of, races}
 use Rattle.rhai_callees.specs.Kept.{HasKept}
-use Rattle.rhai_callees.specs.Linked.{linked_call, Comes}
 use Rattle.rhai_call_forms.specs.Pointers.{native_number_of}
-use Rattle.rhai_eval_core.specs.declared.call.keywords.PointerUse.{PointerUse}
-use Rattle.rhai_eval_core.specs.declared.call.keywords.PointerUse.TheVariants as code
-use Rattle.rhai_eval_core.specs.Calls.{called, pointer_called, purpose_of}
+use Rattle.rhai_callees.specs.declared.pointers.PointerUse.{PointerUse}
+use Rattle.rhai_callees.specs.declared.pointers.PointerUse.TheVariants as code
+use Rattle.rhai_callees.specs.Pointers.{purpose_of}
+use Rattle.rhai_eval_core.specs.Calls.{called, pointer_called}
 use Rattle.rhai_eval_core.proofs.Chain.{fails_on}
 use Rattle.rhai_machine.specs.language.Arguments.{pointer_of as pointer_named_by}
 
@@ -170,40 +165,6 @@ module _ {S H : Type 0} (rules : Rules S H) where
         (with_core (unlinked_core rules.setting (out-FnPtr H pointer).kind pointer pos args captures k s.local) s) q →
         Leads (machine rules) (cut rules) (with_core (pointer_core rules.setting found pointer pos args captures k s.local) s) q
     calls_itself found is goes = rw is goes
-
-  -- a function that a pointer is linked to, unless memory ran out
-  module _ (function : Function H) (all : List (Dynamic H)) (pos : Position) (k : List (Frame H)) (s : State S H) where
-    abbrev outcome_of : (raced : Bool) → Outcome H
-    outcome_of raced = if raced then Ended (Err (error.ErrorDataRace function.def.name pos)) else Enters (function, all)
-
-    abbrev entered_by : (raced : Bool) → Core H
-    entered_by raced = if raced then core (Fail (error.ErrorDataRace function.def.name pos)) k s.local
-        else core (EnterFunction (entry_of function NoThis true all pos s.local)) k s.local
-
-    abbrev out_of : Outcome H → Point S (Core H)
-    out_of called = with_core (came_out true pos called k s.local) s
-
-    linked_as : (raced : Bool) (called : Outcome H) → called ≡ outcome_of raced →
-        Leads (machine rules) (cut rules) (with_core (entered_by raced) s) (out_of called)
-    linked_as true called is = rw is here
-    linked_as false called is = rw is here
-
-    linked_call_runs_out : (raced : Bool) (p : Position) →
-        Leads (machine rules) (cut rules) (with_core (entered_by raced) s) (at (Fail (error.ErrorOutOfMemory p)) k s)
-    linked_call_runs_out true p = out_before_step {at = p} here
-    linked_call_runs_out false p = out_before_step {at = p} here
-
-    linked_by : (raced : Bool) (called : Outcome H) → Comes called (outcome_of raced) →
-        Leads (machine rules) (cut rules) (with_core (entered_by raced) s) (out_of called)
-    linked_by raced (Ended (Err (error.ErrorOutOfMemory p))) is = linked_call_runs_out raced p
-    linked_by raced (Ended (Err e)) is = linked_as raced (Ended (Err e)) (is refl)
-    linked_by raced (Ended (Ok v)) is = linked_as raced (Ended (Ok v)) (is tt)
-    linked_by raced (Enters (found, args)) is = linked_as raced (Enters (found, args)) (is tt)
-
-    pub linked_goes : (called : Outcome H) → Comes called (linked_call s.local.around.cells function all pos) →
-        Leads (machine rules) (cut rules) (with_core (linked_core function pos all k s.local) s)
-        (with_core (came_out true pos called k s.local) s)
-    linked_goes called is = linked_by (races s.local.around.cells all) called is
 
   -- a keyword's first argument is what is wanted, and the keyword goes on with that; or it is not, and fails
   module _ (v : Dynamic H) (pos start : Position) (rest : List Expr) (captures : Bool) (k : List (Frame H)) (l : State S H) where

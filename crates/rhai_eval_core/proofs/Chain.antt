@@ -250,10 +250,6 @@ pub still_none : {A : Type 0} (o : Option A) → is_some o ≡ false → o ≡ N
 still_none None h = refl
 still_none (Some x) h = cc
 
-pub on_ok_given : {A E : Type 0} (B P : Type 0) (r : Result A E) → OnOk r P → OnOk r (B → P)
-on_ok_given B P (Ok v) p = λ b. p
-on_ok_given B P (Err e) p = tt
-
 pub on_ok : {A E P : Type 0} (r : Result A E) → P → OnOk r P
 on_ok (Ok v) p = p
 on_ok (Err e) p = tt

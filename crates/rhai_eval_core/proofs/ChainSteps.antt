@@ -1,8 +1,7 @@
 -- How a chain is entered, its arguments and its root, and how an assignment to it begins.
 use Rattle.std.proofs.Common.{◌≡◌, ◌+◌, ℕ, Bool, true, false, IsTrue, List, [], ◌∷◌, length}
-use Rattle.std.proofs.Common.{Option, Some, None, Result, Ok, Err, is_none, is_some, refl, sym, ap, subst, ◌∙◌, arith, length-append}
+use Rattle.std.proofs.Common.{Option, Some, None, Result, Ok, Err, is_none, is_some, refl, sym, ap, subst, ◌∙◌, arith}
 use Rattle.std.proofs.Common.{zero-add}
-use Rattle.std.specs.Prelude.{OnOk, IfOk}
 use Rattle.std.specs.Option.{option_map}
 use Rattle.std.specs.declared.num.NonZeroUsize.{NonZeroUsize}
 use Rattle.rhai_tree.specs.declared.expr.Expr.{Expr, out-Expr}
@@ -23,7 +22,7 @@ use Rattle.rhai_errors.specs.Errors.{is_out_of_memory}
 use Rattle.rhai_machine.specs.machine.Machine.{Go, Charge}
 use Rattle.rhai_machine.specs.machine.Memory.{here, Leads}
 use Rattle.rhai_machine.specs.language.Setting.{Rules, cut}
-use Rattle.rhai_machine.specs.language.State.{Answers, Local, State}
+use Rattle.rhai_machine.specs.language.State.{Local, State}
 use Rattle.rhai_machine.specs.language.Links.{Link, LinkForm, AtIndex, AtProperty, AtMethod, asked_by, first_in, link_of}
 use Rattle.rhai_machine.specs.language.Frames.{Chain, Frame, core, AssignChain, ChainArguments, ChainRoot, Eval, Fail}
 use Rattle.rhai_machine.specs.language.Frames.{OpenChain, OpenStmt, ReadRoot, RootValue, ToChain}
@@ -36,14 +35,10 @@ use Rattle.rhai_machine.specs.language.Expressions.{literal_of}
 use Rattle.rhai_machine.specs.language.Language.{move, machine}
 use Rattle.rhai_machine.specs.language.Runs.{at, with_core}
 use Rattle.rhai_steps.proofs.Pieces.{or_runs_out, step_by}
-use Rattle.rhai_data.proofs.TextSteps.{failed_out_of_memory}
-use Rattle.rhai_callees.specs.Kept.{HasKept}
 use Rattle.rhai_chains.specs.Chains.{BehindWalks, Walks}
-use Rattle.rhai_chains.specs.declared.arguments.Ready.{Ready}
-use Rattle.rhai_chains.specs.declared.arguments.Ready.TheVariants as code
-use Rattle.rhai_chains.specs.Ready.{alone, at_once, IsReady}
+use Rattle.rhai_chains.specs.Ready.{alone, at_once}
 use Rattle.rhai_chains.proofs.LinkLemmas.{walks_behind}
-use Rattle.rhai_eval_core.specs.Chains.{HasAsked, IsGiven, MayWalk, StartsFrom}
+use Rattle.rhai_eval_core.specs.Chains.{HasAsked, MayWalk, StartsFrom}
 use Rattle.rhai_eval_core.proofs.ChainLemmas.{IsNoName}
 
 -- what is none of the things that might stand there is nothing
@@ -52,18 +47,6 @@ nothing_there None clear = refl
 nothing_there (Some x) clear = absurd (clear x refl)
 
 -- ---- how many values a chain asks for
-
--- an argument that was taken is one more
-pub kept_more : {A H : Type 0} (x : Result A (EvalAltResult H)) (r : Result (Dynamic H) (EvalAltResult H))
-    (before after : List (Dynamic H)) → OnOk x (HasKept r before after) → OnOk x (length after ≡ length before + 1)
-kept_more (Err e) r before after kept = tt
-kept_more (Ok v) (Ok w) before after kept = rw kept (length-append before (w ∷ []))
-kept_more (Ok v) (Err e) before after kept = elim kept [ ]
-
--- what holds anyway holds where there is a value
-pub if_ok : {A E P : Type 0} (r : Result A E) → P → OnOk r P
-if_ok (Ok v) p = p
-if_ok (Err e) p = tt
 
 module _ {H : Type 0} where
   -- the last link asks for its own
@@ -98,34 +81,6 @@ module _ {H : Type 0} where
 -- ---- a chain is entered
 
 module _ {H : Type 0} where
-  -- where a literal has a value, nothing but that memory ran out keeps it away
-  pub literal_runs_out : (o : Option (Dynamic H)) → is_some o ≡ true → (e : EvalAltResult H) →
-      ((v : Dynamic H) → o ≡ Some v → Answers (Err e) (Ok v)) → is_out_of_memory e ≡ true
-  literal_runs_out None there e answers = cc
-  literal_runs_out (Some v) there e answers = failed_out_of_memory v e (answers v refl)
-
-  -- and the value that is had is given alone
-  pub literal_given : (o : Option (Dynamic H)) → is_some o ≡ true → (x : Dynamic H) →
-      ((v : Dynamic H) → o ≡ Some v → Answers {A = Dynamic H} {H = H} (Ok x) (Ok v)) → (args : List (Dynamic H)) → args ≡ x ∷ [] →
-      (v : Dynamic H) × (o ≡ Some v) × (Some args ≡ Some (v ∷ []))
-  literal_given None there x answers args is = cc
-  literal_given (Some v) there x answers args is =
-      let same = answers v refl tt in
-      let alone : args ≡ v ∷ [] = cc in
-      (v, refl, ap Some alone)
-
-  -- what is given at once is a literal that has a value
-  pub is_given : (given : Ready) (o : Option (List (Dynamic H))) → IsReady (Some given) o → IsGiven H given
-  is_given code.Nothing o is = tt
-  is_given (code.Literal expr) o is = rw is.1 refl
-
-  -- and it is what the machine gives
-  pub given_same : (given : Ready) (o : Option (List (Dynamic H))) (args : List (Dynamic H)) → IsReady (Some given) o →
-      IsReady (Some given) (Some args) → o ≡ Some args
-  given_same code.Nothing o args is same = is ∙ sym same
-  given_same (code.Literal expr) o args is same = let alike : is.0 ≡ same.0 = cc (is.1, same.1) in
-      is.2 ∙ ap (λ (x : Dynamic H). Some (x ∷ [])) alike ∙ sym same.2
-
   -- what one link alone is given is as much as it asks for
   given_at_once : (behind : Option ExprLayer) (o : Option (List (Dynamic H))) (args : List (Dynamic H)) → alone behind o ≡ Some args →
       (behind ≡ None) × (o ≡ Some args)
@@ -141,12 +96,6 @@ module _ {H : Type 0} where
 
   pub asked_at_once : (form : ExprLayer) (args : List (Dynamic H)) → at_once (link_of form) ≡ Some args → HasAsked (Ok args) 0 form
   asked_at_once form args given = once_asked form (link_of form) args refl given
-
-  -- as much as is given at once is asked for
-  pub given_asked : (given : Ready) (form : ExprLayer) (r : Result (List (Dynamic H)) (EvalAltResult H)) →
-      IsReady {H = H} (Some given) (at_once (link_of form)) → IfOk r (λ args. IsReady (Some given) (Some args)) → HasAsked r 0 form
-  given_asked given form (Err e) is told = tt
-  given_asked given form (Ok args) is told = asked_at_once form args (given_same given (at_once (link_of form)) args is told)
 
   -- so many values a chain walks with
   pub walks_given : (assigned : Bool) (form : ExprLayer) (values : List (Dynamic H)) → MayWalk assigned form →

@@ -1,5 +1,5 @@
 -- How the parts of a call are told.
-use Rattle.std.specs.Prelude.{◌≡◌, ◌+◌, ℕ, Bool, List, [], ◌∷◌, Option, Result, Ok, Err, codes, length}
+use Rattle.std.specs.Prelude.{◌≡◌, ◌+◌, ℕ, Bool, List, Option, Result, Ok, Err, length}
 use Rattle.rhai_tree.specs.declared.expr.Expr.{Expr}
 use Rattle.rhai_tree.specs.declared.expr.FnCallExpr.{FnCallExpr}
 use Rattle.rhai_tree.specs.declared.expr.Namespace.{Namespace}
@@ -11,12 +11,9 @@ use Rattle.rhai_errors.specs.declared.error.EvalAltResult.{EvalAltResult}
 use Rattle.rhai_machine.specs.language.Setting.{Rules}
 use Rattle.rhai_machine.specs.language.State.{Local, State}
 use Rattle.rhai_machine.specs.language.Frames.{Operation, Purpose, Frame, Core, core, Fail}
-use Rattle.rhai_machine.specs.language.Frames.{ToCallFunction, ToCallNumber, ToCurry}
 use Rattle.rhai_machine.specs.language.Arguments.{arguments_core, arguments_there, flattens, function_core, keyword_of, linked_to}
-use Rattle.rhai_machine.specs.language.Arguments.{operation_named, pointer_core}
+use Rattle.rhai_machine.specs.language.Arguments.{pointer_core}
 use Rattle.rhai_machine.specs.language.Runs.{Goes}
-use Rattle.rhai_eval_core.specs.declared.call.keywords.PointerUse.{PointerUse}
-use Rattle.rhai_eval_core.specs.declared.call.keywords.PointerUse.TheVariants as code
 
 module _ {S H : Type 0} (rules : Rules S H) where
   -- a pointer that is called
@@ -42,12 +39,6 @@ module _ {H : Type 0} where
   abbrev pub called : Operation → List Expr → (captures : Bool) → List (Frame H) → Local H → Core H
   called operation args captures k l =
       function_core (keyword_of operation.token operation.name (length args)) operation args captures k l
-
-  -- what a pointer's arguments are for
-  abbrev pub purpose_of : PointerUse H → Position → Purpose H
-  purpose_of (code.Curry pointer) at = ToCurry pointer
-  purpose_of (code.Linked function curried) at = ToCallFunction function at curried
-  purpose_of (code.Number id curried) at = ToCallNumber id.number (operation_named (codes "call") at) curried
 
 -- a call, told by its parts
 abbrev pub in_parts : Namespace → (name : List ℕ) → List Expr → Option Token → (captures : Bool) → FnCallExpr

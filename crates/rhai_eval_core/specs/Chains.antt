@@ -1,6 +1,5 @@
 -- How the parts of a chain are told, and what a run may rely on in one that was checked.
-use Rattle.std.specs.Prelude.{◌≡◌, ⊤, ℕ, ◌+◌, Bool, true, false, List, [], length, is_some, IsTrue, Result, Ok, Err}
-use Rattle.rhai_tree.specs.declared.expr.Expr.{out-Expr}
+use Rattle.std.specs.Prelude.{◌≡◌, ⊤, ℕ, ◌+◌, Bool, true, false, List, [], length, Result, Ok, Err}
 use Rattle.rhai_tree.specs.declared.expr.Expr.TheOpen as layer
 use Rattle.rhai_tree.specs.Layers.{ExprLayer}
 use Rattle.rhai_tree.specs.Forms.{ends_chain}
@@ -14,11 +13,8 @@ use Rattle.rhai_machine.specs.language.Setting.{Rules, cut}
 use Rattle.rhai_machine.specs.language.State.{State}
 use Rattle.rhai_machine.specs.language.Frames.{Chain, ChainRoot, Control, Fail, OpenChain}
 use Rattle.rhai_machine.specs.language.Language.{machine}
-use Rattle.rhai_machine.specs.language.Expressions.{literal_of}
 use Rattle.rhai_machine.specs.language.Runs.{at}
 use Rattle.rhai_chains.specs.Chains.{Walks}
-use Rattle.rhai_chains.specs.declared.arguments.Ready.{Ready}
-use Rattle.rhai_chains.specs.declared.arguments.Ready.TheVariants as code
 
 -- ---- what is asked
 
@@ -40,11 +36,6 @@ StartsFrom true (layer.Variable offset name namespace pos) = ⊤
 StartsFrom true (layer.ThisPtr pos) = ⊤
 StartsFrom true _ = ⊥
 StartsFrom false root = ⊤
-
--- what a chain is given at once is nothing, or the value of a literal
-abbrev pub IsGiven : (H : Type 0) → Ready → Type 0
-IsGiven H code.Nothing = ⊤
-IsGiven H (code.Literal expr) = IsTrue (is_some (literal_of {H = H} (out-Expr expr.now)))
 
 module _ {H : Type 0} where
   -- as many values as a chain asks for stand behind those before them

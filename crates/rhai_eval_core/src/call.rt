@@ -1,20 +1,18 @@
 //! Calls: operators, plain calls, natives at once, and calls by name. Ports upstream's `func/call.rs`; the
 //! contracts speak of the machine's runs and of specs/Calls.antt.
 
-ghost use Rattle.std.specs.Prelude.{◌≡◌, ◌≤◌, [], IsTrue, map, true, false, not};
+ghost use Rattle.std.specs.Prelude.{◌≤◌, [], IsTrue, map};
 ghost use Rattle.std.specs.Option.{option_copied};
 ghost use Rattle.rhai_tree.specs.Frame.{all_resolve_exprs, resolves_call, tests_of};
 ghost use Rattle.rhai_tree.specs.declared.expr.Expr.TheOpen as layer;
-ghost use Rattle.rhai_machine.specs.language.Frames.{OpenExpr, CallNamed, ToCall, ToCallOn, ToCallOnThis, core};
+ghost use Rattle.rhai_machine.specs.language.Frames.{OpenExpr, CallNamed, ToCall, core};
 ghost use Rattle.rhai_machine.specs.language.Frames.{ended};
-ghost use Rattle.rhai_machine.specs.language.Arguments.{arguments_core, is_captured, arguments_there};
+ghost use Rattle.rhai_machine.specs.language.Arguments.{arguments_core, is_captured};
 ghost use Rattle.rhai_machine.specs.language.Runs.{Runs, Goes};
 ghost use Rattle.rhai_steps.specs.Operations.{operation_of};
-ghost use Rattle.rhai_steps.specs.Agreement.{KeepsSight, variable_is_good};
-ghost use Rattle.rhai_calls.specs.Called.{with_args, came_out};
 ghost use Rattle.rhai_call_forms.specs.Forms.{IsForm};
 ghost use Rattle.rhai_call_forms.specs.declared.forms.CallForm.TheVariants as form;
-ghost use Rattle.rhai_call_forms.specs.Leading.{all_args, leading_seen, variable_read};
+ghost use Rattle.rhai_call_forms.specs.Leading.{all_args};
 ghost use Rattle.rhai_context.specs.Ends.{came};
 ghost use Rattle.rhai_eval_core.specs.Agreement.{KeepsNames, SuitsNames};
 ghost use Rattle.rhai_eval_core.specs.Calls.{called};
@@ -30,34 +28,22 @@ mod qualified;
 
 use crate::evaluator::Evaluator;
 use rhai_at_once::call_at_once;
-use rhai_call_forms::arguments::{FirstVariable, first_variable, this_first};
+use rhai_call_forms::arguments::{captures_some, first_variable, this_first};
 use rhai_call_forms::forms::may_operate;
 use rhai_call_forms::keywords::keyword_of;
 use rhai_callees::arguments::parts_of_call;
-use rhai_callees::call_values;
-use rhai_callees::this::call_on_this;
-use rhai_callees::variable::call_on_variable;
-use rhai_calls::dispatch::Called;
+use rhai_callees::runs::{call_with, call_with_this, call_with_variable};
 use rhai_context::Context;
 use rhai_context::outcomes::charge;
 use rhai_errors::table::NativeTable;
 use rhai_few::Few;
-use rhai_functions::function::Function;
 use rhai_plain::callee::plain_callee;
-use rhai_state::scope::Scope;
 use rhai_steps::operation::Operation;
-use rhai_steps::variables::{Variable, is_plain};
+use rhai_steps::variables::is_plain;
 use rhai_tree::Items;
 use rhai_tree::expr::{Expr, FnCallExpr};
 use rhai_tree::position::Position;
 use rhai_values::base::value::{Dynamic, Host};
-
-/// Tells whether a call that captures its caller's variables runs on them: there are some.
-fn is_on_scope<H>(scope: &Scope<H>, captures: bool) -> bool
-    ensures { result ≡ is_captured captures (entries_of scope.now) }
-{
-    captures && scope.len() != 0
-}
 
 impl<'e, H: Host> Evaluator<'e, H> {
     /// Evaluates a call: an operator on its operands, or of a function. How it ended stands in the run.
@@ -220,7 +206,8 @@ impl<'e, H: Host> Evaluator<'e, H> {
                 drop(values);
                 return false;
             }
-            let called = self.call_with_this(
+            let called = call_with_this(
+                &self.session,
                 run,
                 table,
                 operation,
@@ -248,7 +235,8 @@ impl<'e, H: Host> Evaluator<'e, H> {
                     drop(values);
                     return false;
                 }
-                let called = self.call_with_variable(
+                let called = call_with_variable(
+                    &self.session,
                     run,
                     table,
                     operation,
@@ -271,107 +259,6 @@ impl<'e, H: Host> Evaluator<'e, H> {
                 natives_alone,
             ),
         }
-    }
-
-    /// Makes a call by name of a variable and of values behind it.
-    fn call_with_variable<T: NativeTable<H>>(
-        &self,
-        run: &mut Context<H>,
-        table: &mut T,
-        operation: &Operation<'_>,
-        variable: FirstVariable<'_>,
-        values: &mut Few<Dynamic<H>>,
-        natives_alone: bool,
-    ) -> Called<Dynamic<H>, Function<H>, H>
-        requires { SuitsNames run.old (variable_is_good variable.offset variable.name.now
-            variable.namespace.now.path) }
-        ensures counts { run.old.global.num_operations ≤ run.new.global.num_operations }
-        ensures names { KeepsNames run.old run.new }
-        ensures runs { let rules = under H.name_of self.now T.natives in
-            Goes rules
-            (arguments_there rules.setting (ToCallOn (operation_of operation.now) (variable_read (leading_seen variable.entry)) (plainly natives_alone false)) values.old)
-            (state_in (T.state table.old) run.old)
-            (came_out true operation.now.at (with_args result values.new))
-            (state_in (T.state table.new) run.new) }
-    {
-        call_on_variable(
-            &self.session,
-            &mut run.global,
-            table,
-            &mut run.scope,
-            natives_alone,
-            operation,
-            &Variable {
-                offset: variable.offset,
-                name: variable.name,
-                namespace: variable.namespace,
-                at: variable.pos,
-            },
-            values,
-        )
-    }
-
-    /// Makes a call by name of `this` and of values behind it.
-    fn call_with_this<T: NativeTable<H>>(
-        &self,
-        run: &mut Context<H>,
-        table: &mut T,
-        operation: &Operation<'_>,
-        this_at: Position,
-        values: &mut Few<Dynamic<H>>,
-        natives_alone: bool,
-    ) -> Called<Dynamic<H>, Function<H>, H>
-        ensures counts { run.old.global.num_operations ≤ run.new.global.num_operations }
-        ensures sight { KeepsSight run.old.global run.new.global }
-        ensures scope { run.new.scope ≡ run.old.scope }
-        ensures runs { let rules = under H.name_of self.now T.natives in
-            Goes rules
-            (arguments_there rules.setting (ToCallOnThis (operation_of operation.now) this_at (plainly natives_alone false)) values.old)
-            (state_in (T.state table.old) run.old)
-            (came_out true operation.now.at (with_args result values.new))
-            (state_in (T.state table.new) run.new) }
-    {
-        call_on_this(
-            &self.session,
-            &mut run.global,
-            table,
-            &mut run.this,
-            natives_alone,
-            operation,
-            this_at,
-            values,
-        )
-    }
-
-    /// Makes a call by name of values, behind those that a pointer has.
-    fn call_with<T: NativeTable<H>>(
-        &self,
-        run: &mut Context<H>,
-        table: &mut T,
-        operation: &Operation<'_>,
-        curried: Items<Dynamic<H>>,
-        values: &mut Few<Dynamic<H>>,
-        natives_alone: bool,
-    ) -> Called<Dynamic<H>, Function<H>, H>
-        ensures counts { run.old.global.num_operations ≤ run.new.global.num_operations }
-        ensures sight { KeepsSight run.old.global run.new.global }
-        ensures scope { run.new.scope ≡ run.old.scope }
-        ensures runs { (on_scope : _) → let rules = under H.name_of self.now T.natives in
-            Goes rules
-            (arguments_there rules.setting (ToCall (operation_of operation.now) curried (plainly natives_alone on_scope)) values.old)
-            (state_in (T.state table.old) run.old)
-            (came_out (not on_scope) operation.now.at (with_args result values.new))
-            (state_in (T.state table.new) run.new) }
-    {
-        call_values(
-            &self.session,
-            &mut run.global,
-            table,
-            natives_alone,
-            operation,
-            curried,
-            values,
-        )
     }
 
     /// Makes a call by name whose arguments are all passed by their values, behind those that a pointer has.
@@ -398,14 +285,22 @@ impl<'e, H: Host> Evaluator<'e, H> {
             (state_in (T.state table.old) run.old) (core (ended (came result run.new.value run.new.error)))
             (state_in (T.state table.new) run.new) }
     {
-        let on_scope = is_on_scope(&run.scope, captures);
+        let on_scope = captures_some(&run.scope, captures);
         let mut values = Few::new(self.session.alloc);
         if !self.run_all_args(run, table, &mut values, first, rest) {
             drop(curried);
             drop(values);
             return false;
         }
-        let called = self.call_with(run, table, operation, curried, &mut values, natives_alone);
+        let called = call_with(
+            &self.session,
+            run,
+            table,
+            operation,
+            curried,
+            &mut values,
+            natives_alone,
+        );
         let done = self.finish_call(run, table, called, &mut values, !on_scope, operation.at);
         drop(values);
         done

@@ -2,96 +2,37 @@
 //! `eval_dot_index_chain`, up to the walk; the contracts speak of the machine's runs and of
 //! specs/Chains.antt.
 
-ghost use Rattle.std.specs.Prelude.{◌≡◌, ◌≤◌, IsTrue, OnOk, IfErr, IfSome, Some, None, [], true, false, is_some, length};
+ghost use Rattle.std.specs.Prelude.{◌≡◌, ◌≤◌, IsTrue, None, true, false, is_some, length};
 ghost use Rattle.rhai_tree.specs.declared.expr.Expr.{out-Expr};
 ghost use Rattle.rhai_tree.specs.declared.expr.Expr.TheOpen as layer;
 ghost use Rattle.rhai_tree.specs.Frame.{resolves_expr, target_resolves, tests_of};
-ghost use Rattle.rhai_errors.specs.Errors.{is_out_of_memory};
 ghost use Rattle.rhai_machine.specs.language.Frames.{ChainRoot, OpenChain, OpenStmt, chain_on, ChainArguments};
 ghost use Rattle.rhai_machine.specs.language.Links.{first_in};
 ghost use Rattle.rhai_machine.specs.language.Runs.{Runs, Steps};
 ghost use Rattle.rhai_chains.specs.Chains.{Walks, chain_at, new_of};
-ghost use Rattle.rhai_chains.specs.Ready.{at_once, IsReady};
-ghost use Rattle.rhai_context.specs.Ends.{came, error_in};
+ghost use Rattle.rhai_context.specs.Ends.{came};
 ghost use Rattle.rhai_eval_core.specs.Agreement.{KeepsNames, SuitsNames};
-ghost use Rattle.rhai_eval_core.specs.Chains.{gathered, HasAsked, IsGiven, MayWalk, StartsFrom, AsksFirst};
+ghost use Rattle.rhai_eval_core.specs.Chains.{gathered, HasAsked, MayWalk, StartsFrom, AsksFirst};
 ghost use Rattle.rhai_eval_core.specs.Chains.{behind_resolves};
 ghost use Rattle.rhai_eval_core.specs.States.{state_in, under};
-ghost use Rattle.rhai_machine.specs.language.Links.{link_of as link_in};
 
 mod roots;
 mod walk;
 
-use crate::chaining::roots::take_flat;
 use crate::evaluator::Evaluator;
-use rhai_call_forms::arguments::keep_argument;
-use rhai_chains::arguments::{Ready, asked, ready_at_once, ready_value};
+use rhai_chains::arguments::asked;
 use rhai_chains::chain::NewValue;
 use rhai_chains::links::{first_of, link_of};
 use rhai_context::Context;
-use rhai_context::ends::{put_unit, stop};
+use rhai_context::ends::put_unit;
 use rhai_context::outcomes::charge;
-use rhai_errors::error::EvalAltResult;
 use rhai_errors::table::NativeTable;
 use rhai_few::Few;
 use rhai_steps::variables::Variable;
 use rhai_tree::expr::{Expr, OpAssignment};
 use rhai_values::base::value::{Dynamic, Host};
-use std::alloc::Global;
-
-/// Puts what a chain is given at once into a list that is empty.
-///
-/// # Errors
-/// `ErrorOutOfMemory` alone.
-fn put_ready_args<H: Host>(
-    alloc: Global,
-    made: &mut Few<Dynamic<H>>,
-    ready: Ready<'_>,
-) -> Result<(), EvalAltResult<H>>
-    requires ready { IsGiven H ready }
-    requires empty { made.old ≡ [] }
-    ensures given { OnOk result (IsReady (Some ready.entry) (Some made.new)) }
-    ensures refused { IfErr result (λ error. is_out_of_memory error ≡ true) }
-{
-    match ready {
-        Ready::Nothing => Ok(()),
-        Ready::Literal(literal) => {
-            let value = ready_value(alloc, literal)?;
-            keep_argument(made, value, literal.position())?;
-            Ok(())
-        }
-    }
-}
-
-/// Tells whether what the links of a chain ask for is to be evaluated. What needs no step goes into the list,
-/// which is empty before. None where there is no memory for it: then the run stops.
-///
-/// # Errors
-/// `ErrorOutOfMemory` alone. It is left in `place`.
-fn take_ready_args<H: Host>(
-    alloc: Global,
-    made: &mut Few<Dynamic<H>>,
-    place: &mut Option<EvalAltResult<H>>,
-    chain: &Expr,
-) -> Option<bool>
-    requires { made.old ≡ [] }
-    ensures given { IfSome result (λ asks. asks ≡ false →
-        at_once (link_in (out-Expr chain.now)) ≡ Some made.new) }
-    ensures asks { IfSome result (λ asks. asks ≡ true → (made.new ≡ [])
-        × (at_once {H = H} (link_in (out-Expr chain.now)) ≡ None)) }
-    ensures refused { result ≡ None → is_out_of_memory (error_in place.new) ≡ true }
-{
-    match ready_at_once::<H>(chain) {
-        Some(ready) => match put_ready_args(alloc, made, ready) {
-            Ok(()) => Some(false),
-            Err(error) => {
-                stop(place, error);
-                None
-            }
-        },
-        None => Some(true),
-    }
-}
+use rhai_walk::given::take_ready_args;
+use rhai_walk::roots::take_flat;
 
 impl<'e, H: Host> Evaluator<'e, H> {
     /// Evaluates a chain that is read or assigned to. What all its links ask for comes first, then its root,

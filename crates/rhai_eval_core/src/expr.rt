@@ -1,17 +1,11 @@
 //! Expressions. Ports upstream's `eval/expr.rs`; the contracts speak of the machine's runs.
 
-ghost use Rattle.std.specs.Prelude.{◌≡◌, ◌<◌, ◌&&◌, IfErr, IfSome, IsTrue, None, is_some, true, false};
-ghost use Rattle.rhai_tree.specs.declared.expr.Expr.{out-Expr};
+ghost use Rattle.std.specs.Prelude.{◌≡◌, ◌<◌, IfErr, IfSome, IsTrue, None, true, false};
 ghost use Rattle.rhai_tree.specs.Frame.{resolves_expr};
 ghost use Rattle.rhai_errors.specs.Errors.{is_out_of_memory};
-ghost use Rattle.rhai_state.specs.Scope.{entries_of};
 ghost use Rattle.rhai_machine.specs.language.Values.{is_handle, is_truth};
 ghost use Rattle.rhai_machine.specs.language.Frames.{Eval};
 ghost use Rattle.rhai_machine.specs.language.Runs.{Runs};
-ghost use Rattle.rhai_steps.specs.Agreement.{AgreesAt, KeepsSight};
-ghost use Rattle.rhai_steps.specs.Sessions.{under as under_session};
-ghost use Rattle.rhai_steps.specs.States.{state_of};
-ghost use Rattle.rhai_operands.specs.Standing.{condition_truth};
 ghost use Rattle.rhai_operands.specs.Tests.{Tests};
 ghost use Rattle.rhai_context.specs.Ends.{came, came_test, error_in};
 ghost use Rattle.rhai_eval_core.specs.Agreement.{KeepsNames, SuitsNames};
@@ -24,49 +18,11 @@ mod data;
 use crate::evaluator::Evaluator;
 use rhai_context::Context;
 use rhai_context::outcomes::{charge_expr, truth_left};
-use rhai_errors::error::EvalAltResult;
 use rhai_errors::table::NativeTable;
-use rhai_operands::operators::truth_in_place;
+use rhai_operands::operators::holds_at_once;
 use rhai_operands::reading::read_expr;
-use rhai_state::scope::Scope;
-use rhai_state::session::Session;
-use rhai_state::state::GlobalRuntimeState;
 use rhai_tree::expr::Expr;
 use rhai_values::base::value::Host;
-
-/// Tells whether a condition holds that is answered at once. Under fast operators that is one that compares
-/// operands which stand; None in Some where it stopped the run. None for any other: then nothing is charged.
-/// The table is not called.
-///
-/// # Errors
-/// `ErrorTooManyOperations` at the operator or an operand where the count has reached the limit.
-#[inline(always)]
-fn holds_at_once<H: Host, T: NativeTable<H>>(
-    session: &Session<'_, H>,
-    global: &mut GlobalRuntimeState<H>,
-    table: &T,
-    scope: &Scope<H>,
-    place: &mut Option<EvalAltResult<H>>,
-    test: &Expr,
-) -> Option<Option<bool>>
-    requires { AgreesAt global.old scope.now (resolves_expr test.now) }
-    ensures found { is_some result ≡ (session.now.fast_operators && is_some (condition_truth (out-Expr test.now) (entries_of scope.now))) }
-    ensures left_alone { result ≡ None → global.new ≡ global.old }
-    ensures charges { IfSome result (λ told. IfSome told (λ _.
-        global.old.num_operations < global.new.num_operations)) }
-    ensures memory { IfSome result (λ told. told ≡ None → is_out_of_memory (error_in place.new) ≡ false) }
-    ensures sight { KeepsSight global.old global.new }
-    ensures runs { (held : _) → IfSome result (λ told. Tests (under_session H.name_of session.now T.natives) test.now
-        (state_of (T.state table.now) global.old scope.now held)
-        (came_test told place.new) (state_of (T.state table.now) global.new scope.now held)) }
-{
-    let is_fast = session.fast_operators;
-    if is_fast {
-        truth_in_place(session, global, table, scope, place, test)
-    } else {
-        None
-    }
-}
 
 impl<'e, H: Host> Evaluator<'e, H> {
     /// Evaluates an expression. How it ended stands in the run.

@@ -1,8 +1,7 @@
 //! Statements. Ports upstream's `eval/stmt.rs`; the contracts speak of the machine's runs.
 
-ghost use Rattle.rhai_assign_stmt.specs.Assignments.{statement_of};
-ghost use Rattle.std.specs.Prelude.{◌≡◌, ◌<◌, ◌≤◌, IfErr, IfSome, IsTrue, true, false};
-ghost use Rattle.std.specs.Prelude.{None, length, map};
+ghost use Rattle.std.specs.Prelude.{◌≡◌, ◌<◌, ◌≤◌, IfErr, IsTrue, true};
+ghost use Rattle.std.specs.Prelude.{length, map};
 ghost use Rattle.rhai_tree.specs.Frame.{tests_of, target_resolves, resolves_expr, resolves_stmt};
 ghost use Rattle.rhai_tree.specs.Frame.{all_resolve, resolves_block, var_names, var_resolves};
 ghost use Rattle.rhai_tree.specs.declared.expr.Stmt.{out-Stmt};
@@ -10,10 +9,7 @@ ghost use Rattle.rhai_tree.specs.declared.expr.Expr.TheOpen as layer;
 ghost use Rattle.rhai_errors.specs.Errors.{is_out_of_memory};
 ghost use Rattle.rhai_machine.specs.language.Frames.{Exec, OpenStmt, Enter, Run};
 ghost use Rattle.rhai_machine.specs.language.Runs.{Runs};
-ghost use Rattle.rhai_steps.specs.Agreement.{AgreesAt, KeepsSight, changes, passes};
-ghost use Rattle.rhai_steps.specs.Sessions.{under as under_session};
-ghost use Rattle.rhai_steps.specs.States.{state_of};
-ghost use Rattle.rhai_assign.specs.Keeps.{Keeps};
+ghost use Rattle.rhai_steps.specs.Agreement.{changes, passes};
 ghost use Rattle.rhai_context.specs.Ends.{came};
 ghost use Rattle.rhai_eval_core.specs.Agreement.{ChangesNames, Declared, KeepsNames, RestoresNames, SuitsNames};
 ghost use Rattle.rhai_eval_core.specs.Memory.{asks_if, asks_stmt, may_ask};
@@ -28,7 +24,7 @@ mod tries;
 mod walks;
 
 use crate::evaluator::Evaluator;
-use rhai_assign_stmt::in_place::{Assignment, assign_in_place};
+use rhai_assign_stmt::in_place::Assignment;
 use rhai_assign_stmt::left::{assign_from_run, assign_this_from_run};
 use rhai_assign_stmt::lists::open_list;
 use rhai_context::Context;
@@ -36,68 +32,16 @@ use rhai_context::ends::{leave_unit, put_unit, stop};
 use rhai_context::outcomes::{charge_stmt, flatten_at};
 use rhai_errors::error::EvalAltResult;
 use rhai_errors::table::NativeTable;
-use rhai_items::assign_item;
+use rhai_items::at_once::assign_at_once;
 use rhai_modules::importing::{import_module, may_import};
 use rhai_sharing::declaring::{Declaration, declare, is_declarable};
 use rhai_sharing::exporting::export_variable;
 use rhai_sharing::share_variables;
-use rhai_state::scope::Scope;
-use rhai_state::session::Session;
-use rhai_state::state::GlobalRuntimeState;
 use rhai_steps::loops::choose_list;
 use rhai_steps::variables::{Variable, leave_list};
 use rhai_tree::expr::{Expr, Ident, OpAssignment, Stmt, StmtBlock};
 use rhai_tree::position::Position;
-use rhai_values::base::value::{Dynamic, Host};
-
-/// Assigns at once under fast operators, where that is possible. It is by an operator to a variable, where
-/// its value is an operand that stands and there is a built-in for it, and to an item of an array that a
-/// variable has, where all that it works on are integers as they stand. None for any other: then nothing is
-/// charged. The table is not called.
-///
-/// # Errors
-/// Those of `assign_in_place`.
-fn assign_at_once<H: Host, T: NativeTable<H>>(
-    session: &Session<'_, H>,
-    global: &mut GlobalRuntimeState<H>,
-    table: &T,
-    scope: &mut Scope<H>,
-    out: &mut Dynamic<H>,
-    place: &mut Option<EvalAltResult<H>>,
-    assignment: &Assignment<'_>,
-) -> Option<bool>
-    requires resolves_target { AgreesAt global.old scope.old (target_resolves (tests_of assignment.now.left.now)) }
-    requires resolves { AgreesAt global.old scope.old (resolves_expr assignment.now.right.now) }
-    ensures left_global { result ≡ None → global.new ≡ global.old }
-    ensures left_scope { result ≡ None → scope.new ≡ scope.old }
-    ensures keeps { Keeps global.old global.new scope.old scope.new }
-    ensures sight { KeepsSight global.old global.new }
-    ensures runs { (held : _) (restoring : _) → IfSome result (λ done. Runs (under_session H.name_of session.now T.natives)
-        (OpenStmt (statement_of assignment.now) restoring)
-        (state_of (T.state table.now) global.old scope.old held)
-        (came done out.new place.new) (state_of (T.state table.now) global.new scope.new held)) }
-{
-    let is_fast = session.fast_operators;
-    if !is_fast {
-        return None;
-    }
-    if let Expr::Index(..) = assignment.left {
-        if !assign_item(
-            session,
-            global,
-            table,
-            scope,
-            assignment.op,
-            assignment.left,
-            assignment.right,
-        ) {
-            return None;
-        }
-        put_unit(out);
-        return Some(true);
-    }
-    assign_in_place(session, global, table, scope, out, place, assignment)
-}
+use rhai_values::base::value::Host;
 
 impl<'e, H: Host> Evaluator<'e, H> {
     /// Runs a statement, in a list that restores or not. How it ended stands in the run.

@@ -4,6 +4,8 @@
 //! own specs/.
 #![tactic(auto)]
 
+pub mod at_once;
+
 ghost use Rattle.std.specs.Prelude.{◌≡◌, ◌<◌, IfSome, Some, Ok, length, slice_get, true, false};
 ghost use Rattle.std.specs.Prelude.{unsigned_abs};
 ghost use Rattle.std.specs.Option.{option_map};

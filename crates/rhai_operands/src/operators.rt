@@ -1,8 +1,8 @@
 //! Binary operators on operands as they stand, and conditions that compare them. Ports the fast
 //! operators of upstream's `func/call.rs`.
 
-ghost use Rattle.std.specs.Prelude.{◌≡◌, ◌≤◌, ◌<◌, ◌+◌, ◌∷◌, [], IsTrue, IfSome};
-ghost use Rattle.std.specs.Prelude.{Some, None, is_some, true, false};
+ghost use Rattle.std.specs.Prelude.{◌≡◌, ◌≤◌, ◌<◌, ◌+◌, ◌&&◌, ◌∷◌, [], IsTrue, IfSome};
+ghost use Rattle.std.specs.Prelude.{Some, None, is_some, not, true, false};
 ghost use Rattle.rhai_tree.specs.declared.expr.Expr.{out-Expr};
 ghost use Rattle.rhai_tree.specs.declared.expr.Expr.TheOpen as layer;
 ghost use Rattle.rhai_tree.specs.Frame.{resolves_expr};
@@ -32,7 +32,6 @@ use rhai_state::session::Session;
 use rhai_state::state::GlobalRuntimeState;
 use rhai_steps::charges::{charge_all, track_operation};
 use rhai_steps::replies::applied;
-use rhai_steps::values::int_value;
 use rhai_tree::expr::{Expr, FnCallExpr};
 use rhai_tree::position::Position;
 use rhai_tree::token::Token;
@@ -386,4 +385,47 @@ pub fn truth_in_place<H: Host, T: NativeTable<H>>(
         return Some(None);
     }
     Some(Some(holds))
+}
+
+/// Tells whether a condition holds that is answered at once. Under fast operators that is one that compares
+/// operands which stand; None in Some where it stopped the run. None for any other: then nothing is charged.
+/// The table is not called.
+///
+/// # Errors
+/// `ErrorTooManyOperations` at the operator or an operand where the count has reached the limit.
+#[inline(always)]
+pub fn holds_at_once<H: Host, T: NativeTable<H>>(
+    session: &Session<'_, H>,
+    global: &mut GlobalRuntimeState<H>,
+    table: &T,
+    scope: &Scope<H>,
+    place: &mut Option<EvalAltResult<H>>,
+    test: &Expr,
+) -> Option<Option<bool>>
+    requires { AgreesAt global.old scope.now (resolves_expr test.now) }
+    ensures found { is_some result ≡ (session.now.fast_operators
+        && is_some (condition_truth (out-Expr test.now) (entries_of scope.now))) }
+    ensures left_alone { result ≡ None → global.new ≡ global.old }
+    ensures charges { IfSome result (λ told. IfSome told (λ _.
+        global.old.num_operations < global.new.num_operations)) }
+    ensures memory { IfSome result (λ told. told ≡ None → is_out_of_memory (error_in place.new) ≡ false) }
+    ensures sight { KeepsSight global.old global.new }
+    ensures runs { (held : _) → IfSome result (λ told. Tests (under H.name_of session.now T.natives) test.now
+        (state_of (T.state table.now) global.old scope.now held)
+        (came_test told place.new) (state_of (T.state table.now) global.new scope.now held)) }
+{
+    let is_fast = session.fast_operators;
+    if is_fast {
+        truth_in_place(session, global, table, scope, place, test)
+    } else {
+        None
+    }
+}
+
+/// Tells whether two truth values are the same.
+pub fn is_same(left: bool, right: bool) -> bool
+    ensures same { result ≡ true → left ≡ right }
+    ensures other { result ≡ false → left ≡ not right }
+{
+    if right { left } else { !left }
 }

@@ -3,6 +3,7 @@ mod Below
 pub mod Descending
 pub mod Entering
 pub mod FreeFocus
+mod GivenAtOnce
 pub mod Inside
 pub mod PartCalls
 pub mod OnTemporaries

@@ -1,7 +1,7 @@
-//! What stands around the call of a method in a walk: where its first argument stands, and how the part that
-//! it was called on goes back.
+//! What stands around the call of a method in a walk: what it is called by, and how the part that it was
+//! called on goes back.
 
-ghost use Rattle.std.specs.Prelude.{◌≡◌, None, IfSome, true};
+ghost use Rattle.std.specs.Prelude.{◌≡◌, None, IfSome, length, true};
 ghost use Rattle.rhai_values.specs.Layers.{layer_of};
 ghost use Rattle.rhai_spots.specs.Parts.{IsPart, part_of};
 ghost use Rattle.rhai_errors.specs.Errors.{is_out_of_memory};
@@ -15,19 +15,32 @@ use rhai_errors::error::EvalAltResult;
 use rhai_places::part::read_part;
 use rhai_places::put::put_part;
 use rhai_spots::spot::Spot;
-use rhai_tree::expr::Expr;
+use rhai_tree::expr::{Expr, FnCallExpr};
 use rhai_tree::position::Position;
 use rhai_values::base::value::{Dynamic, Host};
 use std::alloc::Global;
 
 /// Tells at which position the first of some arguments stands.
-pub fn first_position(args: &[Expr]) -> Option<Position>
+fn first_position(args: &[Expr]) -> Option<Position>
     ensures { result ≡ first_position_in args.now }
 {
     match args {
         [] => None,
         [first, ..] => Some(first.position()),
     }
+}
+
+/// Reads the name that a method is called by, where its first argument stands, and how many it asks for.
+pub fn asked_by(call: &FnCallExpr) -> (&str, Option<Position>, usize)
+    ensures name { result.0.now ≡ call.now.name }
+    ensures first { result.1 ≡ first_position_in call.now.args }
+    ensures count { result.2 ≡ length call.now.args }
+{
+    (
+        call.name.get().as_str(),
+        first_position(call.args.as_slice()),
+        call.args.len(),
+    )
 }
 
 /// Puts a part back into its place where the answer of a method on it tells of a change. The value of the

@@ -8,11 +8,16 @@
 pub mod calls;
 pub mod ends;
 pub mod focus;
+pub mod given;
+pub mod roots;
 pub mod temporaries;
 pub mod ways;
 
+ghost use Rattle.std.specs.Prelude.{◌≡◌};
+
 use rhai_state::session::Session;
 use rhai_tree::expr::Expr;
+use rhai_values::base::value::Host;
 
 /// What stays the same all along a walk.
 #[derive(Drop)]
@@ -20,4 +25,14 @@ pub struct Walker<'w, 'e, H> {
     pub session: &'w Session<'e, H>,
     /// The root of the chain.
     pub root: &'w Expr,
+}
+
+impl<'w, 'e, H: Host> Walker<'w, 'e, H> {
+    /// Returns what stays the same all along a walk.
+    pub fn new(session: &'w Session<'e, H>, root: &'w Expr) -> Walker<'w, 'e, H>
+        ensures session { result.session.now ≡ session.now }
+        ensures root { result.root.now ≡ root.now }
+    {
+        Walker { session, root }
+    }
 }

@@ -8,6 +8,7 @@ ghost use Rattle.rhai_values.specs.Copy.{plain};
 ghost use Rattle.rhai_values.specs.Layers.{layer_of};
 ghost use Rattle.rhai_values.specs.declared.base.value.Union.TheVariants as kind;
 ghost use Rattle.rhai_spots.specs.Found.{found};
+ghost use Rattle.rhai_machine.specs.language.Frames.{Item};
 ghost use Rattle.rhai_machine.specs.language.Links.{link_of as link_in};
 ghost use Rattle.rhai_machine.specs.language.Located.{is_map as is_map_in, is_indexed as is_indexed_in};
 ghost use Rattle.rhai_machine.specs.language.Located.{is_unit as is_unit_in};
@@ -18,12 +19,14 @@ ghost use Rattle.rhai_steps.specs.Sessions.{under};
 ghost use Rattle.rhai_steps.specs.States.{state_of};
 ghost use Rattle.rhai_steps.specs.OnFocus.{lending};
 ghost use Rattle.rhai_chains.specs.Chains.{form_seen, link_seen};
+ghost use Rattle.rhai_chains.specs.Members.{access_of};
 ghost use Rattle.rhai_context.specs.Ends.{came_some};
 ghost use Rattle.rhai_walk.specs.Walking.{Begins, Enters, FindsDown, FitsLink, IsDescent};
 ghost use Rattle.rhai_walk.specs.Walking.{IsFree, IsMethodIn, IsSpotBelow, IsWay, Leaves};
 ghost use Rattle.rhai_walk.specs.Walking.{TakesBelow, WayBy, way_below};
 
 use rhai_chains::links::{Link, LinkForm, link_of};
+use rhai_chains::members::{Member, MemberAccess};
 use rhai_chains::spots::{access_for, find_spot, take_spot};
 use rhai_context::ends::stop;
 use rhai_errors::error::EvalAltResult;
@@ -291,6 +294,21 @@ pub fn find_down<H: Host>(
             stop(place, error);
             None
         }
+    }
+}
+
+/// Makes the access to an item that natives get and set. Its index is taken.
+pub fn item_access<'m, H: Host>(
+    index: &mut Dynamic<H>,
+    at: Position,
+    guarded: bool,
+) -> MemberAccess<'m, H>
+    ensures { access_of result ≡ record { member = Item index.old; at = at; guarded = guarded } }
+{
+    MemberAccess {
+        member: Member::Item(replace(index, unit_value())),
+        at,
+        guarded,
     }
 }
 

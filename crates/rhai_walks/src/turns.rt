@@ -1,6 +1,6 @@
 //! The turns that a `for` has left.
 
-ghost use Rattle.std.specs.Prelude.{◌≡◌, IfSome, None, Some, option_map};
+ghost use Rattle.std.specs.Prelude.{◌≡◌, ◌<◌, ◌+◌, IfSome, None, Some, option_map};
 ghost use Rattle.rhai_values.specs.Layers.{layer_of};
 ghost use Rattle.rhai_walks.specs.TurnsLeft.{turns_in};
 ghost use Rattle.rhai_machine.specs.language.Turns as machine;
@@ -35,6 +35,14 @@ pub fn turns_of<H: Host>(mut value: Dynamic<H>) -> Option<Turns<H>>
         }
         _ => None,
     }
+}
+
+/// Returns the number of the turn after this one. It has 64 bits, since each turn was charged.
+pub fn next_number(turn: u64, num_operations: u64) -> u64
+    requires { turn < num_operations }
+    ensures { result ≡ turn + 1 }
+{
+    turn + 1
 }
 
 impl<H: Host> Turns<H> {

@@ -1,68 +1,35 @@
 //! Calls of keywords, and what becomes of a pointer with its arguments. Ports the keywords of upstream's
 //! `func/call.rs`; the contracts speak of the machine's runs and of specs/Calls.antt.
 
-ghost use Rattle.std.specs.Prelude.{◌≡◌, ◌≤◌, ◌+◌, [], IfOk, IsTrue, length, map, true};
+ghost use Rattle.std.specs.Prelude.{◌≤◌, [], IsTrue, map};
 ghost use Rattle.rhai_tree.specs.Frame.{all_resolve_exprs, resolves_expr, tests_of};
 ghost use Rattle.rhai_tree.specs.Positions.{start_of};
 ghost use Rattle.rhai_machine.specs.language.Frames.{Argument, KeywordArgument, core, ended, core_over};
-ghost use Rattle.rhai_values.specs.declared.base.value.FnPtr.{out-FnPtr};
-ghost use Rattle.rhai_machine.specs.language.Arguments.{arguments_core, linked_to, arguments_there};
+ghost use Rattle.rhai_machine.specs.language.Arguments.{arguments_core};
 ghost use Rattle.rhai_machine.specs.language.Runs.{Goes};
-ghost use Rattle.rhai_steps.specs.Agreement.{KeepsSight};
-ghost use Rattle.rhai_calls.specs.Called.{with_args, came_out};
 ghost use Rattle.rhai_call_forms.specs.Keywords.{word_of};
 ghost use Rattle.rhai_context.specs.Ends.{came};
 ghost use Rattle.rhai_eval_core.specs.Agreement.{KeepsNames, SuitsNames};
-ghost use Rattle.rhai_eval_core.specs.Calls.{purpose_of};
+ghost use Rattle.rhai_callees.specs.Pointers.{purpose_of};
 ghost use Rattle.rhai_eval_core.specs.States.{state_in, under};
 
 use crate::evaluator::Evaluator;
 use rhai_call_forms::arguments::split_first;
 use rhai_call_forms::keywords::Keyword;
-use rhai_call_forms::linked::function_linked;
 use rhai_call_forms::names::natives_alone;
 use rhai_call_forms::pointers::{
-    is_defined, is_shared, make_pointer, parts_of, pointer_of, text_of, with_curried,
+    is_defined, is_shared, make_pointer, parts_of, pointer_of, text_of,
 };
-use rhai_callees::{call_function, call_number};
-use rhai_calls::dispatch::Called;
+use rhai_callees::pointers::{PointerUse, linked_function, use_pointer};
 use rhai_context::Context;
 use rhai_context::ends::{put, settle, stop, take_value};
 use rhai_errors::error::EvalAltResult;
 use rhai_errors::table::NativeTable;
 use rhai_few::Few;
-use rhai_functions::function::Function;
 use rhai_steps::operation::Operation;
-use rhai_tree::Items;
 use rhai_tree::expr::Expr;
-use rhai_tree::literal::NativeId;
 use rhai_tree::position::Position;
-use rhai_values::base::value::{Dynamic, FnPtr, Host};
-use std::alloc::AllocError;
-
-/// What a pointer's arguments are for.
-#[derive(Drop)]
-enum PointerUse<H> {
-    /// It gets them behind the values that it has already.
-    Curry(FnPtr<H>),
-    /// They go to a function that it is linked to, behind the values that it has.
-    Linked(Function<H>, Items<Dynamic<H>>),
-    /// They go to a native by its number, behind these values.
-    Number(NativeId, Items<Dynamic<H>>),
-}
-
-/// Finds the function that a pointer is linked to, where it is called with these arguments. It is the
-/// pointer's own, or that of the run's libraries. None for a pointer by its name alone and for a native's.
-fn linked_function<H: Host>(
-    run: &Context<H>,
-    pointer: &FnPtr<H>,
-    args: &[Expr],
-) -> Result<Option<Function<H>>, AllocError>
-    ensures { IfOk result (λ found. found ≡ linked_to pointer.now
-        (length (out-FnPtr H pointer.now).curry + length args.now) run.now.global.lib) }
-{
-    function_linked(pointer, args.len(), run.global.lib.as_slice())
-}
+use rhai_values::base::value::Host;
 
 impl<'e, H: Host> Evaluator<'e, H> {
     /// Evaluates a keyword, from its first argument on. A pointer that is called is the function that it is
@@ -184,50 +151,6 @@ impl<'e, H: Host> Evaluator<'e, H> {
         }
     }
 
-    /// Uses a pointer whose arguments are there: it keeps them, or is called with them.
-    fn use_pointer<T: NativeTable<H>>(
-        &self,
-        run: &mut Context<H>,
-        table: &mut T,
-        pointer: PointerUse<H>,
-        values: &mut Few<Dynamic<H>>,
-        pos: Position,
-    ) -> Called<Dynamic<H>, Function<H>, H>
-        ensures counts { run.old.global.num_operations ≤ run.new.global.num_operations }
-        ensures sight { KeepsSight run.old.global run.new.global }
-        ensures scope { run.new.scope ≡ run.old.scope }
-        ensures runs { let rules = under H.name_of self.now T.natives in
-            Goes rules (arguments_there rules.setting (purpose_of pointer pos) values.old)
-            (state_in (T.state table.old) run.old) (came_out true pos (with_args result values.new))
-            (state_in (T.state table.new) run.new) }
-    {
-        match pointer {
-            PointerUse::Curry(pointer) => {
-                Called::Ended(with_curried(self.session.alloc, pointer, values, pos))
-            }
-            PointerUse::Linked(function, curried) => {
-                let cells = &run.global.cells;
-                call_function(self.session.alloc, cells, function, curried, values, pos)
-            }
-            PointerUse::Number(id, curried) => {
-                let global = &mut run.global;
-                Called::Ended(call_number(
-                    &self.session,
-                    global,
-                    table,
-                    id,
-                    &Operation {
-                        name: "call",
-                        token: None,
-                        at: pos,
-                    },
-                    curried,
-                    values,
-                ))
-            }
-        }
-    }
-
     /// Gives a pointer more arguments, or calls it with them. It is called as the function that it is linked
     /// to, or by a native's number. The arguments are kept as they are. How it ended stands in the run.
     #[cycle(eval)]
@@ -254,7 +177,7 @@ impl<'e, H: Host> Evaluator<'e, H> {
             drop(values);
             return false;
         }
-        let called = self.use_pointer(run, table, pointer, &mut values, pos);
+        let called = use_pointer(&self.session, run, table, pointer, &mut values, pos);
         let done = self.finish_call(run, table, called, &mut values, true, pos);
         drop(values);
         done

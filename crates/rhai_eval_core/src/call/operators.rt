@@ -4,32 +4,26 @@
 ghost use Rattle.std.specs.Prelude.{◌≡◌, ◌≤◌, ◌∷◌, [], IsTrue, Some, true};
 ghost use Rattle.rhai_tree.specs.Frame.{resolves_expr, resolves_call};
 ghost use Rattle.rhai_tree.specs.declared.expr.Expr.TheOpen as layer;
-ghost use Rattle.rhai_machine.specs.language.Calls.{call_at};
 ghost use Rattle.rhai_machine.specs.language.Frames.{OpenExpr};
-ghost use Rattle.rhai_machine.specs.language.Runs.{Runs, Goes};
-ghost use Rattle.rhai_steps.specs.Agreement.{KeepsSight};
-ghost use Rattle.rhai_calls.specs.Called.{with_args, came_out};
-ghost use Rattle.rhai_calls.specs.Operates.{operator_there};
+ghost use Rattle.rhai_machine.specs.language.Runs.{Runs};
 ghost use Rattle.rhai_context.specs.Ends.{came};
 ghost use Rattle.rhai_eval_core.specs.Agreement.{KeepsNames, SuitsNames};
 ghost use Rattle.rhai_eval_core.specs.States.{state_in, under};
 
 use crate::evaluator::Evaluator;
 use rhai_call_forms::forms::{CallForm, form_of};
-use rhai_calls::dispatch::Called;
-use rhai_calls::operators::{operate_one, operate_two};
+use rhai_callees::runs::{operate_on_one, operate_on_two};
 use rhai_context::Context;
 use rhai_context::ends::take_value;
 use rhai_context::outcomes::flatten_at;
 use rhai_errors::table::NativeTable;
 use rhai_few::Few;
-use rhai_functions::function::Function;
 use rhai_operands::operators::{BinaryCall, operate_in_place, operate_known};
 use rhai_steps::values::let_go;
 use rhai_tree::expr::{Expr, FnCallExpr};
 use rhai_tree::position::Position;
 use rhai_tree::token::Token;
-use rhai_values::base::value::{Dynamic, Host};
+use rhai_values::base::value::Host;
 
 impl<'e, H: Host> Evaluator<'e, H> {
     /// Evaluates a call that may be an operator on its operands. How it ended stands in the run.
@@ -108,81 +102,10 @@ impl<'e, H: Host> Evaluator<'e, H> {
             return false;
         }
         let mut operands = Few::new(self.session.alloc);
-        let called = self.operate_on_one(run, table, call, token, &mut operands, pos);
+        let called = operate_on_one(&self.session, run, table, call, token, &mut operands, pos);
         let done = self.finish_call(run, table, called, &mut operands, true, pos);
         drop(operands);
         done
-    }
-
-    /// Applies a unary operator to the value of a run. A function of a script that has it is for the caller
-    /// to enter, with the operand in the list, which is empty before.
-    #[inline(always)]
-    fn operate_on_one<T: NativeTable<H>>(
-        &self,
-        run: &mut Context<H>,
-        table: &mut T,
-        call: &FnCallExpr,
-        token: Token,
-        operands: &mut Few<Dynamic<H>>,
-        pos: Position,
-    ) -> Called<Dynamic<H>, Function<H>, H>
-        requires { operands.old ≡ [] }
-        ensures counts { run.old.global.num_operations ≤ run.new.global.num_operations }
-        ensures sight { KeepsSight run.old.global run.new.global }
-        ensures scope { run.new.scope ≡ run.old.scope }
-        ensures runs { let rules = under H.name_of self.now T.natives in
-            Goes rules (operator_there rules.setting (call_at call.now.name token pos (run.old.value ∷ [])))
-            (state_in (T.state table.old) run.old) (came_out true pos (with_args result operands.new))
-            (state_in (T.state table.new) run.new) }
-    {
-        let (global, out) = (&mut run.global, &mut run.value);
-        operate_one(
-            &self.session,
-            global,
-            table,
-            call,
-            token,
-            out,
-            operands,
-            pos,
-        )
-    }
-
-    /// Applies a binary operator to a value and that of a run. A function of a script that has it is for the
-    /// caller to enter, with the operands in the list, which is empty before.
-    #[inline(always)]
-    fn operate_on_two<T: NativeTable<H>>(
-        &self,
-        run: &mut Context<H>,
-        table: &mut T,
-        call: &FnCallExpr,
-        token: Token,
-        left: Dynamic<H>,
-        operands: &mut Few<Dynamic<H>>,
-        pos: Position,
-    ) -> Called<Dynamic<H>, Function<H>, H>
-        requires { operands.old ≡ [] }
-        ensures counts { run.old.global.num_operations ≤ run.new.global.num_operations }
-        ensures sight { KeepsSight run.old.global run.new.global }
-        ensures scope { run.new.scope ≡ run.old.scope }
-        ensures runs { let rules = under H.name_of self.now T.natives in
-            Goes rules
-            (operator_there rules.setting (call_at call.now.name token pos (left ∷ run.old.value ∷ [])))
-            (state_in (T.state table.old) run.old) (came_out true pos (with_args result operands.new))
-            (state_in (T.state table.new) run.new) }
-    {
-        let (global, out) = (&mut run.global, &mut run.value);
-        operate_two(
-            &self.session,
-            global,
-            table,
-            call,
-            token,
-            left,
-            out,
-            operands,
-            pos,
-        )
     }
 
     /// Evaluates a binary operator, and its operands first, the left one before the right one. How it ended
@@ -231,7 +154,16 @@ impl<'e, H: Host> Evaluator<'e, H> {
             return true;
         }
         let mut operands = Few::new(self.session.alloc);
-        let called = self.operate_on_two(run, table, call, token, first, &mut operands, pos);
+        let called = operate_on_two(
+            &self.session,
+            run,
+            table,
+            call,
+            token,
+            first,
+            &mut operands,
+            pos,
+        );
         let done = self.finish_call(run, table, called, &mut operands, true, pos);
         drop(operands);
         done

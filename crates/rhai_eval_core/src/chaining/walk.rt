@@ -26,21 +26,7 @@ use rhai_context::ends::settle_changed;
 use rhai_errors::table::NativeTable;
 use rhai_tree::expr::Expr;
 use rhai_values::base::value::{Dynamic, Host};
-use rhai_walk::Walker;
 use rhai_walk::ways::{Begun, begin_link};
-
-impl<'e, H: Host> Evaluator<'e, H> {
-    /// Returns what stays the same all along a walk.
-    pub(crate) fn walker<'w>(&'w self, root: &'w Expr) -> Walker<'w, 'e, H>
-        ensures session { result.session.now ≡ self.now.session }
-        ensures root { result.root.now ≡ root.now }
-    {
-        Walker {
-            session: &self.session,
-            root,
-        }
-    }
-}
 
 impl<'e, H: Host> Evaluator<'e, H> {
     /// Walks what is left of a chain. What it came to stands in the run.

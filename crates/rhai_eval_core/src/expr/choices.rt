@@ -1,7 +1,7 @@
 //! Expressions that stop early: `&&`, `||` and `??`. Ports these forms of upstream's
 //! `eval/expr.rs`; the contracts speak of the machine's runs.
 
-ghost use Rattle.std.specs.Prelude.{◌≡◌, ◌≤◌, IsTrue, true, false, not, map, if◌then◌else◌};
+ghost use Rattle.std.specs.Prelude.{◌≤◌, IsTrue, map, if◌then◌else◌};
 ghost use Rattle.rhai_tree.specs.Frame.{tests_of, all_resolve_exprs};
 ghost use Rattle.rhai_tree.specs.declared.expr.Expr.TheOpen as layer;
 ghost use Rattle.rhai_machine.specs.language.Frames.{OpenExpr};
@@ -15,16 +15,9 @@ use rhai_context::Context;
 use rhai_context::ends::{put_truth, put_unit};
 use rhai_context::outcomes::unit_left;
 use rhai_errors::table::NativeTable;
+use rhai_operands::operators::is_same;
 use rhai_tree::expr::Expr;
 use rhai_values::base::value::Host;
-
-/// Tells whether two truth values are the same.
-fn is_same(left: bool, right: bool) -> bool
-    ensures same { result ≡ true → left ≡ right }
-    ensures other { result ≡ false → left ≡ not right }
-{
-    if right { left } else { !left }
-}
 
 impl<'e, H: Host> Evaluator<'e, H> {
     /// Evaluates the parts of an `&&` or an `||` from left to right. It stops at the first with the truth

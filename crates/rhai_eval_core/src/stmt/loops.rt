@@ -7,87 +7,22 @@ ghost use Rattle.rhai_tree.specs.Frame.{tests_of, option_resolves, resolves_expr
 ghost use Rattle.rhai_tree.specs.declared.expr.Expr.TheOpen as layer;
 ghost use Rattle.rhai_machine.specs.language.Frames.{OpenStmt, WhileTurn, DoTurn};
 ghost use Rattle.rhai_machine.specs.language.Runs.{Steps, Runs};
-ghost use Rattle.rhai_machine.specs.language.Statements.{has_option};
-ghost use Rattle.rhai_errors.specs.Errors.{is_out_of_memory};
-ghost use Rattle.rhai_errors.specs.declared.error.EvalAltResult.TheVariants as error;
 ghost use Rattle.rhai_steps.specs.Loops.{after_turn};
 ghost use Rattle.rhai_context.specs.Ends.{came, came_turn, error_in};
 ghost use Rattle.rhai_eval_core.specs.Agreement.{KeepsNames, SuitsNames};
-ghost use Rattle.rhai_eval_core.specs.Ends.{left_with};
 ghost use Rattle.rhai_eval_core.specs.States.{state_in, under};
 
 use crate::evaluator::Evaluator;
+use rhai_catches::leaving::{break_with, leave_with};
 use rhai_context::Context;
-use rhai_context::ends::{put_unit, settle_turn, stop, take_value};
+use rhai_context::ends::{put_unit, settle_turn};
 use rhai_context::outcomes::{BodyWay, body_way, charge, flatten_at, turn_end};
-use rhai_errors::error::EvalAltResult;
-use rhai_errors::errors::{loop_break, returned};
 use rhai_errors::table::NativeTable;
-use rhai_steps::loops::{breaks, do_next, is_endless};
-use rhai_tree::Boxed;
+use rhai_steps::loops::{do_next, is_endless};
 use rhai_tree::expr::{Expr, StmtBlock};
 use rhai_tree::flags::ASTFlags;
 use rhai_tree::position::Position;
-use rhai_values::base::value::{Dynamic, Host};
-use std::alloc::Global;
-
-/// Builds the error of a value that is thrown.
-fn thrown<H: Host>(alloc: Global, value: Dynamic<H>, pos: Position) -> EvalAltResult<H>
-    ensures { is_out_of_memory result ≡ false → result ≡ error.ErrorRuntime value pos }
-{
-    match Boxed::new(alloc, value) {
-        Ok(value) => EvalAltResult::ErrorRuntime(value, pos),
-        Err(_) => EvalAltResult::ErrorOutOfMemory(pos),
-    }
-}
-
-/// Builds the error that a `return` or a `throw` ends by.
-fn leaving_error<H: Host>(
-    alloc: Global,
-    value: Dynamic<H>,
-    options: ASTFlags,
-    pos: Position,
-) -> EvalAltResult<H>
-    ensures { is_out_of_memory result ≡ false → result ≡ left_with (has_option 2 options) value pos }
-{
-    if breaks(options) {
-        thrown(alloc, value, pos)
-    } else {
-        returned(alloc, value, pos)
-    }
-}
-
-/// Stops the run by a `return` or a `throw` of its value.
-fn leave_with<H: Host>(
-    alloc: Global,
-    out: &mut Dynamic<H>,
-    place: &mut Option<EvalAltResult<H>>,
-    options: ASTFlags,
-    pos: Position,
-) -> bool
-    ensures stopped { result ≡ false }
-    ensures told { is_out_of_memory (error_in place.new) ≡ false →
-        error_in place.new ≡ left_with (has_option 2 options) out.old pos }
-{
-    let value = take_value(out);
-    stop(place, leaving_error(alloc, value, options, pos))
-}
-
-/// Stops the run by a `break` or a `continue` with its value.
-fn break_with<H: Host>(
-    alloc: Global,
-    out: &mut Dynamic<H>,
-    place: &mut Option<EvalAltResult<H>>,
-    options: ASTFlags,
-    pos: Position,
-) -> bool
-    ensures stopped { result ≡ false }
-    ensures told { is_out_of_memory (error_in place.new) ≡ false →
-        error_in place.new ≡ error.LoopBreak out.old (has_option 2 options) pos }
-{
-    let value = take_value(out);
-    stop(place, loop_break(alloc, value, breaks(options), pos))
-}
+use rhai_values::base::value::Host;
 
 impl<'e, H: Host> Evaluator<'e, H> {
     /// Runs a `while`, turn by turn. How it ended stands in the run.

@@ -25,15 +25,7 @@ use rhai_tree::expr::{Expr, Ident, StmtBlock};
 use rhai_values::base::value::Host;
 use rhai_walks::entering::enter_turn;
 use rhai_walks::parts::{ForParts, has_room, start_turns};
-use rhai_walks::turns::Turns;
-
-/// Returns the number of the turn after this one. It has 64 bits, since each turn was charged.
-fn next_number(turn: u64, num_operations: u64) -> u64
-    requires { turn < num_operations }
-    ensures { result ≡ turn + 1 }
-{
-    turn + 1
-}
+use rhai_walks::turns::{Turns, next_number};
 
 impl<'e, H: Host> Evaluator<'e, H> {
     /// Runs a `for`, turn by turn. How it ended stands in the run. Its variables are gone on every way out.

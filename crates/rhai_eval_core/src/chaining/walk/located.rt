@@ -2,7 +2,7 @@
 
 ghost use Rattle.std.specs.Prelude.{◌≡◌, ◌≤◌, length, is_some};
 ghost use Rattle.rhai_values.specs.Cells.{cells_of};
-ghost use Rattle.rhai_machine.specs.language.Frames.{Item, ended_or_changed};
+ghost use Rattle.rhai_machine.specs.language.Frames.{ended_or_changed};
 ghost use Rattle.rhai_context.specs.Ends.{came_changed};
 ghost use Rattle.rhai_eval_core.specs.States.{under};
 ghost use Rattle.rhai_steps.specs.Agreement.{KeepsSight};
@@ -11,38 +11,19 @@ ghost use Rattle.rhai_steps.specs.OnFocus.{lending};
 ghost use Rattle.rhai_steps.specs.Follows.{Follows};
 ghost use Rattle.rhai_chains.specs.Chains.{chain_at};
 ghost use Rattle.rhai_chains.specs.Chains.{link_seen};
-ghost use Rattle.rhai_chains.specs.Members.{access_of};
 ghost use Rattle.rhai_walk.specs.Walking.{entered_core, IsFree};
 ghost use Rattle.rhai_walk.specs.Walking.{LinkWalks};
 
-use crate::chaining::walk::methods::asked_by;
 use crate::evaluator::Evaluator;
 use rhai_chains::chain::NewValue;
 use rhai_chains::links::{Link, LinkForm};
 use rhai_chains::members::{Member, MemberAccess};
 use rhai_context::Context;
 use rhai_errors::table::NativeTable;
-use rhai_steps::values::unit_value;
 use rhai_tree::expr::Expr;
-use rhai_tree::position::Position;
 use rhai_values::base::value::{Dynamic, Host};
-use rhai_walk::ways::{is_indexed, is_map, key_for, step_in, step_out, was_handle};
-use std::mem::replace;
-
-/// Makes the access to an item that natives get and set. Its index is taken.
-fn item_access<'m, H: Host>(
-    index: &mut Dynamic<H>,
-    at: Position,
-    guarded: bool,
-) -> MemberAccess<'m, H>
-    ensures { access_of result ≡ record { member = Item index.old; at = at; guarded = guarded } }
-{
-    MemberAccess {
-        member: Member::Item(replace(index, unit_value())),
-        at,
-        guarded,
-    }
-}
+use rhai_walk::calls::asked_by;
+use rhai_walk::ways::{is_indexed, is_map, item_access, key_for, step_in, step_out, was_handle};
 
 impl<'e, H: Host> Evaluator<'e, H> {
     /// Works on the focus by an index, a property or a method. An index or a property leads to what stands in

@@ -24,6 +24,7 @@ use rhai_context::Context;
 use rhai_errors::table::NativeTable;
 use rhai_tree::expr::Expr;
 use rhai_values::base::value::{Dynamic, Host};
+use rhai_walk::Walker;
 use rhai_walk::ends::end_member;
 use rhai_walk::temporaries::{come_back, get_kept, is_property};
 
@@ -57,7 +58,7 @@ impl<'e, H: Host> Evaluator<'e, H> {
             (came_changed result run.new.value run.new.error)
             (state_of (T.state table.new) run.new.global scope (lending held source.new)) }
     {
-        let walker = (&*self).walker(&*root);
+        let walker = Walker::new(&self.session, &*root);
         let Some(rest) = link.behind else {
             let (global, out, place) = (&mut run.global, &mut run.value, &mut run.error);
             return end_member(&walker, global, out, place, table, source, access, new);

@@ -4,7 +4,6 @@ ghost use Rattle.std.specs.Prelude.{◌≡◌, ◌≤◌, length, is_some, Some,
 ghost use Rattle.std.specs.Option.{option_copied, option_map};
 ghost use Rattle.rhai_tree.specs.declared.expr.Expr.{out-Expr};
 ghost use Rattle.rhai_machine.specs.language.Frames.{core, ended_or_changed};
-ghost use Rattle.rhai_machine.specs.language.Links.{first_position as first_position_in};
 ghost use Rattle.rhai_machine.specs.language.Runs.{Goes};
 ghost use Rattle.rhai_context.specs.Ends.{came_changed};
 ghost use Rattle.rhai_eval_core.specs.States.{under};
@@ -19,23 +18,8 @@ use rhai_chains::links::Link;
 use rhai_context::Context;
 use rhai_context::ends::take_value;
 use rhai_errors::table::NativeTable;
-use rhai_tree::expr::{Expr, FnCallExpr};
-use rhai_tree::position::Position;
+use rhai_tree::expr::Expr;
 use rhai_values::base::value::{Dynamic, Host};
-use rhai_walk::calls::first_position;
-
-/// Reads the name that a method is called by, where its first argument stands, and how many it asks for.
-pub(crate) fn asked_by(call: &FnCallExpr) -> (&str, Option<Position>, usize)
-    ensures name { result.0.now ≡ call.now.name }
-    ensures first { result.1 ≡ first_position_in call.now.args }
-    ensures count { result.2 ≡ length call.now.args }
-{
-    (
-        call.name.get().as_str(),
-        first_position(call.args.as_slice()),
-        call.args.len(),
-    )
-}
 
 impl<'e, H: Host> Evaluator<'e, H> {
     /// Goes on behind a method from its value, a temporary that has no way back. Where nothing is behind it,

@@ -18,7 +18,6 @@ ghost use Rattle.rhai_steps.specs.Follows.{Follows};
 ghost use Rattle.rhai_chains.specs.Chains.{BehindWalks, chain_at, form_seen};
 ghost use Rattle.rhai_chains.specs.Chains.{link_seen, new_of, Walks};
 
-use crate::chaining::walk::methods::asked_by;
 use crate::evaluator::Evaluator;
 use rhai_chains::chain::NewValue;
 use rhai_chains::links::Link;
@@ -29,7 +28,8 @@ use rhai_spots::spot::Spot;
 use rhai_steps::values::unit_value;
 use rhai_tree::expr::Expr;
 use rhai_values::base::value::{Dynamic, Host};
-use rhai_walk::calls::{put_back, read_part_for};
+use rhai_walk::Walker;
+use rhai_walk::calls::{asked_by, put_back, read_part_for};
 use rhai_walk::ends::end_at;
 use rhai_walk::temporaries::{access_back, come_back};
 use rhai_walk::ways::{Descent, find_down, method_in};
@@ -66,7 +66,7 @@ impl<'e, H: Host> Evaluator<'e, H> {
             (came_changed result run.new.value run.new.error)
             (state_of (T.state table.new) run.new.global scope (lending held source.new)) }
     {
-        let walker = (&*self).walker(&*root);
+        let walker = Walker::new(&self.session, &*root);
         let Some(rest) = link.behind else {
             let (global, out, place) = (&mut run.global, &mut run.value, &mut run.error);
             return end_at(&walker, global, out, place, table, source, index, link, new);

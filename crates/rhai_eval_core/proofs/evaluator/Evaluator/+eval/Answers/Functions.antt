@@ -18,7 +18,8 @@ use Rattle.rhai_call_forms.specs.Keywords.{word_of}
 use Rattle.rhai_call_forms.specs.Leading.{all_args, leading_seen, variable_read}
 use Rattle.rhai_call_forms.proofs.LeadingLemmas.{lent_leads, this_goes, values_go, variable_goes}
 use Rattle.rhai_eval_core.specs.Agreement.{ChangesNames, KeepsNames, RestoresNames, SuitsNames}
-use Rattle.rhai_eval_core.specs.Calls.{Collects, purpose_of}
+use Rattle.rhai_callees.specs.Pointers.{purpose_of}
+use Rattle.rhai_eval_core.specs.Calls.{Collects}
 use Rattle.rhai_eval_core.specs.States.{under}
 use Rattle.rhai_eval_core.proofs.NameLemmas.{first_resolves, part_resolves, this_resolves}
 use Rattle.rhai_eval_core.proofs.Chain.{drop_item, drop_all}
@@ -481,7 +482,7 @@ run_on_values-returns-clause-runs g t c k =
     let purpose : machine.Purpose g.row.H.Denot = ToCall operation c.args.curried (plainly c.args.natives_alone on_scope) in
     (rw c.new-values.ensures at c.if-not-run_all_args.ensures.collects) purpose refl k
     ⨾ c.call_with-called.ensures.runs on_scope k
-    ⨾ (rw c.is_on_scope-on_scope.ensures at c.finish_call-done.ensures.runs) k
+    ⨾ (rw c.captures_some-on_scope.ensures at c.finish_call-done.ensures.runs) k
 
 -- arguments
 
@@ -656,7 +657,8 @@ pub run_named-returns-else-not-run_more_args-2-clause-names : goal.run_named-ret
 unfolding ChangesNames KeepsNames RestoresNames SuitsNames
 run_named-returns-else-not-run_more_args-2-clause-names g t c done =
     leads_then (leads_then (stays c.if-not-charge-2.ensures.sight refl) (c.if-not-run_more_args-2.ensures.names refl))
-    (leads_then c.call_with_variable-called.ensures.names (c.finish_call-done-in-Some-first_variable.ensures.names done))
+    (leads_then (stays c.call_with_variable-called.ensures.sight c.call_with_variable-called.ensures.names)
+    (c.finish_call-done-in-Some-first_variable.ensures.names done))
 
 pub run_on_values-returns-clause-names : goal.run_on_values-returns-clause-names
 unfolding ChangesNames KeepsNames RestoresNames SuitsNames

@@ -26,7 +26,7 @@ walk_member-returns-in_default-clause-runs g t c scope held rest all in_place le
     (came_changed c.end_member.result c.end_member.new.out c.end_member.new.place)
     (ap (λ behind. option_map out-Expr (option_copied behind))
     c.in_default.is)
-    (rw (c.walker-walker.ensures.session, c.walker-walker.ensures.root) at
+    (rw (c.new-walker.ensures.session, c.new-walker.ensures.root) at
     (c.end_member.ensures.runs scope held (link_seen c.args.link) rest all in_place
     ))
 
@@ -45,14 +45,14 @@ walk_member-returns-in-Some-get_kept-clause-runs g t c scope held rest all in_pl
     let kept = kept_access access in
     let behind = out-Expr c.in-Some.rest.now in
     let chain = chain_at c.args.root.now behind c.args.args.now c.args.new (is_property access.member) in
-    let gets = rw c.walker-walker.ensures.session at (c.in-Some-get_kept.ensures.gets scope held) in
+    let gets = rw c.new-walker.ensures.session at (c.in-Some-get_kept.ensures.gets scope held) in
     let got = c.get_kept.new.focus in
     let old = state_of (g.T.NativeTable.state c.args.table.now) c.args.run.now.global scope (lending held c.args.source.now) in
     let mid = state_of (g.T.NativeTable.state c.get_kept.new.table) c.get_kept.new.global scope (lending held got) in
     let walked = state_of (g.T.NativeTable.state c.walk_chain-mark.new.table) c.walk_chain-mark.new.run.global scope (lending held
     got) in
     let new = state_of (g.T.NativeTable.state c.come_back.new.table) c.come_back.new.global scope (lending held c.come_back.new.source) in
-    let comes = rw (c.in-Some-get_kept.ensures.kept, c.walker-walker.ensures.session) at (c.come_back.ensures.runs scope held) in
+    let comes = rw (c.in-Some-get_kept.ensures.kept, c.new-walker.ensures.session) at (c.come_back.ensures.runs scope held) in
     let walks = rw c.is_property-in_place.ensures at (c.walk_chain-mark.ensures.runs scope held) in
     member_goes rules (link_seen c.args.link).behind (new_of c.args.new) (link_seen c.args.link) access
     (chain_at c.args.root.now rest all c.args.new in_place) old new (came_changed c.come_back.result c.walk_chain-mark.new.run.value
@@ -77,5 +77,5 @@ walk_member-returns-in-None-clause-runs g t c scope held rest all in_place left 
     behind c.args.args.now
     (ap (λ behind. option_map out-Expr (option_copied behind)) c.in-Some.is) left
     (got_fails rules access (kept_access access) (chain_at c.args.root.now behind c.args.args.now c.args.new (is_property access.member))
-    old new (error_in c.get_kept.new.place) (rw c.walker-walker.ensures.session at (c.in-None.ensures.fails
+    old new (error_in c.get_kept.new.place) (rw c.new-walker.ensures.session at (c.in-None.ensures.fails
     scope held refl)))

@@ -9,7 +9,7 @@ use Rattle.rhai_machine.specs.language.Frames.{PartMethod}
 use Rattle.rhai_machine.specs.language.Links.{first_position, link_of}
 use Rattle.rhai_machine.specs.language.Members.{focused_on}
 use Rattle.rhai_eval_core.specs.Agreement.{ChangesNames, KeepsNames, RestoresNames, SuitsNames}
-use Rattle.rhai_eval_core.specs.States.{offer_of, under}
+use Rattle.rhai_eval_core.specs.States.{under}
 use Rattle.rhai_machine.specs.language.Values.{unit_value}
 use Rattle.rhai_steps.specs.States.{state_of}
 use Rattle.rhai_steps.specs.OnFocus.{lending}
@@ -35,7 +35,7 @@ walk_spot-returns-in_default-clause-runs g t c scope held rest all left =
     (state_of (g.T.NativeTable.state c.end_at.new.table) c.end_at.new.global scope (lending held c.end_at.new.source))
     (came_changed c.end_at.result c.end_at.new.out c.end_at.new.place) (ap (λ behind. option_map out-Expr (option_copied behind))
     c.in_default.is)
-    (rw (c.walker-walker.ensures.session, c.walker-walker.ensures.root) at
+    (rw (c.new-walker.ensures.session, c.new-walker.ensures.root) at
     (c.end_at.ensures.runs scope held rest all c.args.in_place))
 
 pub walk_spot-place_mut-place-requires : goal.walk_spot-place_mut-place-requires
@@ -125,7 +125,7 @@ walk_spot-returns-in-Some-access_back-clause-runs g t c scope held rest all left
     let by_offer = ap (λ fails. found (way_through link false fails) g.H.Host.name_of (cells_of c.args.run.now.global.cells)
     c.args.source.now c.args.index.now) refl in
     let old = state_of (g.T.NativeTable.state c.args.table.now) c.args.run.now.global scope (lending held c.args.source.now) in
-    let comes = rw (c.in-Some-access_back.ensures.some chain, c.walker-walker.ensures.session, c.in-Some-Missing.ensures.same) at
+    let comes = rw (c.in-Some-access_back.ensures.some chain, c.new-walker.ensures.session, c.in-Some-Missing.ensures.same) at
     (c.come_back.ensures.runs scope held) in
     let walks = rw c.unit_value-temporary.ensures at (c.walk_chain-mark.ensures.runs scope held) in
     let walked = state_of (g.T.NativeTable.state c.walk_chain-mark.new.table) c.walk_chain-mark.new.run.global scope

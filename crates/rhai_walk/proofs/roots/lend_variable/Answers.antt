@@ -1,5 +1,5 @@
-use Rattle.std.proofs.Common.{◌≡◌, Some, sym, ◌∙◌}
-use Rattle.rhai_eval_core.proofs.chaining.roots.lend_variable.Goals as goal
+use Rattle.std.proofs.Common.{sym, ◌∙◌}
+use Rattle.rhai_walk.proofs.roots.lend_variable.Goals as goal
 
 pub returns-then-is_anothers-clause-lends : goal.returns-then-is_anothers-clause-lends
 returns-then-is_anothers-clause-lends g c =

@@ -1,8 +1,8 @@
 use Rattle.rhai_tree.specs.declared.expr.Expr.{out-Expr}
 use Rattle.rhai_machine.specs.language.Expressions.{literal_of}
 use Rattle.rhai_steps.proofs.Pieces.{passed}
-use Rattle.rhai_eval_core.proofs.ChainSteps.{literal_given, literal_runs_out}
-use Rattle.rhai_eval_core.proofs.chaining.put_ready_args.Goals as goal
+use Rattle.rhai_walk.proofs.GivenAtOnce.{literal_given, literal_runs_out}
+use Rattle.rhai_walk.proofs.given.put_ready_args.Goals as goal
 
 pub returns-in_err-value-in-Literal-clause-refused : goal.returns-in_err-value-in-Literal-clause-refused
 returns-in_err-value-in-Literal-clause-refused g c =

@@ -1,6 +1,6 @@
 use Rattle.rhai_machine.specs.language.Runs.{Goes}
 use Rattle.rhai_steps.specs.States.{holding}
-use Rattle.rhai_eval_core.proofs.evaluator.Evaluator.call_with.Goals as goal
+use Rattle.rhai_callees.proofs.runs.call_with.Goals as goal
 
 pub returns-clause-runs : goal.returns-clause-runs
 unfolding Goes

@@ -1,9 +1,9 @@
-use Rattle.std.proofs.Common.{◌≡◌, [], None, Some, arith, refl}
+use Rattle.std.proofs.Common.{arith}
 use Rattle.rhai_tree.specs.declared.expr.Expr.{out-Expr}
 use Rattle.rhai_machine.specs.language.Links.{link_of}
 use Rattle.rhai_chains.specs.Ready.{at_once}
-use Rattle.rhai_eval_core.proofs.ChainSteps.{given_same, is_given}
-use Rattle.rhai_eval_core.proofs.chaining.take_ready_args.Goals as goal
+use Rattle.rhai_walk.proofs.GivenAtOnce.{given_same, is_given}
+use Rattle.rhai_walk.proofs.given.take_ready_args.Goals as goal
 
 pub put_ready_args-requires : goal.put_ready_args-requires
 put_ready_args-requires g c = (omega arith, (is_given c.in-Some.ready _ (rw c.in-Some.is at c.ready_at_once.ensures), c.requires))
