@@ -4,6 +4,7 @@
 
 pub mod caller;
 pub mod command;
+mod entering;
 pub mod script;
 pub mod searches;
 pub mod timing;

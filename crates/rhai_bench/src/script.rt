@@ -10,13 +10,15 @@ ghost use Rattle.rhai_eval.specs.States.{limits_of};
 ghost use Rattle.rhai_rows.specs.Outcome.{IfRefused};
 
 use crate::Bench;
+use crate::entering::enter_last;
 use rhai_errors::error::EvalAltResult;
-use rhai_eval::base::{Dynamic, Items, Scope, Table};
+use rhai_eval::base::{Dynamic, Items, Scope, Table, Union};
 use rhai_eval::cells::CellStore;
 use rhai_eval::check::{CheckedTree, check_tree};
 use rhai_eval::engine::Engine;
 use rhai_eval::state::{Caches, GlobalRuntimeState, ModuleTable};
 use rhai_natives::Natives;
+use rhai_rows::entry::{Entry, Listener};
 use rhai_rows::modules::{add_library, global_modules, global_sub_modules, modules_to_import};
 use rhai_rows::outcome::{Ending, Outcome};
 use rhai_rows::runner::Runner;
@@ -73,6 +75,17 @@ fn modules_of(alloc: Global, settings: &Settings) -> Result<ModuleTable<Pair>, A
 }
 
 impl Runner for Bench {
+    fn enter<L: Listener>(
+        alloc: Global,
+        entry: Entry,
+        script: Script,
+        way: Way,
+        scope: Scope<Pair>,
+        listener: &mut L,
+    ) -> Result<Outcome, AllocError> {
+        enter_last(alloc, entry, script, way, scope, listener)
+    }
+
     fn run_above(
         alloc: Global,
         script: Script,
@@ -171,5 +184,6 @@ pub fn run_above(
         imports: replace(&mut global.imports, Items::new(alloc)),
         cells: replace(&mut global.cells, CellStore::new(alloc)),
         scope,
+        this: Dynamic::new(Union::Unit),
     })
 }

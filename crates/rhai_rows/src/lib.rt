@@ -3,6 +3,7 @@
 #![tactic(auto)]
 
 pub mod compare;
+pub mod entry;
 pub mod errors;
 pub mod linked_pointer;
 pub mod maker;

@@ -45,6 +45,8 @@ pub struct Outcome {
     pub cells: CellStore<Pair>,
     /// The variables that were left.
     pub scope: Scope<Pair>,
+    /// What was left of `this`, `()` where there was none.
+    pub this: Dynamic<Pair>,
 }
 
 // Written by hand, so that what lets go of it calls this, and need not go through its parts.
@@ -57,6 +59,7 @@ impl Drop for Outcome {
             imports: _,
             cells: _,
             scope: _,
+            this: _,
         } = self;
     }
 }

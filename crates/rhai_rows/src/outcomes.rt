@@ -12,7 +12,8 @@ use std::io;
 
 /// Writes what is asked of what a script came to above so many other variables: how it ended, its operations,
 /// its variables, the constant ones, those with aliases, its cells, the modules that it loaded, its imports,
-/// what its error says beside its position, or that error as a user reads it.
+/// what its error says beside its position, or that error as a user reads it; or `all`, which is how it ended with what
+/// it left.
 pub fn write_outcome(
     alloc: Global,
     others: usize,
@@ -27,6 +28,7 @@ pub fn write_outcome(
         "loads" => sheet.show(&outcome.num_modules_loaded),
         "says" => sheet.said(&outcome.ending),
         "reads" => sheet.read(&outcome.ending),
+        "all" => sheet.all(outcome),
         _ => sheet.left(others, form, outcome),
     }
     sheet.hand_to(out)
@@ -43,6 +45,21 @@ impl Sheet {
             "imports" => self.imports(outcome.imports.as_slice()),
             _ => self.write("no form"),
         }
+    }
+
+    /// Appends how a call ended, its charges, the variables, the cells if there are some, and `this`.
+    fn all(&mut self, outcome: &Outcome) {
+        self.end(&outcome.ending);
+        self.write(", ");
+        self.show(&outcome.num_operations);
+        self.write(" charges; ");
+        self.variables(0, &outcome.scope);
+        if outcome.cells.len() > 0 {
+            self.write(" cells ");
+            self.cells(&outcome.cells);
+        }
+        self.write(" this = ");
+        self.value(&outcome.this);
     }
 
     /// Appends `nothing` where a list ended before a separator was due.

@@ -1,5 +1,6 @@
 //! What runs scripts, as all that is proved beside the evaluator knows it.
 
+use crate::entry::{Entry, Listener};
 use crate::outcome::Outcome;
 use crate::sample::Script;
 use crate::settings::{Settings, Way};
@@ -19,6 +20,17 @@ pub trait Runner {
         script: Script,
         way: Way,
         scope: Scope<Pair>,
+    ) -> Result<Outcome, AllocError>;
+
+    /// Checks a script, runs its statements but the last in one of the ways, above the variables of a scope and with a
+    /// `this` of 1, and enters a public call with the last one.
+    fn enter<L: Listener>(
+        alloc: Global,
+        entry: Entry,
+        script: Script,
+        way: Way,
+        scope: Scope<Pair>,
+        listener: &mut L,
     ) -> Result<Outcome, AllocError>;
 
     /// Evaluates a tree with an engine of settings. `AllocError` where the engine could not be made.

@@ -15,6 +15,8 @@ use std::io::Write;
 /// - `fixes LIST N`, `shares LIST N`, `exports LIST N`, `reads LIST N`: the names of its constants, the
 ///   values of its cells, its variables with their aliases, and its error as a user reads it
 /// - `loads LIST N`, `imports LIST N`: how many modules it loads, and the names of the imports that it leaves
+/// - `eval_expr LIST N` and so on: what that public call comes to, entered with the script's last statement
+///   behind the others (`rhai_rows::entry`), with its operations, and the variables and the `this` that it leaves
 /// - `above ends LIST N` and so on: what is answered above a scope of 300 other variables
 pub fn write_answer<R: Runner>(
     alloc: Global,

@@ -2,6 +2,7 @@
 
 use crate::lists::{Listed, find};
 use rhai_eval_base::base::{AccessMode, Dynamic, Scope, Union};
+use rhai_rows::entry::{Entry, Unheard};
 use rhai_rows::linked_pointer::scope_for;
 use rhai_rows::outcomes::write_outcome;
 use rhai_rows::rows::scripts_of;
@@ -88,7 +89,14 @@ fn write_way<R: Runner>(
     out: &mut Vec<u8>,
 ) -> io::Result<()> {
     let script = source.script(alloc)?;
-    let outcome = R::run_above(alloc, script, way, scope_of(alloc, others, list)?)?;
+    let scope = scope_of(alloc, others, list)?;
+    let (outcome, form) = match Entry::named(form) {
+        Some(entry) => (
+            R::enter(alloc, entry, script, way, scope, &mut Unheard)?,
+            "all",
+        ),
+        None => (R::run_above(alloc, script, way, scope)?, form),
+    };
     let wrote = write_outcome(alloc, others, form, &outcome, out);
     drop(outcome);
     wrote
