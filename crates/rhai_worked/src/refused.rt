@@ -8,6 +8,7 @@ mod part;
 mod refuser;
 
 use crate::lists::Listed;
+use crate::refused::chain::Root;
 use crate::refused::part::{Part, Report};
 use crate::refused::refuser::Refusal;
 use crate::scripts::Source;
@@ -60,9 +61,8 @@ fn tally_rows<R: Runner, W: Write>(alloc: Global, out: &mut W) -> io::Result<Tal
     for row in ROWS {
         run_row::<R, _>(alloc, row, &mut tally, &mut *out)?;
     }
-    for refusal in Refusal::BOTH {
-        run_chain::<R, _>(alloc, refusal, &mut tally, &mut *out)?;
-    }
+    run_chains::<R, _>(alloc, &mut tally, &mut *out)?;
+    write_requests::<R, _>(alloc, &mut tally, &mut *out)?;
     Ok(tally)
 }
 
@@ -264,21 +264,43 @@ fn is_right(assigned: Option<bool>, was_refused: bool, tally: &mut Tally) -> boo
     }
 }
 
-/// Runs the assignment through a chain, its requests refused in turn: wherever it is reached it is done.
+/// Assigns through chains from each root in each way, the requests refused in turn.
+fn run_chains<R: Runner, W: Write>(
+    alloc: Global,
+    tally: &mut Tally,
+    out: &mut W,
+) -> io::Result<()> {
+    for root in Root::ALL {
+        for way in Way::ALL {
+            for refusal in Refusal::BOTH {
+                run_chain::<R, _>(alloc, root, way, refusal, tally, &mut *out)?;
+            }
+        }
+    }
+    Ok(())
+}
+
+/// Assigns through a chain, the requests of all that is done for it refused in turn: wherever its call is reached it is
+/// done.
 fn run_chain<R: Runner, W: Write>(
     alloc: Global,
+    root: Root,
+    way: Way,
     refusal: Refusal,
     tally: &mut Tally,
     out: &mut W,
 ) -> io::Result<()> {
     for number in 1..=refuser::GREATEST {
         let is_heard = refuser::begin(alloc, refusal, number);
-        let assigned = chain::is_assigned::<R>(alloc);
+        let assigned = chain::is_assigned::<R>(alloc, root, way);
         let was_refused = refuser::end(alloc);
         tally.runs = tally.runs.saturating_add(1);
         if !is_right(assigned, was_refused, tally) {
             tally.wrong = tally.wrong.saturating_add(1);
-            writeln!(&mut *out, "a[0][1] = 5 {refusal:?} {number}: {assigned:?}")?;
+            writeln!(
+                &mut *out,
+                "a[0][1] = 5 {root:?} {way:?} {refusal:?} {number}: {assigned:?}"
+            )?;
         }
         if !is_heard || !was_refused {
             break;
@@ -286,4 +308,22 @@ fn run_chain<R: Runner, W: Write>(
         tally.refused = tally.refused.saturating_add(1);
     }
     Ok(())
+}
+
+/// Prints how many requests for memory the call of a chain has, which are none over any items, and none through a cell.
+fn write_requests<R: Runner, W: Write>(
+    alloc: Global,
+    tally: &mut Tally,
+    out: &mut W,
+) -> io::Result<()> {
+    let short = chain::requests::<R>(alloc, Root::Short);
+    let long = chain::requests::<R>(alloc, Root::Long);
+    let in_cell = chain::requests::<R>(alloc, Root::InCell);
+    if short > 0 || long > 0 || in_cell > 0 {
+        tally.wrong = tally.wrong.saturating_add(1);
+    }
+    writeln!(
+        out,
+        "a chain: {short} requests over two items, {long} over a thousand, {in_cell} through a cell"
+    )
 }

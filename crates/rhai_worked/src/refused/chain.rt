@@ -1,82 +1,215 @@
-//! `a[0][1] = 5` over an array of two arrays: a chain copies nothing that it goes through, so it asks for no
-//! memory, and wherever its run is reached it is done.
+//! `a[0][1] = 5` over `[[1, 2], [3, 4]]`, by the public call of a chain: a chain copies nothing that it goes through, so
+//! the call asks for no memory, and wherever it is reached it assigns.
 
-use rhai_eval_base::base::{AccessMode, Boxed, Dynamic, Items, Scope, Union};
-use rhai_eval_base::check::check_tree;
-use rhai_eval_base::state::{Caches, GlobalRuntimeState};
+use crate::refused::refuser;
+use crate::refused::refuser::Refusal;
+use rhai_build::functions::TreeParts;
+use rhai_eval_base::base::{CellId, Dynamic, Scope, Union};
+use rhai_rows::entry::{Entry, Listener};
+use rhai_rows::outcome::{Ending, Outcome};
 use rhai_rows::runner::Runner;
-use rhai_rows::settings::Settings;
-use rhai_samples::parts::Part::{Assign, Index, IndexOn, Int, Variable};
-use rhai_samples::parts::{Part, statements_of};
+use rhai_rows::sample::Script;
+use rhai_rows::settings::{Settings, Way};
+use rhai_samples::parts::Part::{Assign, Index, IndexOn, Int, Let, Ones, Share, Variable};
+use rhai_samples::parts::{Part, tree_of};
 use rhai_tables::host::Pair;
-use rhai_tables::tables::counting::Counting;
 use std::alloc::{AllocError, Global};
 
-/// `a[0][1] = 5`
-const SCRIPT: &[Part<'_>] = &[
-    Variable("a", 0, 1),
-    Int(0, 3),
-    Int(1, 6),
-    Index(5),
-    IndexOn(2),
-    Int(5, 11),
-    Assign(9),
+/// What the chain goes through.
+#[derive(Clone, Copy, Debug, PartialEq, Eq)]
+pub enum Root {
+    /// `[[1, 2], [3, 4]]`
+    Short,
+    /// The same with a thousand ones for the first two.
+    Long,
+    /// The short one in a cell, of which the variable is a handle.
+    InCell,
+}
+
+impl Root {
+    pub const ALL: [Root; 3] = [Root::Short, Root::Long, Root::InCell];
+
+    /// `let a = .. ; a[0][1] = 5;`
+    fn parts(self) -> &'static [Part<'static>] {
+        match self {
+            Root::Short => SHORT,
+            Root::Long => LONG,
+            Root::InCell => IN_CELL,
+        }
+    }
+}
+
+/// `let a = [[1, 2], [3, 4]]; a[0][1] = 5;`
+const SHORT: &[Part<'_>] = &[
+    Int(1, 11),
+    Int(2, 14),
+    Part::Array(2, 10),
+    Int(3, 19),
+    Int(4, 22),
+    Part::Array(2, 18),
+    Part::Array(2, 9),
+    Let("a", 5, 1),
+    Variable("a", 1, 27),
+    Int(0, 29),
+    Int(1, 32),
+    Index(31),
+    IndexOn(28),
+    Int(5, 37),
+    Assign(35),
 ];
 
-/// Makes an array of two values.
-fn array_of(
-    alloc: Global,
-    first: Dynamic<Pair>,
-    second: Dynamic<Pair>,
-) -> Result<Dynamic<Pair>, AllocError> {
-    let mut items = Items::new(alloc);
-    items.push(first)?;
-    items.push(second)?;
-    Ok(Dynamic::new(Union::Array(Boxed::new(alloc, items)?)))
+/// The same with a thousand ones for the first two.
+const LONG: &[Part<'_>] = &[
+    Ones(1000, 11, 10),
+    Int(3, 19),
+    Int(4, 22),
+    Part::Array(2, 18),
+    Part::Array(2, 9),
+    Let("a", 5, 1),
+    Variable("a", 1, 27),
+    Int(0, 29),
+    Int(1, 32),
+    Index(31),
+    IndexOn(28),
+    Int(5, 37),
+    Assign(35),
+];
+
+/// The short one, where `a` is shared before.
+const IN_CELL: &[Part<'_>] = &[
+    Int(1, 11),
+    Int(2, 14),
+    Part::Array(2, 10),
+    Int(3, 19),
+    Int(4, 22),
+    Part::Array(2, 18),
+    Part::Array(2, 9),
+    Let("a", 5, 1),
+    Share(&[("a", 1, 25)]),
+    Variable("a", 1, 27),
+    Int(0, 29),
+    Int(1, 32),
+    Index(31),
+    IndexOn(28),
+    Int(5, 37),
+    Assign(35),
+];
+
+/// Hears whether the call is reached. Where it has a number, the request of that number within the call is refused.
+#[derive(Clone, Copy)]
+struct Ear {
+    number: Option<usize>,
+    is_reached: bool,
+    was_refused: bool,
 }
 
-/// Makes an array of two integers.
-fn integers(alloc: Global, first: i64, second: i64) -> Result<Dynamic<Pair>, AllocError> {
-    let first = Dynamic::new(Union::Int(first));
-    array_of(alloc, first, Dynamic::new(Union::Int(second)))
+impl Listener for Ear {
+    fn enters(&mut self, alloc: Global) {
+        self.is_reached = true;
+        if let Some(number) = self.number {
+            refuser::begin(alloc, Refusal::Alone, number);
+        }
+    }
+
+    fn leaves(&mut self, alloc: Global) {
+        self.was_refused = refuser::end(alloc);
+    }
 }
 
-/// Makes a scope with the array `[[1, 2], [3, 4]]`.
-fn variables(alloc: Global) -> Result<Scope<Pair>, AllocError> {
-    let mut scope = Scope::new(alloc);
-    let first = integers(alloc, 1, 2)?;
-    let second = integers(alloc, 3, 4)?;
-    let arrays = array_of(alloc, first, second)?;
-    scope.push_entry(String::from_str(alloc, "a")?, AccessMode::ReadWrite, arrays)?;
-    Ok(scope)
+impl Ear {
+    fn new(number: Option<usize>) -> Ear {
+        Ear {
+            number,
+            is_reached: false,
+            was_refused: false,
+        }
+    }
 }
 
-/// Tells whether the script gives `()` and leaves `[[1, 5], [3, 4]]`. None where its run is not reached.
-pub fn is_assigned<R: Runner>(alloc: Global) -> Option<bool> {
-    let statements = statements_of(alloc, SCRIPT).ok()?;
-    let tree = check_tree(alloc, statements, Items::new(alloc)).ok()?;
-    let mut global = GlobalRuntimeState::new(alloc).ok()?;
-    let mut scope = variables(alloc).ok()?;
-    let outcome = R::eval_tree(
-        alloc,
-        &Settings::USUAL,
-        &mut global,
-        &mut Caches::new(alloc),
-        &mut Counting::table(alloc),
-        &mut scope,
-        &tree,
-    )
-    .ok()?;
-    let is_unit = matches!(outcome.as_ref().map(|value| &value.value), Ok(Union::Unit));
-    drop(outcome);
-    let (_, value, _) = scope.get(0)?;
-    Some(is_unit && is_changed(value))
+/// Tells whether the assignment is done, and None where its call is not reached. What the call does not ask for is
+/// granted from its end on.
+pub fn is_assigned<R: Runner>(alloc: Global, root: Root, way: Way) -> Option<bool> {
+    let mut ear = Ear::new(None);
+    let is_done = run::<R>(alloc, root, way, &mut ear);
+    if ear.is_reached { Some(is_done) } else { None }
 }
 
-/// Tells whether a value is `[[1, 5], [3, 4]]`.
+/// Counts the requests of the call, in the way in which they are most.
+pub fn requests<R: Runner>(alloc: Global, root: Root) -> usize {
+    let mut most = 0;
+    for way in Way::ALL {
+        let number = requests_in::<R>(alloc, root, way);
+        if number > most {
+            most = number;
+        }
+    }
+    most
+}
+
+/// Counts the requests of the call in a way.
+fn requests_in<R: Runner>(alloc: Global, root: Root, way: Way) -> usize {
+    for number in 1..=refuser::GREATEST {
+        let mut ear = Ear::new(Some(number));
+        run::<R>(alloc, root, way, &mut ear);
+        if !ear.was_refused {
+            return number.saturating_sub(1);
+        }
+    }
+    refuser::GREATEST
+}
+
+/// Runs the script, its last statement by the call, and tells whether that gave `()` and the array is what it is to be.
+fn run<R: Runner>(alloc: Global, root: Root, way: Way, ear: &mut Ear) -> bool {
+    let Ok(script) = script(alloc, root) else {
+        return false;
+    };
+    match R::enter(alloc, Entry::Chain, script, way, Scope::new(alloc), ear) {
+        Ok(outcome) => {
+            let is_done = is_unit(&outcome.ending) && is_left(&outcome, root);
+            drop(outcome);
+            is_done
+        }
+        Err(AllocError) => false,
+    }
+}
+
+fn script(alloc: Global, root: Root) -> Result<Script, AllocError> {
+    let TreeParts {
+        statements,
+        functions,
+    } = tree_of(alloc, root.parts())?;
+    Ok(Script {
+        statements,
+        functions,
+        settings: Settings::USUAL,
+    })
+}
+
+fn is_unit(ending: &Ending) -> bool {
+    match ending {
+        Ending::Value(value) => matches!(&value.value, Union::Unit),
+        _ => false,
+    }
+}
+
+/// Tells whether the variable is as it is to be, or its cell.
+fn is_left(outcome: &Outcome, root: Root) -> bool {
+    match root {
+        Root::InCell => match outcome.cells.get(CellId { number: 0 }) {
+            Some(value) => is_changed(value),
+            None => false,
+        },
+        Root::Short | Root::Long => match outcome.scope.get(0) {
+            Some((_, value, _)) => is_changed(value),
+            None => false,
+        },
+    }
+}
+
+/// Tells whether a value is `[[1, 5], [3, 4]]`, or has more in its first array.
 fn is_changed(value: &Dynamic<Pair>) -> bool {
     match items_of(value) {
-        Some([first, second]) => is_pair(first, 1, 5) && is_pair(second, 3, 4),
+        Some([first, second]) => begins(first, 1, 5) && begins(second, 3, 4),
         _ => false,
     }
 }
@@ -88,10 +221,10 @@ fn items_of(value: &Dynamic<Pair>) -> Option<&[Dynamic<Pair>]> {
     }
 }
 
-/// Tells whether a value is an array of these two integers.
-fn is_pair(value: &Dynamic<Pair>, first: i64, second: i64) -> bool {
+/// Tells whether a value is an array that begins with these two integers.
+fn begins(value: &Dynamic<Pair>, first: i64, second: i64) -> bool {
     match items_of(value) {
-        Some([one, other]) => is_integer(one, first) && is_integer(other, second),
+        Some([one, other, ..]) => is_integer(one, first) && is_integer(other, second),
         _ => false,
     }
 }
