@@ -16,6 +16,7 @@ use rhai_tables::host::Pair;
 use rhai_tables::tables::NoNatives;
 use std::alloc::{AllocError, Global};
 use std::io;
+use std::mem::replace;
 use std::num::NonZeroUsize;
 
 /// Makes the scope of `a` with 1, `b` with 2 and `a` with 3.
@@ -68,8 +69,8 @@ pub fn write_search(
     sheet.hand_to(out)
 }
 
-/// Tells where a variable of this name and offset stands, if the offset tells, and its value or the error.
-/// The scope has `a` with 1, `b` with 2 and `a` with 3.
+/// Tells where a variable of this name and offset stands, if the offset tells, and its value or the error; and what is
+/// left of the scope and of a `this` of 1, where 9 is written through the target. The scope has `a` with 1, `b` with 2 and `a` with 3.
 fn tell_search(
     name: &str,
     offset: Option<NonZeroUsize>,
@@ -136,21 +137,29 @@ fn tell_value(
     let alloc = sheet.maker.allocator();
     let mut caches = Caches::new(alloc);
     let mut table = NoNatives;
+    let mut this = Dynamic::new(Union::Int(1));
     let found = Engine::new(alloc).search_scope_only(
         alloc,
         global,
         &mut caches,
         &mut table,
         scope,
-        None,
+        Some(&mut this),
         expr,
     );
     match found {
-        Ok(target) => sheet.value(target.as_ref()),
+        Ok(mut target) => {
+            sheet.value(target.as_ref());
+            drop(replace(target.as_mut(), Dynamic::new(Union::Int(9))));
+        }
         Err(error) => {
             let ending = Ending::Error(error);
             sheet.end(&ending);
             drop(ending);
         }
     }
+    sheet.write("; ");
+    sheet.variables(0, scope);
+    sheet.write(" this = ");
+    sheet.value(&this);
 }

@@ -70,7 +70,7 @@ impl Sheet {
     }
 
     /// Appends the variables above so many others with their values, as `x = 1; y = 2;`, or `nothing`.
-    fn variables(&mut self, others: usize, scope: &Scope<Pair>) {
+    pub fn variables(&mut self, others: usize, scope: &Scope<Pair>) {
         if scope.len() <= others {
             self.write("nothing");
         }

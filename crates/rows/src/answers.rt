@@ -20,7 +20,7 @@ use std::io::Write;
 /// - `refuses [WORD] ..`: the status of the program where one of its writes is refused
 /// - `prints NAME`: a value or a position of that name
 /// - `finds NAME OFFSET`, `searches NAME OFFSET`: where a variable stands in a scope, if its offset
-///   tells, and its value; the second has variables searched for
+///   tells, its value, and what is left where 9 is written there; the second has variables searched for
 /// - `calls NAME`: what a host's own call of a function answers, and what it leaves
 /// - `handles CHAIN`: what a chain on handles of a cell comes to
 /// - `shows VARIANT [PART] ..`: an error as a user reads it; behind `nowhere`, without its position
