@@ -1,17 +1,20 @@
 -- What a statement that is no `import` makes of the frame, and what becomes of the statements behind it.
-use Rattle.std.proofs.Common.{◌≡◌, Bool, true, false, List, Option, Some, None, Result, Ok, Err, refl, sym, ap, ◌∙◌}
-use Rattle.std.specs.Prelude.{OnOk}
+use Rattle.std.proofs.Common.{◌≡◌, Bool, true, false, List, Option, Some, None, Result, Ok, Err, refl, sym, ap, subst, map, ◌∙◌}
+use Rattle.std.specs.Prelude.{IsTrue, OnOk}
 use Rattle.std.specs.declared.num.NonZeroUsize.{NonZeroUsize}
 use Rattle.rhai_tree.specs.declared.expr.Expr.TheOpen as layer
+use Rattle.rhai_tree.specs.declared.expr.Expr.TheFolds.{fold_out-StmtBlock}
 use Rattle.rhai_tree.specs.declared.expr.Stmt.{Stmt, out-Stmt}
-use Rattle.rhai_tree.specs.Frame.{resolves_stmt}
+use Rattle.rhai_tree.specs.declared.expr.StmtBlock.{StmtBlock}
+use Rattle.rhai_tree.specs.Frame.{all_resolve, resolves_block, resolves_stmt}
 use Rattle.rhai_tree.specs.Layers.{StmtLayer}
 use Rattle.rhai_tree.specs.Names.{Frame, Name}
 use Rattle.rhai_tree.specs.Reading as walk
 use Rattle.rhai_tree.specs.Reading.{sound}
 use Rattle.rhai_tree.proofs.Walk.{resolves-stmt, stmt_tests}
 use Rattle.rhai_laws.specs.Kept.{is_import}
-use Rattle.rhai_steps.specs.Agreement.{Leads, Sight, changes, framed}
+use Rattle.rhai_steps.specs.Agreement.{Agrees, Leads, Sight, changes, framed, passes}
+use Rattle.rhai_steps.proofs.Agreeing.{brings}
 
 -- what a declaration leaves of the imports
 var_imports : (index : Option NonZeroUsize) (name : Name) (frame : Frame) → (walk.after_var sound index name frame).imports ≡ frame.imports
@@ -58,3 +61,15 @@ leads_behind {was} {now} {l} stmt k names stay searches none = record {
 pub ok_then : {V E A B : Type 0} (r : Result V E) → (A → B) → OnOk r A → OnOk r B
 ok_then (Ok v) f a = f a
 ok_then (Err e) f a = tt
+
+-- a block may run where its statements may
+block_value : (block : StmtBlock) (frame : Frame) →
+    resolves_block block frame ≡ (all_resolve (map resolves_stmt block.statements) frame).0
+block_value block frame = ap (λ (seen : walk.Seen sound). seen.value frame) (fold_out-StmtBlock (walk.Seen sound) (walk.SeenStmt sound)
+    (walk.SeenConditional sound) (walk.SeenCall sound) (walk.SeenEntry sound) (walk.Seen sound) (walk.expr_step sound)
+    (walk.stmt_step sound) (walk.conditional_step sound) (walk.call_step sound) (walk.entry_step sound) (walk.block_step sound) block)
+
+-- and its statements where it may
+pub block_runs : {sight : Sight} {names : List Name} (block : StmtBlock) → Agrees sight names (resolves_block block) →
+    Agrees sight names (passes (all_resolve (map resolves_stmt block.statements)))
+block_runs block h = brings (λ frame. subst IsTrue (block_value block frame)) h

@@ -3,12 +3,12 @@ use Rattle.rhai_tree.specs.declared.expr.Expr.TheOpen as layer
 use Rattle.rhai_tree.specs.declared.expr.Stmt.TheVariants as stmts
 use Rattle.rhai_steps.proofs.Agreeing.{brings}
 use Rattle.rhai_assign_stmt.proofs.Alone.{sides_resolve}
-use Rattle.rhai_eval_core.proofs.FormNames.{block_suits}
 use Rattle.rhai_eval_core.proofs.NameLemmas.{stmt_suits}
+use Rattle.rhai_bench.proofs.EnteringLemmas.{block_runs}
 use Rattle.rhai_bench.proofs.entering.parts.enter_part.Goals as goal
 
 pub run_list-requires : goal.run_list-requires
-run_list-requires g c = rw c.as_slice.ensures (block_suits c.in-Block.block (stmt_suits c.args.stmt.now (layer.Block c.in-Block.block)
+run_list-requires g c = rw c.as_slice.ensures (block_runs c.in-Block.block (stmt_suits c.args.stmt.now (layer.Block c.in-Block.block)
     (rw (c.in-Block.is, stmts.outs-Block) refl) refl c.requires))
 
 pub enter_expr-requires : goal.enter_expr-requires
