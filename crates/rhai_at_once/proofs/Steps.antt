@@ -31,7 +31,7 @@ use Rattle.rhai_machine.specs.language.Setting.{Rules, globals_of, limit_under, 
 use Rattle.rhai_machine.specs.language.State.{Answers, HasMemory, Held, State}
 use Rattle.rhai_machine.specs.language.Values.{Cells, is_handle}
 use Rattle.rhai_machine.specs.language.Places.{is_constant}
-use Rattle.rhai_machine.specs.language.Calls.{is_held, call_races, plainly, replied, dispatch_core}
+use Rattle.rhai_machine.specs.language.Calls.{is_held, plainly, races, replied, dispatch_core}
 use Rattle.rhai_machine.specs.language.Variables.{Variable, variable_named}
 use Rattle.rhai_machine.specs.language.Names.{entry_named}
 use Rattle.rhai_machine.specs.language.Arguments.{arguments_core, function_move, function_of}
@@ -262,9 +262,9 @@ module _ {S H : Type 0} (rules : Rules S H) (call : FnCallExpr) (arg : Expr) (lo
     means : meant rules.setting.offer (surroundings_of mid) operation rules.setting.host_type (v ∷ []) ≡ None
     means = let m : MeansNothing call.name = means_nothing call.name lone.meaning in rw (m.no_type, m.no_compiler) refl
 
-    no_end : ended_early (call_races false cells (v ∷ []))
+    no_end : ended_early (races cells (v ∷ []))
         (meant rules.setting.offer (surroundings_of mid) operation rules.setting.host_type (v ∷ [])) operation ≡ None
-    no_end = no_early_end (call_races false cells (v ∷ []))
+    no_end = no_early_end (races cells (v ∷ []))
         (meant rules.setting.offer (surroundings_of mid) operation rules.setting.host_type (v ∷ [])) operation
         (not_raced (is_held cells v.value) free) means
 

@@ -12,12 +12,12 @@ use Rattle.rhai_machine.specs.language.Setting.{Setting, Rules, globals_of, cut}
 use Rattle.rhai_machine.specs.language.State.{Local, State}
 use Rattle.rhai_machine.specs.language.Values.{through}
 use Rattle.rhai_machine.specs.language.Names.{bound_this}
-use Rattle.rhai_machine.specs.language.Activations.{NoThis}
+use Rattle.rhai_machine.specs.language.Activations.{ThisFrom, NoThis}
 use Rattle.rhai_machine.specs.language.Frames.{Dispatch, Call, Purpose, ToCall, ToCallOn, ToCallOnThis, ToCallFunction, ToCallNumber}
 use Rattle.rhai_machine.specs.language.Frames.{ToCurry}
 use Rattle.rhai_machine.specs.language.Frames.{ToChain, Frame, Core, core, on_value, EnterFunction, Question, Fail}
 use Rattle.rhai_machine.specs.language.Calls.{asks_function, by_name_core, call_of, called_function, dispatch_behind, dispatch_core}
-use Rattle.rhai_machine.specs.language.Calls.{call_races, enter_core, entry_of, found_core, function_behind, named_core, races}
+use Rattle.rhai_machine.specs.language.Calls.{enter_core, entry_of, found_core, function_behind, named_core, races}
 use Rattle.rhai_machine.specs.language.Arguments.{arguments_there, call_on, lent_this, linked_core, numbered_core}
 use Rattle.rhai_machine.specs.language.Runs.{at, with_core}
 use Rattle.rhai_machine.specs.language.Language.{machine}
@@ -59,8 +59,7 @@ module _ {H : Type 0} (k : List (Frame H)) (l : Local H) where
 
     by_name_level : (how : Dispatch) (call : Call H) → IsLevel k l (by_name_core s how call k l)
     by_name_level how call =
-        either (call_races how.of_method l.around.cells call.args) _ _ (record { stack = refl; local = refl }) (named_level
-        how call.args call)
+        either (races l.around.cells call.args) _ _ (record { stack = refl; local = refl }) (named_level how call.args call)
 
     behind_level : (path : List (List ℕ)) (how : Dispatch) (call : Call H) → IsLevel k l (dispatch_behind s path how call k l)
     behind_level [] how call = by_name_level how call
@@ -75,9 +74,10 @@ module _ {H : Type 0} (k : List (Frame H)) (l : Local H) where
         (core (Fail (error.ErrorDataRace call.operation.name call.operation.at)) k l) (core (Question call) k l)
         (record { stack = refl; local = refl }) (record { stack = refl; local = refl })
 
-    linked_level : (f : Function H) (pos : Position) (args : List (Dynamic H)) → IsLevel k l (linked_core f pos args k l)
-    linked_level f pos args = either (races l.around.cells args) (core (Fail (error.ErrorDataRace f.def.name pos)) k l)
-        (core (EnterFunction (entry_of f NoThis true args pos l)) k l)
+    pub linked_level : (f : Function H) (object : ThisFrom) (pos : Position) (args : List (Dynamic H)) →
+        IsLevel k l (linked_core f object pos args k l)
+    linked_level f object pos args = either (races l.around.cells args) (core (Fail (error.ErrorDataRace f.def.name pos)) k l)
+        (core (EnterFunction (entry_of f object true args pos l)) k l)
         (record { stack = refl; local = refl }) (record { stack = refl; local = refl })
 
     pub there_level : (purpose : Purpose H) (args : List (Dynamic H)) → IsLevel k l (arguments_there s purpose args k l)
@@ -88,7 +88,7 @@ module _ {H : Type 0} (k : List (Frame H)) (l : Local H) where
     there_level (ToCallOnThis operation this_at how) args =
         on_level (bound_this this_at l.this) (λ v. dispatch_core s how (lent_this operation args v) k l)
         (λ v. dispatch_level how (lent_this operation args v))
-    there_level (ToCallFunction function pos curried) args = linked_level function pos (curried ++ args)
+    there_level (ToCallFunction function pos curried) args = linked_level function NoThis pos (curried ++ args)
     there_level (ToCallNumber number operation curried) args =
         number_level (record (call_of operation (curried ++ args)) { number = Some number })
     there_level (ToCurry pointer) args = record { stack = refl; local = refl }

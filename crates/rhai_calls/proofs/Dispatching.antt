@@ -19,7 +19,7 @@ use Rattle.rhai_machine.specs.language.Values.{bool_value, through}
 use Rattle.rhai_machine.specs.language.Variables.{no_path}
 use Rattle.rhai_machine.specs.language.Frames.{Operation, Dispatch, Call, Frame, Core, core, ended, ended_or_changed, Ask, Back, Fail}
 use Rattle.rhai_machine.specs.language.Calls.{asks_function, by_name_core, call_of, called_core, called_function, dispatch_core, found_core}
-use Rattle.rhai_machine.specs.language.Calls.{knows_asked, knows_function, named_core, names_function, plainly, call_races}
+use Rattle.rhai_machine.specs.language.Calls.{knows_asked, knows_function, named_core, names_function, plainly, races}
 use Rattle.rhai_machine.specs.language.Runs.{at, with_core, Steps, Goes}
 use Rattle.rhai_machine.specs.language.Language.{machine}
 use Rattle.rhai_steps.proofs.Operating.{dispatch_runs_out}
@@ -148,9 +148,9 @@ module _ {H : Type 0} where
 
     -- a call that is no function's is at its end
     name_leads : by_name_core s how call k l
-        ≡ leads_to k l (ended_early (call_races how.of_method l.around.cells call.args) told_meaning call.operation)
+        ≡ leads_to k l (ended_early (races l.around.cells call.args) told_meaning call.operation)
         (called_core s how call k l)
-    name_leads = early_or_called (call_races how.of_method l.around.cells call.args)
+    name_leads = early_or_called (races l.around.cells call.args)
 
 module _ {S H : Type 0} (rules : Rules S H) (how : Dispatch) (call : Call H) (s : State S H) where
   -- memory runs out before a call is dispatched
@@ -175,7 +175,7 @@ module _ {S H : Type 0} (rules : Rules S H) (seeks : Seeks) (on_scope : Bool) (c
 
   -- how it ends for which no function is looked for
   abbrev early : Option (Result (Dynamic H) (EvalAltResult H))
-  early = ended_early (call_races seeks.of_method s.local.around.cells call.args) meaning call.operation
+  early = ended_early (races s.local.around.cells call.args) meaning call.operation
 
   early_ends : (r : Result (Dynamic H) (EvalAltResult H)) → Some r ≡ early → (k : List (Frame H)) →
       Leads (machine rules) (cut rules) (with_core (dispatch_core rules.setting (how_of seeks on_scope) call k s.local) s)

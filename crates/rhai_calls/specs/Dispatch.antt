@@ -17,7 +17,7 @@ use Rattle.rhai_machine.specs.language.Values.{Cells, bool_value, through}
 use Rattle.rhai_machine.specs.language.Functions.{found_function, key_by}
 use Rattle.rhai_machine.specs.language.Variables.{no_path}
 use Rattle.rhai_machine.specs.language.Frames.{Operation, Dispatch, Call, Frame, Core, core, ended_or_changed}
-use Rattle.rhai_machine.specs.language.Calls.{call_races, enter_core, first_type, signature, types_of}
+use Rattle.rhai_machine.specs.language.Calls.{enter_core, first_type, races, signature, types_of}
 use Rattle.rhai_calls.specs.declared.dispatch.Called.{Called}
 use Rattle.rhai_calls.specs.declared.dispatch.Called.TheVariants.{Ended, Enters}
 use Rattle.rhai_calls.specs.declared.dispatch.Seeks.{Seeks}
@@ -126,7 +126,7 @@ module _ {H : Type 0} where
   abbrev pub ResolvesCall : Offer H → Surroundings H → (H → List ℕ) → Seeks → Operation → List (Dynamic H) →
       Option (Called (Dynamic H) (Function H) H) → Type 0
   ResolvesCall offer around host seeks operation args resolved =
-      Resolves (ended_early (call_races seeks.of_method around.cells args) (meant offer around operation host args) operation)
+      Resolves (ended_early (races around.cells args) (meant offer around operation host args) operation)
       (script_function offer around host seeks operation.name args) resolved
 
   -- ---- what a call comes to

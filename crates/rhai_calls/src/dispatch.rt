@@ -8,8 +8,7 @@ ghost use Rattle.rhai_values.specs.Copy.{plain};
 ghost use Rattle.rhai_values.specs.TypeNames.{type_name_of};
 ghost use Rattle.rhai_values.specs.declared.base.value.Union.TheVariants as kind;
 ghost use Rattle.rhai_machine.specs.language.Calls.{call_of, is_held as held_in, plainly, dispatch_core};
-ghost use Rattle.rhai_machine.specs.language.Calls.{call_races as call_races_in, is_same_cell as same_cell};
-ghost use Rattle.rhai_machine.specs.language.Calls.{leads_there as leads_there_in, races as races_in};
+ghost use Rattle.rhai_machine.specs.language.Calls.{races as races_in};
 ghost use Rattle.rhai_machine.specs.language.Frames.{Ask, ended_or_changed};
 ghost use Rattle.rhai_machine.specs.language.State.{Answers};
 ghost use Rattle.rhai_machine.specs.language.Values.{through};
@@ -84,43 +83,11 @@ pub fn races<H: Host>(cells: &CellStore<H>, values: &[Dynamic<H>]) -> bool
     false
 }
 
-/// Tells whether two values are handles of the same cell.
-fn is_same_cell<H: Host>(one: &Dynamic<H>, other: &Dynamic<H>) -> bool
-    ensures { result ≡ same_cell one.now.value other.now.value }
+/// Tells whether an argument of a call is the handle of a cell that is held.
+pub fn call_races<H: Host>(cells: &CellStore<H>, first: &Dynamic<H>, rest: &[Dynamic<H>]) -> bool
+    ensures { result ≡ races_in (cells_of cells.now) (first.now ∷ rest.now) }
 {
-    match (&one.value, &other.value) {
-        (Union::Cell(id), Union::Cell(cell)) => id.number == cell.number,
-        _ => false,
-    }
-}
-
-/// Tells whether any of some values is a handle of the cell that `first` is a handle of.
-fn leads_there<H: Host>(first: &Dynamic<H>, values: &[Dynamic<H>]) -> bool
-    ensures { result ≡ leads_there_in first.now.value values.now }
-{
-    'values: for value in values {
-        if is_same_cell(first, value) {
-            return true;
-        }
-    }
-    false
-}
-
-/// Tells whether an argument of a call is the handle of a cell that is held. The focus of a method is
-/// entered, so that no other argument may lead to its cell.
-pub fn call_races<H: Host>(
-    cells: &CellStore<H>,
-    of_method: bool,
-    first: &Dynamic<H>,
-    rest: &[Dynamic<H>],
-) -> bool
-    ensures { result ≡ call_races_in of_method (cells_of cells.now) (first.now ∷ rest.now) }
-{
-    let is_anothers = is_held(cells, first) || races(cells, rest);
-    if of_method {
-        return is_anothers || leads_there(first, rest);
-    }
-    is_anothers
+    is_held(cells, first) || races(cells, rest)
 }
 
 /// Returns the text that a value is, through a handle.
@@ -346,7 +313,7 @@ fn resolve<H: Host>(
     ensures { ResolvesCall (offer_of session.now) (surroundings_of global.now) H.name_of seeks
         (operation_of operation.now) (first.now ∷ rest.now) result }
 {
-    if call_races(&global.cells, seeks.of_method, first, rest) {
+    if call_races(&global.cells, first, rest) {
         return Some(Called::Ended(Err(data_race_by(session.alloc, operation.name, operation.at))));
     }
     if let Some(result) = meaning(session, global, operation, first, rest) {

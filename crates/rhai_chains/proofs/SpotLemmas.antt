@@ -2,7 +2,7 @@
 use Rattle.std.proofs.Common.{◌≡◌, ◌⊎◌, inl, inr, ℕ, zero, suc, ◌<◌, List, [], ◌∷◌, true, false, Option, Some, None, Result, Ok, Err}
 use Rattle.std.proofs.Common.{refl, sym, ap, ◌∙◌, length, arith}
 use Rattle.std.specs.List.{insert, slice_get, slice_set}
-use Rattle.rhai_tree.specs.Lookup.{place_of, put_at, rank, with_entry}
+use Rattle.rhai_tree.specs.Lookup.{paired, place_of, put_at, rank, with_entry}
 use Rattle.rhai_values.specs.declared.base.value.Dynamic.{Dynamic}
 use Rattle.rhai_values.specs.declared.base.value.Union.{out-Union, roll-Union, roll-out-Union}
 use Rattle.rhai_values.specs.declared.base.value.Union.TheVariants as value
@@ -78,11 +78,11 @@ module _ {H : Type 0} where
   with_key_stands : (source after : Dynamic H) (at : Spot) (u v : UnionLayer H) → IsKeyless u v → with_key source u v ≡ (after, at) →
       IsThere (layer_of after) at → Standing source after at
   with_key_stands source after at (layer.Map entries) (layer.Str key) none is there =
-      let same_value : record source { value = value.Map (with_entry key unit_value entries) } ≡ after = ap (λ p. p.0) is in
-      let same_spot : spot.Value (rank key entries.0) ≡ at = ap (λ p. p.1) is in
+      let same_value : record source { value = value.Map (with_entry key unit_value (paired entries)) } ≡ after = ap (λ p. p.0) is in
+      let same_spot : spot.Value (rank key (paired entries).0) ≡ at = ap (λ p. p.1) is in
       rw (← same_value, ← same_spot) (record {
         kept = rw (← same_value, ← same_spot) at there;
-        added = inr (key_added key entries source none (rw (← same_value, ← same_spot) at there));
+        added = inr (key_added key (paired entries) source none (rw (← same_value, ← same_spot) at there));
       })
   with_key_stands source after at u v none is there = absurd none
 

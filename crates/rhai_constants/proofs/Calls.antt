@@ -20,6 +20,7 @@ use Rattle.rhai_machine.specs.language.Setting.{Globals, Setting, globals_of}
 use Rattle.rhai_machine.specs.language.State.{Local}
 use Rattle.rhai_functions.specs.declared.function.Function.{Function}
 use Rattle.rhai_machine.specs.language.Variables.{Path, Variable, path_of, variable_in}
+use Rattle.rhai_machine.specs.language.Activations.{ThisFrom, NoThis}
 use Rattle.rhai_machine.specs.language.Names.{Meaning, AtEntry, AsTemporary, bound_this, meant}
 use Rattle.rhai_machine.specs.language.Frames.{Operation, Dispatch, Call, Frame, Core, core}
 use Rattle.rhai_machine.specs.language.Frames.{changed, on_value, CallNamed, OpenExpr}
@@ -38,7 +39,7 @@ use Rattle.std.specs.Str.{bytes_eq}
 use Rattle.rhai_state.specs.Scope.{value_in}
 use Rattle.rhai_machine.specs.language.Values.{Cells, flat, through as seen_through}
 use Rattle.rhai_machine.specs.language.Places.{is_constant}
-use Rattle.rhai_machine.specs.language.Calls.{asks_function, call_races, called_function, enter_core, found_core, named_core}
+use Rattle.rhai_machine.specs.language.Calls.{asks_function, called_function, enter_core, found_core, named_core}
 use Rattle.rhai_machine.specs.language.Arguments.{linked_core, passed, passed_as, passed_flat, passed_seen}
 use Rattle.rhai_machine.proofs.MeantLaws.{meant_entry}
 use Rattle.rhai_constants.specs.Constants.{is_bottom}
@@ -179,7 +180,7 @@ module _ {H : Type 0} (a : Told H) where
     -- by its name alone, or behind a path
     behind_keeps : (path : List (List ℕ)) (how : Dispatch) (call : Call H) (k : List (Frame H)) (l : Local H) → Calls a.of call k →
         Keeps a (calm k l) (dispatch_behind s path how call k l)
-    behind_keeps [] how call k l c = if_keeps (call_races how.of_method l.around.cells call.args) _ _ k l (same a tt (λ h. h.1))
+    behind_keeps [] how call k l c = if_keeps (races l.around.cells call.args) _ _ k l (same a tt (λ h. h.1))
         (called_keeps call.args how call k l c)
     behind_keeps (root ∷ path) how call k l c =
         on_keeps (function_behind s root path how call l) _ k l (λ f. enter_keeps false f how call k l)
@@ -188,9 +189,9 @@ module _ {H : Type 0} (a : Told H) where
         Keeps a (calm k l) (dispatch_core s how call k l)
     dispatch_keeps how call k l c = behind_keeps how.path.names how call k l c
 
-    pub linked_keeps : (f : Function H) (at : Position) (args : List (Dynamic H)) (k : List (Frame H)) (l : Local H) →
-        Keeps a (calm k l) (linked_core f at args k l)
-    linked_keeps f at args k l = if_keeps (races l.around.cells args) _ _ k l (same a tt (λ h. h.1)) (same a tt (λ h. h.1))
+    pub linked_keeps : (f : Function H) (object : ThisFrom) (at : Position) (args : List (Dynamic H)) (k : List (Frame H)) (l : Local H) →
+        Keeps a (calm k l) (linked_core f object at args k l)
+    linked_keeps f object at args k l = if_keeps (races l.around.cells args) _ _ k l (same a tt (λ h. h.1)) (same a tt (λ h. h.1))
 
     pub operator_keeps : (builtin : Option (Result (Dynamic H) (EvalAltResult H))) (call : Call H) (k : List (Frame H)) (l : Local H) →
         Calls a.of call k → Keeps a (calm k l) (operator_core s builtin call k l)
@@ -210,7 +211,7 @@ module _ {H : Type 0} (a : Told H) where
         (λ h call ok. dispatch_keeps how call k l (variable_calls (globals_of s.offer) operation variable args call k l h.1.1 ok))
     arguments_there_keep (ToCallOnThis operation this_at how) args k l f = known_keeps (bound_this this_at l.this) _ k l
         (λ h v ok. dispatch_keeps how (lent_this operation args v) k l (lends_this operation args v this_at k l h.1.1 ok))
-    arguments_there_keep (ToCallFunction function at curried) args k l f = linked_keeps function at (curried ++ args) k l
+    arguments_there_keep (ToCallFunction function at curried) args k l f = linked_keeps function NoThis at (curried ++ args) k l
     arguments_there_keep (ToCallNumber number operation curried) args k l f =
         numbered_keeps (record (call_of operation (curried ++ args)) { number = Some number }) k l (tt, tt)
     arguments_there_keep (ToCurry pointer) args k l f = same a tt (λ h. h.1)

@@ -40,7 +40,6 @@ use Rattle.rhai_machine.specs.language.Chains.{part_core, descend, spot_core, in
 use Rattle.rhai_machine.specs.language.Chains.{stop_move, seen_move, walk_move}
 use Rattle.rhai_machine.specs.language.Unwinding.{measured_part, part_assigned, part_changed, operated_core, got_none}
 use Rattle.rhai_machine.specs.language.Unwinding.{temporary_changed}
-use Rattle.rhai_machine.proofs.MethodLaws.{frames_inside, inside}
 use Rattle.std.proofs.Common.{sym, subst, ◌∙◌, inl, inr, arith, zero, suc}
 use Rattle.std.proofs.lemmas.Bool.Decides.{nat_tests}
 use Rattle.std.specs.Prelude.{◌⊎◌, drop, nat_eq, option_map}
@@ -77,7 +76,8 @@ use Rattle.rhai_constants.proofs.Keeping.{Open, Settled, Walks, Keeps, quiet, af
 use Rattle.rhai_constants.proofs.Settling.{Below, same, given, ended_keeps, free_due}
 use Rattle.rhai_constants.proofs.Assignments.{there_keeps, stored_keeps, focus_writable}
 use Rattle.rhai_constants.proofs.Calls.{on_keeps, known_keeps, arguments_keep, meant_is}
-use Rattle.rhai_constants.proofs.Methods.{IsNoPointer, IsLeaf, focus_loan, where_true, focus_due, entered_below, method_keeps}
+use Rattle.rhai_constants.proofs.Methods.{IsNoPointer, IsLeaf, focus_loan, where_true, focus_due, frames_inside, inside}
+use Rattle.rhai_constants.proofs.Methods.{entered_below, method_keeps}
 
 module _ {H : Type 0} where
   literal_step_flat : (y : literal.Literal-F (Dynamic H) (FnPtr H)) → IsNoHandle (literal_step y).value

@@ -8,25 +8,27 @@ use Rattle.rhai_values.specs.declared.base.value.FnPtrKind.{FnPtrKind}
 use Rattle.rhai_values.specs.declared.base.value.FnPtrKind.TheOpen as union
 use Rattle.rhai_values.specs.declared.base.value.FnPtrKind.TheVariants as kind
 use Rattle.rhai_values.specs.declared.base.value.Union.TheVariants as value
-use Rattle.rhai_values.specs.Cells.{IsNoHandle}
+use Rattle.rhai_values.specs.Cells.{IsNoHandle, with_held}
 use Rattle.rhai_values.specs.Layers.{UnionLayer, layer_of}
+use Rattle.rhai_spots.specs.Paths.{ToCell}
 use Rattle.rhai_machine.specs.language.Setting.{Setting}
 use Rattle.rhai_machine.specs.language.State.{Local}
 use Rattle.rhai_machine.specs.language.Values.{Cells, through as seen_through, through_union, unit_value}
 use Rattle.rhai_machine.specs.language.Functions.{Function}
+use Rattle.rhai_machine.specs.language.Activations.{NoThis, TheFocus}
+use Rattle.rhai_machine.specs.language.Handles.{focus_of}
 use Rattle.rhai_machine.specs.language.Places.{is_constant}
-use Rattle.rhai_machine.specs.language.Frames.{Operation, Frame}
-use Rattle.rhai_machine.specs.language.Calls.{call_of, call_races, dispatch_core, focus_core, plainly}
+use Rattle.rhai_machine.specs.language.Frames.{Operation, Frame, StepDown}
+use Rattle.rhai_machine.specs.language.Calls.{call_of, dispatch_core, plainly}
 use Rattle.rhai_machine.specs.language.Arguments.{operation_named, pointer_wanted, linked_to, natives_alone}
 use Rattle.rhai_machine.specs.language.Methods.{Method, MethodWord, CallWord, CurryWord, SharedWord, PlainWord, word_of, argument_at}
-use Rattle.rhai_machine.specs.language.Methods.{as_method, on_focus, copied_before, own_entry, numbered_on}
+use Rattle.rhai_machine.specs.language.Methods.{as_method, on_focus, copied_before, own_entry, number_on_focus}
 use Rattle.rhai_machine.specs.language.Methods.{unlinked_on, pointer_on, unlinked_alone, pointer_alone, call_argument, call_core}
 use Rattle.rhai_machine.specs.language.Methods.{curry_core, entry_core}
 use Rattle.rhai_machine.specs.language.Methods.{word_core, method_core}
-use Rattle.rhai_machine.proofs.MethodLaws.{focus_ends, frames_inside, inside}
 use Rattle.rhai_constants.proofs.Keeping.{Told, IsDue, IsShielded, Loan, Where, calm, due, Open, Keeps}
 use Rattle.rhai_constants.proofs.Settling.{Below, same}
-use Rattle.rhai_constants.proofs.Calls.{on_keeps, known_keeps, if_keeps, dispatch_keeps, linked_keeps, numbered_keeps}
+use Rattle.rhai_constants.proofs.Calls.{on_keeps, known_keeps, dispatch_keeps, linked_keeps, numbered_keeps}
 
 module _ {H : Type 0} where
   abbrev pub IsNoPointer : UnionLayer H → Type 0
@@ -57,21 +59,18 @@ module _ {H : Type 0} where
   focus_due None focus d = tt
   focus_due (Some w) focus d = rw d refl
 
+  -- the frames and the state in a cell that the focus leads to
+  abbrev pub frames_inside : ℕ → List (Frame H) → Local H → List (Frame H)
+  frames_inside n k l = StepDown (focus_of l) (ToCell n) ∷ k
+
+  abbrev pub inside : ℕ → (inner : Dynamic H) → Local H → Local H
+  inside n inner l = record l { focus = Some inner; around = record l.around { cells = with_held l.around.cells n } }
+
 module _ {H : Type 0} (a : Told H) where
   -- the cell of a focus that is a handle is entered
   pub entered_below : (n : ℕ) (inner : Dynamic H) (k : List (Frame H)) (l : Local H) → Below a k l →
       Below a (frames_inside n k l) (inside n inner l)
   entered_below n inner k l h = ((focus_due (due a.of k).focus l.focus h.1.1.0, h.0), (h.1.0, (tt, h.1.1.1)))
-
-  -- a function that is entered on the focus
-  pub focus_keeps : (f : Function H) (is_fresh : Bool) (args : List (Dynamic H)) (pos : Position) (k : List (Frame H)) (l : Local H) →
-      Keeps a (calm k l) (focus_core f is_fresh args pos k l)
-  focus_keeps f is_fresh args pos k l = focus_ends k l (λ d. Keeps a (calm k l) d) (record {
-    fails = λ e. same a tt (λ h. h.1);
-    enters = λ f is_fresh args at. same a tt (λ h. h.1);
-    fails_inside = λ n inner e free. same a tt (λ h. entered_below n inner k l h.1);
-    enters_inside = λ n inner f is_fresh args at free. same a tt (λ h. entered_below n inner k l h.1);
-  }) f is_fresh args pos
 
 module _ {H : Type 0} (a : Told H) (s : Setting H) (focus : Dynamic H) (k : List (Frame H)) (l : Local H)
     (lent : (args : List (Dynamic H)) → Loan (due a.of k).focus true (focus ∷ args)) (open_or_leaf : Open a.of k ⊎ IsLeaf focus) where
@@ -86,20 +85,16 @@ module _ {H : Type 0} (a : Told H) (s : Setting H) (focus : Dynamic H) (k : List
   named_on alone operation args =
       dispatch_keeps a s (as_method alone) (on_focus operation args focus) k l (lent args, shielded operation args open_or_leaf)
 
-  numbered_on_keeps : (number : ℕ) (operation : Operation) (args : List (Dynamic H)) →
-      Keeps a (calm k l) (numbered_on number operation args focus k l)
-  numbered_on_keeps number operation args = if_keeps a s (call_races true l.around.cells (focus ∷ args)) _ _ k l (same a tt (λ h. h.1))
-      (same a (lent args, tt) (λ h. h.1))
-
   unlinked_on_keeps : (of : FnPtrKind H) (pointer : FnPtr H) (method : Method) (called : List ℕ) (args : List (Dynamic H)) →
       Keeps a (calm k l) (unlinked_on s of pointer method called args focus k l)
-  unlinked_on_keeps (kind.Native id) pointer method called args = numbered_on_keeps id.number (operation_named called method.at) args
+  unlinked_on_keeps (kind.Native id) pointer method called args =
+      numbered_keeps a s (number_on_focus id.number (operation_named called method.at) args focus) k l (lent args, tt)
   unlinked_on_keeps _ pointer method called args =
       named_on (natives_alone (out-FnPtr H pointer).name) (operation_named (out-FnPtr H pointer).name method.at) args
 
   pointer_on_keeps : (function : Option (Function H)) (pointer : FnPtr H) (method : Method) (called : List ℕ) (args : List (Dynamic H)) →
       Keeps a (calm k l) (pointer_on s function pointer method called args focus k l)
-  pointer_on_keeps (Some f) pointer method called args = same a tt (λ h. h.1)
+  pointer_on_keeps (Some f) pointer method called args = linked_keeps a s f TheFocus method.at args k l
   pointer_on_keeps None pointer method called args = unlinked_on_keeps (out-FnPtr H pointer).kind pointer method called args
 
   -- the focus is a pointer that is called
@@ -112,7 +107,7 @@ module _ {H : Type 0} (a : Told H) (s : Setting H) (focus : Dynamic H) (k : List
 
   pointer_alone_keeps : (function : Option (Function H)) (pointer : FnPtr H) (at : Position) (args : List (Dynamic H)) → Open a.of k →
       Keeps a (calm k l) (pointer_alone s function pointer at args k l)
-  pointer_alone_keeps (Some f) pointer at args free = linked_keeps a s f at args k l
+  pointer_alone_keeps (Some f) pointer at args free = linked_keeps a s f NoThis at args k l
   pointer_alone_keeps None pointer at args free = unlinked_alone_keeps (out-FnPtr H pointer).kind pointer at args free
 
   -- words

@@ -41,7 +41,7 @@ use Rattle.rhai_machine.specs.language.Frames.{RestoreList, Top, UnaryOperand, L
 use Rattle.rhai_machine.specs.language.Frames.{AssignValue}
 use Rattle.rhai_machine.specs.language.Frames.{WhileCondition, WhileBody, DoCondition, DoBody, BreakValue, ReturnValue}
 use Rattle.rhai_machine.specs.language.Frames.{ArrayItem, EntryValue, TextPart, PrintedPart, CallNamed, CallArgument, KeywordArgument}
-use Rattle.rhai_machine.specs.language.Frames.{EnterFunction, EnterOnFocus, AssignThis, AssignThisValue, CallEnd, Choose, ForTurn, ForItem}
+use Rattle.rhai_machine.specs.language.Frames.{EnterFunction, AssignThis, AssignThisValue, CallEnd, Choose, ForTurn, ForItem}
 use Rattle.rhai_machine.specs.language.Frames.{Share}
 use Rattle.rhai_machine.specs.language.Frames.{SwitchValue, SwitchCondition, ForItems, ForBody, ImportPath, RestoreScope, TryBody}
 use Rattle.rhai_machine.specs.language.Frames.{ThrowValue}
@@ -86,7 +86,6 @@ use Rattle.rhai_constants.proofs.Settling.{newer, put_keeps}
 use Rattle.rhai_constants.proofs.Assignments.{assignment_keeps, store_keeps, store_this_keeps, barred_keeps, fire_update_keeps}
 use Rattle.rhai_constants.proofs.Calls.{on_keeps, known_keeps, call_keeps, operator_keeps, arguments_keep, named_keeps, keyword_keeps}
 use Rattle.rhai_constants.proofs.Firing.{question_keeps, fire_keeps}
-use Rattle.rhai_constants.proofs.Methods.{focus_keeps}
 use Rattle.rhai_constants.proofs.Forms.{choose_keeps, met_keeps, walked_keeps, for_keeps, for_turn_keeps, item_keeps, tried_keeps}
 use Rattle.rhai_constants.proofs.Forms.{export_keeps}
 use Rattle.rhai_constants.proofs.Forms.{imported_keeps, import_keeps, share_keeps}
@@ -576,8 +575,6 @@ module _ {H : Type 0} (a : Told H) where
         named_keeps a s operation curried args captures alone k l
     move_keeps named (EnterFunction e) k l fine sealed = full_keeps (nat_lt s.limits.max_call_levels e.level)
         (nat_lt s.limits.max_variables (length (variables_before e.is_fresh l.scope) + length e.def.params)) e k l
-    move_keeps named (EnterOnFocus f is_fresh args pos) k l fine sealed =
-        after a (calm k l) (λ h. (tt, h.1)) (focus_keeps a f is_fresh args pos k l)
     move_keeps named (AssignThis op pos v) k l fine sealed = same a tt (λ h. h.1)
     move_keeps named (Question call) k l fine sealed = question_keeps a s named call k l
     move_keeps named (Fire call) k l fine sealed = fire_keeps a s named call k l

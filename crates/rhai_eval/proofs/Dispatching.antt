@@ -12,8 +12,8 @@ use Rattle.rhai_functions.specs.declared.function.Function.{Function}
 use Rattle.rhai_machine.specs.machine.Memory.{here, out_before_step, ◌⨾◌, Leads}
 use Rattle.rhai_machine.specs.language.Setting.{Rules, cut}
 use Rattle.rhai_machine.specs.language.State.{Local, State}
-use Rattle.rhai_machine.specs.language.Activations.{NoThis}
-use Rattle.rhai_machine.specs.language.Frames.{Operation, Lender, FromFocus, Dispatch, Call, Control, EnterFunction, EnterOnFocus, Frame}
+use Rattle.rhai_machine.specs.language.Activations.{ThisFrom, NoThis, TheFocus}
+use Rattle.rhai_machine.specs.language.Frames.{Operation, Lender, FromFocus, Dispatch, Call, Control, EnterFunction, Frame}
 use Rattle.rhai_machine.specs.language.Frames.{core}
 use Rattle.rhai_machine.specs.language.Frames.{Core, Fail}
 use Rattle.rhai_machine.specs.language.Frames.{ended, ended_or_changed}
@@ -72,22 +72,22 @@ module _ {S H : Type 0} (rules : Rules S H) where
   control_runs_out c k s e is = cc
 
   module _ (is_fresh : Bool) (pos : Position) (f : Function H) (args : List (Dynamic H)) (k : List (Frame H)) (s : State S H) where
+    abbrev entering : ThisFrom → Control H
+    entering object = EnterFunction (entry_of f object is_fresh args pos s.local)
+
     -- it is entered on the value that the call works on, or memory runs out before
     enters_on : (x : MethodCall H) → IsEntered x (entry.OnTarget f args) →
-        Leads (machine rules) (cut rules) (at (EnterOnFocus f is_fresh args pos) k s) (with_core (came_to is_fresh pos x k s.local) s)
-    enters_on (Ended (Err e)) is = control_runs_out (EnterOnFocus f is_fresh args pos) k s e is
+        Leads (machine rules) (cut rules) (at (entering TheFocus) k s) (with_core (came_to is_fresh pos x k s.local) s)
+    enters_on (Ended (Err e)) is = control_runs_out (entering TheFocus) k s e is
     enters_on x is = subst (λ (y : MethodCall H).
-        Leads (machine rules) (cut rules) (at (EnterOnFocus f is_fresh args pos) k s) (with_core (came_to is_fresh pos y k s.local) s))
-        (sym is) here
+        Leads (machine rules) (cut rules) (at (entering TheFocus) k s) (with_core (came_to is_fresh pos y k s.local) s)) (sym is) here
 
     -- or by itself
     enters_alone : (x : MethodCall H) → IsEntered x (entry.Alone f args) →
-        Leads (machine rules) (cut rules) (at (EnterFunction (entry_of f NoThis is_fresh args pos s.local)) k s)
-        (with_core (came_to is_fresh pos x k s.local) s)
-    enters_alone (Ended (Err e)) is = control_runs_out (EnterFunction (entry_of f NoThis is_fresh args pos s.local)) k s e is
+        Leads (machine rules) (cut rules) (at (entering NoThis) k s) (with_core (came_to is_fresh pos x k s.local) s)
+    enters_alone (Ended (Err e)) is = control_runs_out (entering NoThis) k s e is
     enters_alone x is = subst (λ (y : MethodCall H).
-        Leads (machine rules) (cut rules) (at (EnterFunction (entry_of f NoThis is_fresh args pos s.local)) k s)
-        (with_core (came_to is_fresh pos y k s.local) s)) (sym is) here
+        Leads (machine rules) (cut rules) (at (entering NoThis) k s) (with_core (came_to is_fresh pos y k s.local) s)) (sym is) here
 
   module _ (operation : Operation) (lender : Option Lender) (guarded on_scope : Bool) (first : Dynamic H) (rest : List (Dynamic H)) where
     -- a call with a first argument
@@ -202,7 +202,7 @@ module _ {S H : Type 0} (rules : Rules S H) where
     -- that of a method which was entered
     pub method_out : (f : Function H) (args : List (Dynamic H)) (r : Result (Dynamic H × Bool) (EvalAltResult H)) →
         call ≡ Enters (entry.OnTarget f args) → Goes rules start old (came_to is_fresh pos call) middle →
-        Steps rules (EnterOnFocus f is_fresh args pos) middle (ended_or_changed r) new →
+        Steps rules (EnterFunction (entry_of f TheFocus is_fresh args pos middle.local)) middle (ended_or_changed r) new →
         Goes rules start old (came_out is_fresh pos (Ended r)) new
     unfolding Goes
     method_out f args r is to runs k = (rw is at to) k ⨾ runs k

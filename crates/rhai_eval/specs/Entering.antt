@@ -2,8 +2,8 @@
 use Rattle.std.specs.Prelude.{⊤, Bool, List}
 use Rattle.rhai_tree.specs.declared.position.Position.{Position}
 use Rattle.rhai_machine.specs.language.State.{Local}
-use Rattle.rhai_machine.specs.language.Activations.{NoThis}
-use Rattle.rhai_machine.specs.language.Frames.{EnterFunction, EnterOnFocus, Frame, Core, core, ended_or_changed}
+use Rattle.rhai_machine.specs.language.Activations.{NoThis, TheFocus}
+use Rattle.rhai_machine.specs.language.Frames.{EnterFunction, Frame, Core, core, ended_or_changed}
 use Rattle.rhai_machine.specs.language.Calls.{entry_of}
 use Rattle.rhai_values.specs.declared.base.value.Dynamic.{Dynamic}
 use Rattle.rhai_functions.specs.declared.function.Function.{Function}
@@ -22,7 +22,7 @@ module _ {H : Type 0} (is_fresh : Bool) (at : Position) where
   -- itself, with variables of its own or on the caller's
   abbrev pub came_to : MethodCall H → List (Frame H) → Local H → Core H
   came_to (Ended r) k l = core (ended_or_changed r) k l
-  came_to (Enters (entry.OnTarget function args)) k l = core (EnterOnFocus function is_fresh args at) k l
+  came_to (Enters (entry.OnTarget function args)) k l = core (EnterFunction (entry_of function TheFocus is_fresh args at l)) k l
   came_to (Enters (entry.Alone function args)) k l = core (EnterFunction (entry_of function NoThis is_fresh args at l)) k l
 
   -- and so does a call that enters no method any more

@@ -7,6 +7,7 @@ pub use rhai_tree::expr::{
     SharedVariable, Stmt, StmtBlock, SwitchCase,
 };
 pub use rhai_tree::flags::ASTFlags;
+pub use rhai_tree::function::FnAccess;
 pub use rhai_tree::literal::{Literal, LiteralFnPtr, LiteralFnPtrKind, NativeId};
 pub use rhai_tree::position::Position;
 pub use rhai_tree::token::Token;

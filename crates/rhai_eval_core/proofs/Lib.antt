@@ -9,7 +9,6 @@ mod ChainSteps
 mod ChoiceSteps
 mod Conditions
 mod DataSteps
-pub mod FocusSteps
 mod ForSteps
 mod FormNames
 mod ImportSteps
@@ -23,4 +22,5 @@ mod SwitchSteps
 mod ThisSteps
 mod TrySteps
 mod Turns
+mod Untold
 mod VariableSteps

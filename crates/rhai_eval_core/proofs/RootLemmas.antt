@@ -42,7 +42,17 @@ use Rattle.rhai_steps.specs.OnFocus.{lending}
 use Rattle.rhai_walk.specs.Roots.{GoesBack, LendsVariable, RefusesThis, RefusesVariable}
 use Rattle.rhai_context.specs.Ends.{unit}
 use Rattle.rhai_callees.proofs.Lending.{lent_names}
-use Rattle.rhai_eval_core.proofs.FocusSteps.{through_held}
+
+module _ {H : Type 0} where
+  used_none : (at : Position) (o : Option (Dynamic H)) → not (is_some o) ≡ true → used [] at o ≡ Err (error.ErrorDataRace [] at)
+  used_none at None is = refl
+  used_none at (Some v) is = cc
+
+  -- a handle of a held cell is not seen through
+  through_held : (cells : Cells H) (u : Union H) (v : Dynamic H) (at : Position) → is_held cells u ≡ true →
+      through_union cells u v at ≡ Err (error.ErrorDataRace [] at)
+  through_held cells (value.Cell id) v at is = used_none at (value_of_cell cells id.number) is
+  through_held cells _ v at is = cc
 
 module _ {H : Type 0} (cells : Cells H) (name : List ℕ) (at : Position) where
   entered_held : (v : Dynamic H) (o : Option (Dynamic H)) → not (is_some o) ≡ true → entered name at v o ≡ Err (error.ErrorDataRace name at)

@@ -4,10 +4,10 @@
 ghost use Rattle.std.specs.Prelude.{◌≡◌, ◌≤◌, ◌<◌, IsTrue, Some, false, length, true};
 ghost use Rattle.std.specs.Option.{option_copied};
 ghost use Rattle.rhai_state.specs.Scope.{entries_of};
-ghost use Rattle.rhai_machine.specs.language.Activations.{NoThis};
+ghost use Rattle.rhai_machine.specs.language.Activations.{NoThis, TheFocus};
 ghost use Rattle.rhai_machine.specs.language.Bodies.{this_by, variables_before};
 ghost use Rattle.rhai_machine.specs.language.Calls.{entry_of};
-ghost use Rattle.rhai_machine.specs.language.Frames.{EnterFunction, EnterOnFocus, core, ended, ended_or_changed};
+ghost use Rattle.rhai_machine.specs.language.Frames.{EnterFunction, core, ended, ended_or_changed};
 ghost use Rattle.rhai_machine.specs.language.Methods.{method_core};
 ghost use Rattle.rhai_machine.specs.language.Runs.{Runs, Goes};
 ghost use Rattle.rhai_machine.specs.language.State.{HasMemory};
@@ -38,7 +38,7 @@ use rhai_steps::operation::Operation;
 use rhai_tree::checked::CheckedFn;
 use rhai_tree::position::Position;
 use rhai_values::base::value::{Dynamic, EncapsulatedEnviron, Host};
-use rhai_walk::focus::{enter_focus, leave_focus, lend_focus};
+use rhai_walk::focus::{leave_focus, lend_focus};
 
 impl<'e, H: Host> Evaluator<'e, H> {
     /// Enters a function at a level, on the variables and with the `this` that the run has. Its call is
@@ -193,8 +193,8 @@ impl<'e, H: Host> Evaluator<'e, H> {
         }
     }
 
-    /// Enters a function on the focus. That is lent to it as its `this`, and goes back on every way out. Of a
-    /// handle it runs on the cell's value, and the cell is held meanwhile.
+    /// Enters a function on the focus. That is lent to it as its `this`, a handle too, and goes back on every
+    /// way out.
     #[cycle(eval)]
     pub fn enter_on_focus<T: NativeTable<H>>(
         &self,
@@ -209,29 +209,18 @@ impl<'e, H: Host> Evaluator<'e, H> {
         ensures sight { KeepsSight run.old.global run.new.global }
         ensures scope { run.new.scope ≡ run.old.scope }
         ensures this { run.new.this ≡ run.old.this }
-        ensures runs { (scope : _) (held : _) → Runs (under H.name_of self.now T.natives)
-            (EnterOnFocus function true args.old pos)
+        ensures runs { (scope : _) (held : _) →
+            let caller = local_of run.old.global scope (lending held focus.old) in
+            Runs (under H.name_of self.now T.natives)
+            (EnterFunction (entry_of function TheFocus true args.old pos caller))
             (state_of (T.state table.old) run.old.global scope (lending held focus.old))
             (came result run.new.value run.new.error)
             (state_of (T.state table.new) run.new.global scope (lending held focus.new)) }
     {
-        let (cells, place) = (&mut run.global.cells, &mut run.error);
-        let Some(above) = enter_focus(
-            self.session.alloc,
-            cells,
-            place,
-            focus,
-            &function,
-            &*args,
-            pos,
-        ) else {
-            drop(function);
-            return false;
-        };
         let aside = lend_focus(self.session.alloc, run, focus);
         let (def, environ, level) = body_of(&function, run.global.level);
         let done = self.run_body(run, table, def, environ, args, true, level, pos);
-        leave_focus(run, focus, aside, above);
+        leave_focus(run, focus, aside);
         drop(function);
         done
     }

@@ -14,6 +14,7 @@ use Rattle.rhai_values.specs.ValueContents.{Reached}
 use Rattle.rhai_machine.specs.language.Setting.{Globals, Setting, globals_of}
 use Rattle.rhai_machine.specs.language.State.{Local}
 use Rattle.rhai_machine.specs.language.Values.{Cells, flat, through}
+use Rattle.rhai_machine.specs.language.Activations.{ThisFrom, NoThis}
 use Rattle.rhai_machine.specs.language.Functions.{Function}
 use Rattle.rhai_machine.specs.language.Variables.{Path, Variable, path_of, variable_in}
 use Rattle.rhai_machine.specs.language.Names.{Meaning, AtEntry, AsTemporary, bound_this, meant}
@@ -141,9 +142,9 @@ module _ {H : Type 0} (own : H → List Reached) (P : Reached → Type 0) (least
 
   -- ---- calls at once
 
-  pub linked_good : (function : Function H) (at : Position) (args : List (Dynamic H)) (k : List (Frame H)) (l : Local H) →
-      FitFound own P least function → All args → Below k l → Good (linked_core function at args k l)
-  linked_good function at args k l f h b = if_good own P least (races l.around.cells args) _ _
+  pub linked_good : (function : Function H) (object : ThisFrom) (at : Position) (args : List (Dynamic H)) (k : List (Frame H))
+      (l : Local H) → FitFound own P least function → All args → Below k l → Good (linked_core function object at args k l)
+  linked_good function object at args k l f h b = if_good own P least (races l.around.cells args) _ _
       (fail own P least _ k l (fit_error own P _ tt) b) (to own P least _ k l (h, f) tt b)
 
   pub numbered_good : (call : Call H) (k : List (Frame H)) (l : Local H) → All call.args → Below k l → Good (numbered_core call k l)
@@ -165,7 +166,7 @@ module _ {H : Type 0} (own : H → List Reached) (P : Reached → Type 0) (least
         (bound_gives own P least this_at l.this b.local.this) b
         (λ v f. dispatch_good own P least s o how (lent_this operation args v) k l (f, h) b)
     there_good (ToCallFunction function at curried) args k l p e h b =
-        linked_good function at (curried ++ args) k l p.1 (values_joined own P least curried args p.0 h) b
+        linked_good function NoThis at (curried ++ args) k l p.1 (values_joined own P least curried args p.0 h) b
     there_good (ToCallNumber number operation curried) args k l p e h b =
         numbered_good _ k l (values_joined own P least curried args p h) b
     there_good (ToCurry pointer) args k l p e h b = back own P least _ k l (curried_fits pointer args (pointer_fits own P pointer p) h) b

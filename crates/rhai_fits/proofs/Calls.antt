@@ -26,8 +26,8 @@ use Rattle.rhai_machine.specs.language.Bodies.{statements_of}
 use Rattle.rhai_machine.specs.language.Bodies.{body_core, unless_full, unless_deep, opened_function, variables_back, called_back}
 use Rattle.rhai_machine.specs.language.Bodies.{left_by_error, returned}
 use Rattle.rhai_machine.specs.language.Frames.{Lender, Dispatch, Call, Frame, Core, CallEnd}
-use Rattle.rhai_machine.specs.language.Calls.{builtin_of, sized, applied, args_given, inside_core, focus_core, enter_core, races}
-use Rattle.rhai_machine.specs.language.Calls.{call_races, asks_function, called_function, found_core, called_core, named_core}
+use Rattle.rhai_machine.specs.language.Calls.{builtin_of, sized, applied, args_given, enter_core, races}
+use Rattle.rhai_machine.specs.language.Calls.{asks_function, called_function, found_core, called_core, named_core}
 use Rattle.rhai_machine.specs.language.Calls.{dispatch_core, dispatch_behind, by_name_core, operator_core, plainly, first_type, types_of}
 use Rattle.rhai_machine.specs.language.Calls.{found_by, found_method, function_behind, public_from, public_or_unknown}
 use Rattle.rhai_fits.specs.Contents.{of_values, of_maybe, of_result, of_scope, of_environ, of_variables}
@@ -39,7 +39,7 @@ use Rattle.rhai_fits.proofs.Modules.{FitModule, FitFunction}
 use Rattle.rhai_fits.proofs.Fitting.{AllFit, FitLocal, FitBelow, FitCore, FitOffer, Gives, Flat, to, back, fail, unit, on, ended_fits}
 use Rattle.rhai_fits.proofs.Fitting.{goes_back, focus_there, values_dropped, scope_joined, scope_taken, scope_dropped, modules_joined}
 use Rattle.rhai_fits.proofs.Fitting.{modules_taken, imports_joined, imports_taken, with_cell_set, with_focus, focus_of_fits}
-use Rattle.rhai_fits.proofs.Seeing.{through_gives, flat_fits, within_sizes_gives}
+use Rattle.rhai_fits.proofs.Seeing.{flat_fits, within_sizes_gives}
 use Rattle.rhai_fits.proofs.Lookups.{There, FitFound, found_fits, function_found, or_there, public_fits, root_found}
 use Rattle.rhai_fits.proofs.Operators.{Answers as BuiltIn, unary_answers, binary_answers}
 
@@ -215,19 +215,6 @@ module _ {H : Type 0} (own : H → List Reached) (P : Reached → Type 0) (least
   returned_fits exit (error.Exit v at) h = fit_error own P (error.Exit v exit.at) (error_fits own P (error.Exit v at) h)
   returned_fits exit e h = error_left (is_system e) exit e h
 
-  -- ---- a function on the focus
-
-  inside_good : (function : Function H) (is_fresh : Bool) (args : List (Dynamic H)) (at : Position) (k : List (Frame H)) (l : Local H) →
-      FitFound own P least function → All args → Below k l → Good (inside_core function is_fresh args at k l)
-  inside_good function is_fresh args at k l f h b = if_good (races l.around.cells args) _ _
-      (fail own P least _ k l (fit_error own P _ tt) b) (to own P least _ k l (h, f) tt b)
-
-  pub focus_good : (function : Function H) (is_fresh : Bool) (args : List (Dynamic H)) (at : Position) (k : List (Frame H)) (l : Local H) →
-      FitFound own P least function → All args → Below k l → Good (focus_core function is_fresh args at k l)
-  focus_good function is_fresh args at k l g h b = on own P least (Flat own P least) (through l.around.cells (focus_of l) at) _ k l
-      (through_gives own P least l (focus_of l) at b.local (focus_of_fits own P least l b.local)) b
-      (λ inner f. entered_good inner _ k l b f (λ k l b. inside_good function is_fresh args at k l g h b))
-
   -- ---- dispatch
 
   given_fit : (lender : Option Lender) (args : List (Dynamic H)) → All args → All (args_given lender args)
@@ -301,7 +288,7 @@ module _ {H : Type 0} (own : H → List Reached) (P : Reached → Type 0) (least
 
     by_name_good : (how : Dispatch) (call : Call H) (k : List (Frame H)) (l : Local H) → All call.args → Below k l →
         Good (by_name_core s how call k l)
-    by_name_good how call k l h b = if_good (call_races how.of_method l.around.cells call.args) _ _
+    by_name_good how call k l h b = if_good (races l.around.cells call.args) _ _
         (fail own P least _ k l (fit_error own P _ tt) b) (named_good how call.args call k l h b)
 
     behind_good : (path : List (List ℕ)) (how : Dispatch) (call : Call H) (k : List (Frame H)) (l : Local H) → All call.args → Below k l →

@@ -13,12 +13,13 @@ use Rattle.rhai_machine.specs.language.Setting.{Setting}
 use Rattle.rhai_machine.specs.language.State.{Local}
 use Rattle.rhai_machine.specs.language.Values.{through}
 use Rattle.rhai_machine.specs.language.Functions.{Function}
-use Rattle.rhai_machine.specs.language.Frames.{Operation, Member, Property, Item, MemberAccess, Frame, Core}
-use Rattle.rhai_machine.specs.language.Calls.{call_of, call_races, plainly}
+use Rattle.rhai_machine.specs.language.Activations.{NoThis, TheFocus}
+use Rattle.rhai_machine.specs.language.Frames.{Member, Property, Item, MemberAccess, Frame, Core}
+use Rattle.rhai_machine.specs.language.Calls.{call_of, plainly}
 use Rattle.rhai_machine.specs.language.Arguments.{linked_to, natives_alone, operation_named, pointer_wanted}
 use Rattle.rhai_machine.specs.language.Methods.{Method, MethodWord, CallWord, CurryWord, SharedWord, PlainWord, word_of, as_method}
 use Rattle.rhai_machine.specs.language.Methods.{argument_at, on_focus, copied_before, pointer_with, entry_in, entry_seen, pointer_there}
-use Rattle.rhai_machine.specs.language.Methods.{own_seen, own_in, own_entry, numbered_on, unlinked_on, pointer_on, unlinked_alone}
+use Rattle.rhai_machine.specs.language.Methods.{own_seen, own_in, own_entry, number_on_focus, unlinked_on, pointer_on, unlinked_alone}
 use Rattle.rhai_machine.specs.language.Methods.{pointer_alone, call_argument, call_core, curry_core, entry_core, own_core, word_core}
 use Rattle.rhai_machine.specs.language.Methods.{method_core}
 use Rattle.rhai_machine.specs.language.Members.{got_by, get_core, unless_ignored, set_by, set_core, getter_missing, after_setter}
@@ -31,7 +32,7 @@ use Rattle.rhai_fits.proofs.Fitting.{AllFit, FitBelow, FitCore, FitLocal, FitOff
 use Rattle.rhai_fits.proofs.Fitting.{all_fit, fit_all, values_joined, focus_of_fits}
 use Rattle.rhai_fits.proofs.Seeing.{through_gives}
 use Rattle.rhai_fits.proofs.Lookups.{There, FitFound, linked_to_fits, value_of_fits}
-use Rattle.rhai_fits.proofs.Calls.{if_good, dispatch_good}
+use Rattle.rhai_fits.proofs.Calls.{dispatch_good}
 use Rattle.rhai_fits.proofs.Arguments.{pointer_gives, linked_good, numbered_good}
 
 module _ {H : Type 0} (own : H → List Reached) (P : Reached → Type 0) (least : ℕ) where
@@ -53,11 +54,6 @@ module _ {H : Type 0} (own : H → List Reached) (P : Reached → Type 0) (least
   more_fits : (pointer : FnPtr H) (args : List (Dynamic H)) → FitPointer own P pointer → All args → Fit own P (pointer_with pointer args)
   more_fits pointer args h g = fit_pointer own P _ (fit_rolled own P (out-FnPtr H pointer).name (copied_before pointer args)
       (out-FnPtr H pointer).kind (fit_all own P least (copied_before pointer args) (copied_fits pointer args h g)) h.kind)
-
-  numbered_on_good : (number : ℕ) (operation : Operation) (args : List (Dynamic H)) (focus : Dynamic H) (k : List (Frame H)) (l : Local H) →
-      All args → Fit own P focus → Below k l → Good (numbered_on number operation args focus k l)
-  numbered_on_good number operation args focus k l h f b = if_good own P least (call_races true l.around.cells (focus ∷ args)) _ _
-      (fail own P least _ k l (fit_error own P _ tt) b) (to own P least _ k l (f, h) tt b)
 
   -- ---- a map's own pointer
 
@@ -100,7 +96,7 @@ module _ {H : Type 0} (own : H → List Reached) (P : Reached → Type 0) (least
         (focus : Dynamic H) (k : List (Frame H)) (l : Local H) → All args → Fit own P focus → Below k l →
         Good (unlinked_on s k' pointer method called args focus k l)
     unlinked_on_good (kind.Native id) pointer method called args focus k l h f b =
-        numbered_on_good id.number (operation_named called method.at) args focus k l h f b
+        numbered_good own P least (number_on_focus id.number (operation_named called method.at) args focus) k l (f, h) b
     unlinked_on_good _ pointer method called args focus k l h f b =
         dispatch_good own P least s o (as_method (natives_alone (out-FnPtr H pointer).name))
         (on_focus (operation_named (out-FnPtr H pointer).name method.at) args focus) k l (f, h) b
@@ -108,7 +104,8 @@ module _ {H : Type 0} (own : H → List Reached) (P : Reached → Type 0) (least
     pointer_on_good : (function : Option (Function H)) (pointer : FnPtr H) (method : Method) (called : List ℕ) (args : List (Dynamic H))
         (focus : Dynamic H) (k : List (Frame H)) (l : Local H) → There own P least (FitFound own P least) function → All args →
         Fit own P focus → Below k l → Good (pointer_on s function pointer method called args focus k l)
-    pointer_on_good (Some function) pointer method called args focus k l e h f b = to own P least _ k l (h, e) tt b
+    pointer_on_good (Some function) pointer method called args focus k l e h f b =
+        linked_good own P least function TheFocus method.at args k l e h b
     pointer_on_good None pointer method called args focus k l e h f b =
         unlinked_on_good (out-FnPtr H pointer).kind pointer method called args focus k l h f b
 
@@ -122,7 +119,7 @@ module _ {H : Type 0} (own : H → List Reached) (P : Reached → Type 0) (least
     pointer_alone_good : (function : Option (Function H)) (pointer : FnPtr H) (at : Position) (args : List (Dynamic H)) (k : List (Frame H))
         (l : Local H) → There own P least (FitFound own P least) function → All args → Below k l →
         Good (pointer_alone s function pointer at args k l)
-    pointer_alone_good (Some function) pointer at args k l e h b = linked_good own P least function at args k l e h b
+    pointer_alone_good (Some function) pointer at args k l e h b = linked_good own P least function NoThis at args k l e h b
     pointer_alone_good None pointer at args k l e h b = unlinked_alone_good (out-FnPtr H pointer).kind pointer at args k l h b
 
     -- ---- words

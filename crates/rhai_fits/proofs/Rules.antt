@@ -25,7 +25,7 @@ use Rattle.rhai_machine.specs.language.Tries.{catch_variable}
 use Rattle.rhai_machine.specs.language.Members.{focus_of, lacks_property, lacks_indexer}
 use Rattle.rhai_machine.specs.language.Frames.{Operation, Control, Frame, Core, on_value, Eval, Exec, Ask, Assign, AskUpdate, Argument}
 use Rattle.rhai_machine.specs.language.Frames.{Question, Fire, QuestionUpdate, FireUpdate, OpenExpr, OpenStmt, Enter, Run, Store, StoreThis}
-use Rattle.rhai_machine.specs.language.Frames.{WhileTurn, DoTurn, Back, Changed, Fail, CallNamed, EnterFunction, EnterOnFocus, AssignThis}
+use Rattle.rhai_machine.specs.language.Frames.{WhileTurn, DoTurn, Back, Changed, Fail, CallNamed, EnterFunction, AssignThis}
 use Rattle.rhai_machine.specs.language.Frames.{OpenChain, ChainArguments, ChainRoot, ReadRoot, Walk, Locate, Choose, ForTurn, ForItem}
 use Rattle.rhai_machine.specs.language.Frames.{Share, StatementValue, DefineValue, IfCondition, RestOfList, Top, UnaryOperand, LeftOperand}
 use Rattle.rhai_machine.specs.language.Frames.{RightOperand, AndPart, OrPart, CoalescePart, AssignValue, AssignThisValue, WhileCondition}
@@ -46,7 +46,7 @@ use Rattle.rhai_fits.proofs.Fitting.{focus_of_fits, with_focus}
 use Rattle.rhai_fits.proofs.Seeing.{FitValue, Any, flat_gives, flat_fits, through_gives, truth_gives}
 use Rattle.rhai_fits.proofs.Names.{target_gives}
 use Rattle.rhai_fits.proofs.Natives.{Moves}
-use Rattle.rhai_fits.proofs.Calls.{function_good, call_left, returned_fits, focus_good, builtin_fits, operator_good}
+use Rattle.rhai_fits.proofs.Calls.{function_good, call_left, returned_fits, builtin_fits, operator_good}
 use Rattle.rhai_fits.proofs.Firing.{question_good, fire_good}
 use Rattle.rhai_fits.proofs.Arguments.{taken_gives, arguments_good, named_call_good, keyword_good}
 use Rattle.rhai_fits.proofs.Methods.{getter_good, setter_good, indexer_good}
@@ -280,7 +280,6 @@ module _ {H : Type 0} (own : H → List Reached) (P : Reached → Type 0) (least
   move_good (Ask call) k l h z b new = to own P least _ k l h tt b
   move_good (EnterFunction e) k l h z b new = function_good own P least s.limits e k l h b
   move_good (Assign assignment v) k l h z b new = to own P least _ k l h z b
-  move_good (EnterOnFocus function is_fresh args at) k l h z b new = focus_good own P least function is_fresh args at k l h.1 h.0 b
   move_good (AssignThis op at v) k l h z b new = to own P least _ k l h z b
   move_good (AskUpdate u) k l h z b new = to own P least _ k l h tt b
   move_good (Argument e) k l h z b new = argument_good own P least (literal_of (out-Expr e)) e k l (fit_literal_of own P (out-Expr e)) b

@@ -1,9 +1,9 @@
 -- What stands at a spot of a value fits, and so does the value with another one there.
-use Rattle.std.proofs.Common.{ℕ, List, ◌∷◌, take, drop}
+use Rattle.std.proofs.Common.{ℕ, List, ◌∷◌, length, take, drop}
 use Rattle.std.specs.Prelude.{⊤, Bool, true, false, if◌then◌else◌, Option, Some, None, Result, Ok, Err, slice_set, option_map}
 use Rattle.std.specs.Prelude.{insert}
 use Rattle.std.specs.Option.{unwrap_or}
-use Rattle.rhai_tree.specs.Lookup.{place_of, rank, put_at, with_entry}
+use Rattle.rhai_tree.specs.Lookup.{paired, place_of, rank, put_at, with_entry}
 use Rattle.rhai_values.specs.Cells.{IsNoHandle}
 use Rattle.rhai_values.specs.Copy.{plain}
 use Rattle.rhai_values.specs.declared.base.value.FnPtrKind.TheOpen as layer
@@ -154,8 +154,9 @@ module _ {H : Type 0} (own : H → List Reached) (P : Reached → Type 0) (least
   key_flat : (source : Dynamic H) (l index : UnionLayer H) → Flat own P least source → FitLayer own P l →
       FlatSource (with_key source l index)
   key_flat source (layer.Map entries) (layer.Str key) f h = (
-    fit_map own P _ (fit_all own P least (with_entry key (plain value.Unit) entries).1
-        (entry_fits key (plain value.Unit) entries (all_fit own P least entries.1 h) (fit_unit own P))),
+    fit_map own P _ (fit_all own P least (with_entry key (plain value.Unit) (paired entries)).1
+        (entry_fits key (plain value.Unit) (paired entries) (values_taken own P least (length entries.0) entries.1
+        (all_fit own P least entries.1 h)) (fit_unit own P))),
     tt,
   )
   key_flat source _ _ f h = f

@@ -19,7 +19,7 @@ use Rattle.rhai_machine.specs.language.Activations.{Variables, Caller, CallExit}
 use Rattle.rhai_machine.specs.language.Turns.{Turns, OfItems, OfIntegers}
 use Rattle.rhai_machine.specs.language.Frames.{NewValue, Chain, Member, Property, Item, MemberAccess, Update, Core, Purpose, ToCall}
 use Rattle.rhai_machine.specs.language.Frames.{ToCallFunction, ToCallNumber, ToCurry, ToChain, Control, Ask, CallNamed, EnterFunction}
-use Rattle.rhai_machine.specs.language.Frames.{Assign, AssignThis, AskUpdate, Question, Fire, QuestionUpdate, FireUpdate, EnterOnFocus, Run}
+use Rattle.rhai_machine.specs.language.Frames.{Assign, AssignThis, AskUpdate, Question, Fire, QuestionUpdate, FireUpdate, Run}
 use Rattle.rhai_machine.specs.language.Frames.{Store, StoreThis, ForTurn, ForItem, OpenChain, ChainArguments, ChainRoot, ReadRoot, Walk}
 use Rattle.rhai_machine.specs.language.Frames.{Locate, Back, Changed, Fail, Frame, RightOperand, CallArgument, ArrayItem, EntryValue}
 use Rattle.rhai_machine.specs.language.Frames.{ForBody, CatchBranch, RootValue, ChainEnd, StepDown, Temporary, PartMethod, PartAssigned}
@@ -152,7 +152,6 @@ module _ {H : Type 0} where
   of_control (Fire call) = of_values call.args
   of_control (CallNamed operation curried args captures natives_alone) = of_values curried
   of_control (EnterFunction e) = Both (of_values e.args) (of_environ e.environ)
-  of_control (EnterOnFocus function is_fresh args at) = Both (of_values args) (of_environ function.environ)
   of_control (Assign assignment v) = OneValue v
   of_control (Store assignment v) = OneValue v
   of_control (AssignThis op at v) = OneValue v

@@ -11,7 +11,7 @@ use rhai_rows::sample::{Sample, Script, Tree};
 use rhai_rows::settings::Setting::Usual;
 use rhai_rows::sheet::Sheet;
 use rhai_samples::functions::{
-    EMPTY_FUNCTION, METHOD_THAT_CHANGES_AN_ITEM, PARAMETER_ASSIGNED, VARIABLE_DECLARED,
+    EMPTY_FUNCTION, METHOD_THAT_CHANGES_AN_ITEM, PARAMETER_ASSIGNED, THIS_ASKED, VARIABLE_DECLARED,
 };
 use std::alloc::{AllocError, Global};
 use std::io;
@@ -29,7 +29,10 @@ enum Form {
     Named(&'static str, Manner),
     /// A name, as a method, where object and arguments are handles.
     MethodOnHandles(&'static str),
-    /// The name of a native, where object and arguments are handles. What the error says is written.
+    /// A name that is missing, as a method, where object and arguments are handles. What the error says is
+    /// written, and how many operations are counted.
+    MissingOnHandles(&'static str),
+    /// The same of the name of a native.
     NativeOnHandles(&'static str),
     /// A method on a `Target`.
     OnTarget(&'static str),
@@ -99,16 +102,22 @@ const CALLS: &[Call] = &[
         Form::Named("bump", Manner::METHOD_ON_VARIABLES),
     ),
     Call(
-        "a racing method",
+        "a method on a handle",
+        Parts(THIS_ASKED),
+        0,
+        Form::MethodOnHandles("m"),
+    ),
+    Call(
+        "a method with its own cell",
         Parts(METHOD_THAT_CHANGES_AN_ITEM),
         1,
         Form::MethodOnHandles("add"),
     ),
     Call(
-        "a racing native",
+        "a missing method with its own cell",
         Parts(EMPTY_FUNCTION),
         1,
-        Form::MethodOnHandles("none"),
+        Form::MissingOnHandles("none"),
     ),
     Call(
         "a missing native",
@@ -193,7 +202,11 @@ fn tell_answer<C: Calls>(form: Form, caller: &mut Caller, def: &CheckedFn, sheet
     let answer = answer_of::<C>(form, caller, def, &mut sheet.maker);
     if let Some(answer) = sheet.maker.kept(answer) {
         match form {
-            Form::NativeOnHandles(_) => tell_text(answer, sheet),
+            Form::MissingOnHandles(_) | Form::NativeOnHandles(_) => {
+                tell_text(answer, sheet);
+                sheet.write("; ");
+                sheet.show(&caller.global.num_operations);
+            }
             _ => {
                 tell_end(answer, sheet);
                 tell_left(caller, sheet);
@@ -212,7 +225,7 @@ fn answer_of<C: Calls>(
     match form {
         Form::Function(level, rewinds) => C::call_function(alloc, caller, def, level, rewinds),
         Form::Named(name, manner) => Ok(C::call_named(alloc, caller, name, manner)),
-        Form::MethodOnHandles(name) => {
+        Form::MethodOnHandles(name) | Form::MissingOnHandles(name) => {
             caller.share(maker);
             Ok(C::call_named(alloc, caller, name, Manner::METHOD))
         }

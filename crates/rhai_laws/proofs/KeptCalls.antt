@@ -22,6 +22,7 @@ use Rattle.rhai_machine.specs.language.State.{Local}
 use Rattle.rhai_machine.specs.language.Places.{Place, InCell, is_barred}
 use Rattle.rhai_functions.specs.declared.function.Function.{Function}
 use Rattle.rhai_machine.specs.language.Variables.{Path, Variable, path_of, variable_in}
+use Rattle.rhai_machine.specs.language.Activations.{NoThis}
 use Rattle.rhai_machine.specs.language.Names.{bound_this}
 use Rattle.rhai_machine.specs.language.Frames.{Operation, Lender, FromEntry, FromThis, FromFocus, Dispatch, Call, Frame, Core, core}
 use Rattle.rhai_machine.specs.language.Frames.{changed, on_value, CallNamed, Question, Fire, OpenExpr}
@@ -89,13 +90,12 @@ module _ {H : Type 0} (a : Asked) where
   on_keeps (Err e) go k l h = quiet a tt refl (λ t. t)
 
   -- the ends of a call by name
-  pub dispatched_keeps : (of_method : Bool) (k : List (Frame H)) (l : Local H) → Dispatched of_method k l (λ d. Keeps a (calm k l) d)
-  dispatched_keeps of_method k l = record {
+  pub dispatched_keeps : (k : List (Frame H)) (l : Local H) → Dispatched k l (λ d. Keeps a (calm k l) d)
+  dispatched_keeps k l = record {
     fails = λ e. quiet a tt refl (λ t. t);
     backs = λ v. quiet a tt refl (λ t. t);
     asks = λ call. quiet a tt refl (λ t. t);
     enters = λ f object is_fresh args at. quiet a tt refl (λ t. t);
-    on_focus = λ is f is_fresh args at. quiet a tt refl (λ t. t);
   }
 
   -- a call that was not written as an operator
@@ -172,7 +172,7 @@ module _ {H : Type 0} (a : Asked) where
     pub dispatch_keeps : (how : Dispatch) (call : Call H) (k : List (Frame H)) (l : Local H) →
         Keeps a (calm k l) (dispatch_core s how call k l)
     dispatch_keeps how call k l =
-        dispatch_ends k l (λ d. Keeps a (calm k l) d) how.of_method (dispatched_keeps how.of_method k l) s how refl call
+        dispatch_ends k l (λ d. Keeps a (calm k l) d) (dispatched_keeps k l) s how call
 
     pub operator_keeps : (builtin : Option (Result (Dynamic H) (EvalAltResult H))) (call : Call H) (k : List (Frame H)) (l : Local H) →
         Keeps a (calm k l) (operator_core s builtin call k l)
@@ -192,7 +192,7 @@ module _ {H : Type 0} (a : Asked) where
     arguments_there_keep (ToCallOnThis operation this_at how) args k l =
         on_keeps (bound_this this_at l.this) _ k l (λ v. dispatch_keeps how (lent_this operation args v) k l)
     arguments_there_keep (ToCallFunction function at curried) args k l =
-        linked_ends k l (λ d. Keeps a (calm k l) d) true (dispatched_keeps true k l) function at (curried ++ args)
+        linked_ends k l (λ d. Keeps a (calm k l) d) (dispatched_keeps k l) function NoThis at (curried ++ args)
     arguments_there_keep (ToCallNumber number operation curried) args k l =
         numbered_keeps (record (call_of operation (curried ++ args)) { number = Some number }) k l
     arguments_there_keep (ToCurry pointer) args k l = quiet a tt refl (λ t. t)

@@ -20,7 +20,7 @@ use Rattle.rhai_spots.specs.declared.spot.Spot.TheVariants as spot
 use Rattle.rhai_spots.specs.Parts.{part_of, value_at}
 use Rattle.rhai_machine.specs.language.Setting.{Globals, Setting}
 use Rattle.rhai_machine.specs.language.State.{Local}
-use Rattle.rhai_machine.specs.language.Values.{is_handle, through_union, through as seen_through, unit_value}
+use Rattle.rhai_machine.specs.language.Values.{is_handle, through_union, through as seen_through, unit_value, used}
 use Rattle.rhai_machine.specs.language.Variables.{Variable, no_path}
 use Rattle.rhai_machine.specs.language.Names.{Meaning, AtEntry, AsTemporary, bound_this, meant}
 use Rattle.rhai_machine.specs.language.Places.{focus_target}
@@ -42,7 +42,6 @@ use Rattle.rhai_machine.specs.language.Chains.{part_core, descend, spot_core, in
 use Rattle.rhai_machine.specs.language.Chains.{stop_move, seen_move, walk_move}
 use Rattle.rhai_machine.specs.language.Unwinding.{restored, measured_part, part_assigned, part_changed, operated_core, got_none}
 use Rattle.rhai_machine.specs.language.Unwinding.{temporary_changed}
-use Rattle.rhai_machine.proofs.MethodLaws.{used_free}
 use Rattle.rhai_laws.specs.Steady.{Moves}
 use Rattle.rhai_laws.proofs.Keeping.{Asked, unwound, Keeps, quiet, through, after, calm, ended_keeps, put_keeps, entered_cell}
 use Rattle.rhai_laws.proofs.KeptAssignments.{there_keeps, stored_keeps, focus_stands}
@@ -50,6 +49,12 @@ use Rattle.rhai_laws.proofs.KeptCalls.{on_keeps, arguments_keep, lent_stands}
 use Rattle.rhai_laws.proofs.KeptMethods.{method_keeps}
 
 module _ {H : Type 0} where
+  -- the cell of a handle that was looked through is free
+  used_free : (name : List ℕ) (at : Position) (there : Option (Dynamic H)) (inner : Dynamic H) → used name at there ≡ Ok inner →
+      is_some there ≡ true
+  used_free name at (Some v) inner is = refl
+  used_free name at None inner is = cc
+
   -- the focus, looked at through a handle
   abbrev Seen : Link → Dynamic H → Local H → Type 0
   Seen link inner l = seen_through l.around.cells (focus_of l) link.at ≡ Ok inner

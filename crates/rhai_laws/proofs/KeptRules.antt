@@ -42,7 +42,7 @@ use Rattle.rhai_machine.specs.language.Frames.{RestoreList, Top, UnaryOperand, L
 use Rattle.rhai_machine.specs.language.Frames.{AssignValue}
 use Rattle.rhai_machine.specs.language.Frames.{WhileCondition, WhileBody, DoCondition, DoBody, BreakValue, ReturnValue}
 use Rattle.rhai_machine.specs.language.Frames.{ArrayItem, EntryValue, TextPart, PrintedPart, CallNamed, CallArgument, KeywordArgument}
-use Rattle.rhai_machine.specs.language.Frames.{EnterFunction, EnterOnFocus, AssignThis, AssignThisValue, CallEnd, Choose, ForTurn, ForItem}
+use Rattle.rhai_machine.specs.language.Frames.{EnterFunction, AssignThis, AssignThisValue, CallEnd, Choose, ForTurn, ForItem}
 use Rattle.rhai_machine.specs.language.Frames.{Share}
 use Rattle.rhai_machine.specs.language.Frames.{SwitchValue, SwitchCondition, ForItems, ForBody, ImportPath, RestoreScope, TryBody}
 use Rattle.rhai_machine.specs.language.Frames.{ThrowValue}
@@ -85,7 +85,6 @@ use Rattle.rhai_laws.proofs.KeptCalls.{keyword_keeps}
 use Rattle.rhai_laws.proofs.KeptForms.{choose_keeps, met_keeps, walked_keeps, for_keeps, for_turn_keeps, item_keeps, tried_keeps}
 use Rattle.rhai_laws.proofs.KeptForms.{export_keeps, share_keeps}
 use Rattle.rhai_laws.proofs.KeptForms.{imported_keeps, import_keeps, not_imported, room}
-use Rattle.rhai_laws.proofs.KeptMethods.{focus_keeps}
 use Rattle.rhai_laws.proofs.KeptChains.{open_keeps, asked_keeps, root_keeps, read_root_keeps, walk_keeps, locate_keeps, chain_left}
 use Rattle.rhai_laws.proofs.KeptChains.{assign_focus_keeps, operated_on_keeps, part_assigned_keeps, part_changed_keeps, temporary_keeps}
 use Rattle.rhai_laws.proofs.KeptChains.{got_none_keeps, getter_missing_keeps, setter_missing_keeps, indexer_missing_keeps}
@@ -550,7 +549,6 @@ module _ {H : Type 0} (a : Asked) where
           named_keeps a s operation curried args captures alone k l
       move_keeps (EnterFunction e) k l h = full_keeps (nat_lt s.limits.max_call_levels e.level)
           (nat_lt s.limits.max_variables (length (variables_before e.is_fresh l.scope) + length e.def.params)) e k l refl
-      move_keeps (EnterOnFocus f is_fresh args pos) k l h = after a (calm k l) refl (λ t. t) (focus_keeps a f is_fresh args pos k l)
       move_keeps (AssignThis op pos v) k l h = quiet a tt refl (λ t. t)
       move_keeps (Question call) k l h = question_keeps a s call call.args k l
       move_keeps (Fire call) k l h = fire_keeps a s call call.args k l

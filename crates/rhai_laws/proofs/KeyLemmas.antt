@@ -1,14 +1,14 @@
 -- The value that a map has for a key, once another value stands there, and once a key was inserted.
 use Rattle.std.proofs.Common.{◌≡◌, ◌⊎◌, inl, inr, ℕ, zero, suc, ◌+◌, ◌<◌, ◌≤◌, Bool, true, false, List, [], ◌∷◌, Option, Some, None}
-use Rattle.std.proofs.Common.{refl, sym, ap, ◌∙◌, length, arith, cond}
+use Rattle.std.proofs.Common.{refl, sym, ap, ◌∙◌, length, take, arith, cond}
 use Rattle.std.proofs.lemmas.Bool.{lt-ltb, le-ltb, cases_lt}
 use Rattle.std.proofs.lemmas.List.Quantifiers.{position-Some}
 use Rattle.std.proofs.lemmas.Slice.Eq.{bytes_eq-Decides}
 use Rattle.std.specs.List.{insert, slice_get, slice_set, position_or_len}
-use Rattle.std.specs.Prelude.{nat_lt, option_and_then, get_or}
+use Rattle.std.specs.Prelude.{nat_lt, option_and_then, option_map, get_or}
 use Rattle.std.specs.Str.{bytes_eq}
 use Rattle.rhai_tree.proofs.LookupLemmas.{rank-le}
-use Rattle.rhai_tree.specs.Lookup.{place_of, put_at, rank, value_of, with_entry}
+use Rattle.rhai_tree.specs.Lookup.{paired, place_of, put_at, rank, value_of, with_entry}
 
 -- ---- lists
 
@@ -39,6 +39,11 @@ item_there : {X : Type 0} (xs : List X) (i : ℕ) → i < length xs → slice_ge
 item_there [] i lt none = omega arith
 item_there (x ∷ xs) zero lt none = cc
 item_there (x ∷ xs) (suc i) lt none = item_there xs i (omega arith) none
+
+pub is_within : {X : Type 0} (xs : List X) (i : ℕ) (x : X) → slice_get xs i ≡ Some x → i < length xs
+is_within [] i x is = cc
+is_within (y ∷ xs) zero x is = omega arith
+is_within (y ∷ xs) (suc i) x is = let lt : i < length xs = is_within xs i x is in omega arith
 
 -- ---- keys one by one
 
@@ -99,6 +104,29 @@ module _ {T : Type 0} where
   pub other_key_stays : (key other : List ℕ) (keys : List (List ℕ)) (xs : List T) (i : ℕ) (w : T) → place_of key keys ≡ Some i →
       (key ≡ other → ⊥) → value_of other (keys, slice_set xs i w) ≡ value_of other (keys, xs)
   other_key_stays key other keys xs i w is apart = other_place key other keys xs i w is apart (place_of other keys) refl
+
+  -- ---- the entries of a map, each a key with a value
+
+  pub paired_even : (keys : List (List ℕ)) (xs : List T) → length (paired (keys, xs)).0 ≡ length (paired (keys, xs)).1
+  paired_even [] [] = refl
+  paired_even [] (x ∷ xs) = refl
+  paired_even (k ∷ keys) [] = refl
+  paired_even (k ∷ keys) (x ∷ xs) = ap suc (paired_even keys xs)
+
+  none_there : (place : Option ℕ) → option_and_then (λ at. slice_get {X = T} [] at) place ≡ None
+  none_there None = refl
+  none_there (Some at) = refl
+
+  pub paired_reads : (key : List ℕ) (keys : List (List ℕ)) (xs : List T) → value_of key (paired (keys, xs)) ≡ value_of key (keys, xs)
+  paired_reads key [] [] = refl
+  paired_reads key [] (x ∷ xs) = refl
+  paired_reads key (k ∷ keys) [] = sym (none_there (place_of key (k ∷ keys)))
+  paired_reads key (k ∷ keys) (x ∷ xs) = elim (either (bytes_eq k key)) as
+      (λ _. value_of key (paired (k ∷ keys, x ∷ xs)) ≡ value_of key (k ∷ keys, x ∷ xs)) [
+        | inl is ↦ value_first key k (take (length xs) keys) x (take (length keys) xs) is ∙ sym (value_first key k keys x xs is)
+        | inr is ↦ value_next key k (take (length xs) keys) x (take (length keys) xs) is ∙ paired_reads key keys xs
+            ∙ sym (value_next key k keys x xs is)
+      ]
 
   -- ---- a key is inserted
 
@@ -167,3 +195,41 @@ module _ {T : Type 0} where
     pub others_stay : (other : List ℕ) → (key ≡ other → ⊥) → value_of other after ≡ value_of other entries
     others_stay other apart = ap (value_of other) after_is
         ∙ other_inserted key other (rank key entries.0) entries.0 entries.1 w same (rank-le key entries.0) apart
+
+-- ---- where a key that has a value stands
+
+place_first : (key k : List ℕ) (ks : List (List ℕ)) → bytes_eq k key ≡ true → place_of key (k ∷ ks) ≡ Some 0
+place_first key k ks is = rw (is, lt-ltb 0 (suc (length ks)) (omega arith)) refl
+
+place_counted : (n m : ℕ) → cond (nat_lt (suc n) (suc m)) (Some (suc n)) None ≡ option_map suc (cond (nat_lt n m) (Some n) None)
+place_counted n m = elim (cases_lt n m) as (λ _. cond (nat_lt (suc n) (suc m)) (Some (suc n)) None
+    ≡ option_map suc (cond (nat_lt n m) (Some n) None)) [
+      | inl lt ↦ (let both : suc n < suc m = omega arith in rw (lt-ltb n m lt, lt-ltb (suc n) (suc m) both) refl)
+      | inr le ↦ (let both : suc m ≤ suc n = omega arith in rw (le-ltb n m le, le-ltb (suc n) (suc m) both) refl)
+    ]
+
+place_next : (key k : List ℕ) (ks : List (List ℕ)) → bytes_eq k key ≡ false → place_of key (k ∷ ks) ≡ option_map suc (place_of key ks)
+place_next key k ks is =
+    let n : ℕ = position_or_len (λ (k : List ℕ). bytes_eq k key) ks in
+    let one : 1 + n ≡ suc n = omega arith in
+    rw (is, one) (place_counted n (length ks))
+
+counted_on : (key : List ℕ) (keys later : List (List ℕ)) (i : ℕ) (place : Option ℕ) → place_of key keys ≡ place →
+    option_map suc place ≡ Some i → ((j : ℕ) → place_of key keys ≡ Some j → suc j ≡ i → place_of key later ≡ Some j) →
+    option_map suc (place_of key later) ≡ Some i
+counted_on key keys later i None at one goes = cc
+counted_on key keys later i (Some j) at one goes =
+    let same : suc j ≡ i = cc in
+    ap (option_map suc) (goes j at same) ∙ one
+
+-- a key that has a value stands where it stood
+pub place_paired : (key : List ℕ) (keys : List (List ℕ)) (n i : ℕ) → place_of key keys ≡ Some i → i < n →
+    place_of key (take n keys) ≡ Some i
+place_paired key keys zero i is lt = absurd (omega arith)
+place_paired key [] (suc n) i is lt = is
+place_paired key (k ∷ keys) (suc n) i is lt = elim (either (bytes_eq k key)) as (λ _. place_of key (k ∷ take n keys) ≡ Some i) [
+  | inl here ↦ place_first key k (take n keys) here ∙ sym (place_first key k keys here) ∙ is
+  | inr further ↦ place_next key k (take n keys) further
+      ∙ counted_on key keys (take n keys) i (place_of key keys) refl (sym (place_next key k keys further) ∙ is)
+      (λ j at same. place_paired key keys n j at (omega arith))
+]

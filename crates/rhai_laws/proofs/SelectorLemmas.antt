@@ -4,7 +4,7 @@ use Rattle.std.proofs.Common.{refl, sym, ap, subst, ◌∙◌, length, ok_or, ru
 use Rattle.std.specs.List.{slice_get, slice_set}
 use Rattle.std.specs.Option.{option_and_then, option_map}
 use Rattle.std.specs.Prelude.{ℤ}
-use Rattle.rhai_tree.specs.Lookup.{place_of, rank, value_of, with_entry}
+use Rattle.rhai_tree.specs.Lookup.{paired, place_of, rank, value_of, with_entry}
 use Rattle.rhai_values.specs.declared.base.value.Dynamic.{Dynamic}
 use Rattle.rhai_values.specs.declared.base.value.Union.{Union, out-Union}
 use Rattle.rhai_values.specs.declared.base.value.Union.TheVariants as value
@@ -25,8 +25,8 @@ use Rattle.rhai_machine.specs.language.Located.{is_map, is_place_spot, is_unit}
 use Rattle.rhai_machine.specs.language.Values.{Cells, is_handle, unit_value}
 use Rattle.rhai_laws.specs.Assigned.{meant, IsUnshared}
 use Rattle.rhai_laws.specs.Selectors.{Selector, ToItem, ToKey, Part, read, selected, selected_in}
-use Rattle.rhai_laws.proofs.KeyLemmas.{absent, added_there, added_written, key_written, other_key_stays, others_stay, set_elsewhere}
-use Rattle.rhai_laws.proofs.KeyLemmas.{set_there}
+use Rattle.rhai_laws.proofs.KeyLemmas.{absent, added_there, added_written, is_within, key_written, other_key_stays, others_stay}
+use Rattle.rhai_laws.proofs.KeyLemmas.{paired_even, paired_reads, place_paired, set_elsewhere, set_there}
 
 module _ {H : Type 0} where
   -- ---- what an index means something in
@@ -126,21 +126,23 @@ module _ {H : Type 0} where
   with_new_key v entries key = record v { value = value.Map (with_entry key unit_value entries) }
 
   new_value_stands : (v : Dynamic H) (entries : List (List ℕ) × List (Dynamic H)) (key : List ℕ) → layer_of v ≡ layer.Map entries →
-      length entries.0 ≡ length entries.1 → place_of key entries.0 ≡ None →
-      Stands v (with_new_key v entries key) (ToKey key) (spot.Value (rank key entries.0)) unit_value
-  new_value_stands v entries key is same none =
-      let source : Dynamic H = with_new_key v entries key in
-      let added : List (List ℕ) × List (Dynamic H) = with_entry key unit_value entries in
-      let i : ℕ = rank key entries.0 in
+      place_of key (paired entries).0 ≡ None →
+      Stands v (with_new_key v (paired entries) key) (ToKey key) (spot.Value (rank key (paired entries).0)) unit_value
+  new_value_stands v entries key is none =
+      let pairs : List (List ℕ) × List (Dynamic H) = paired entries in
+      let same : length pairs.0 ≡ length pairs.1 = paired_even entries.0 entries.1 in
+      let source : Dynamic H = with_new_key v pairs key in
+      let added : List (List ℕ) × List (Dynamic H) = with_entry key unit_value pairs in
+      let i : ℕ = rank key pairs.0 in
       let now : layer_of source ≡ layer.Map added = outs-Map added in
       record {
         place = refl;
-        holds = ap (λ kind. value_in kind (spot.Value i)) now ∙ added_there key entries unit_value unit_value same none;
+        holds = ap (λ kind. value_in kind (spot.Value i)) now ∙ added_there key pairs unit_value unit_value same none;
         written = λ w. ap (λ kind. selected_in kind (ToKey key)) (map_with source w added i now)
-            ∙ added_written key entries unit_value w same none;
+            ∙ added_written key pairs unit_value w same none;
         others = λ w t apart. ap (λ kind. selected_in kind t) (map_with source w added i now)
             ∙ other_values entries (added.0, slice_set added.1 i w) key t
-            (λ other. others_stay key entries unit_value w same none other) apart
+            (λ other differ. others_stay key pairs unit_value w same none other differ ∙ paired_reads other entries.0 entries.1) apart
             ∙ sym (ap (λ kind. selected_in kind t) is);
       }
 
@@ -184,7 +186,8 @@ module _ {H : Type 0} where
   value_leads v u entries key None is place there = cc
   value_leads v u entries key (Some n) is place there = record {
     at = spot.Value n;
-    leads = ap (λ kind. located kind (layer.Str key)) is ∙ ap (λ o. Ok (key_spot o)) place;
+    leads = ap (λ kind. located kind (layer.Str key)) is
+        ∙ ap (λ o. Ok (key_spot o)) (place_paired key entries.0 (length entries.1) n place (is_within entries.1 n u there));
     stands = value_stands v u entries key n is place there;
   }
 
@@ -221,13 +224,15 @@ module _ {H : Type 0} where
 
     opens_new : (adds : how.add_if_not_found ≡ true) (kind ix : UnionLayer H) → layer_of v ≡ kind → layer_of index ≡ ix →
         meant kind ix ≡ Some s → selected_in kind s ≡ None → IsUnshared kind None → Opens how host cells v index s
-    opens_new adds (layer.Map entries) (layer.Str key) is keyed meant_there none same =
+    opens_new adds (layer.Map entries) (layer.Str key) is keyed meant_there none plain =
         let named : ToKey key ≡ s = cc in
-        let no_place : place_of key entries.0 ≡ None = absent key entries.0 entries.1 same
-        (ap (λ s. selected_in (layer.Map entries) s) named ∙ none) in
+        let no_value : value_of key (paired entries) ≡ None = paired_reads key entries.0 entries.1
+        ∙ ap (λ s. selected_in (layer.Map entries) s) named ∙ none in
+        let no_place : place_of key (paired entries).0 ≡ None = absent key (paired entries).0 (paired entries).1
+        (paired_even entries.0 entries.1) no_value in
         record {
-          source = with_new_key v entries key;
-          at = spot.Value (rank key entries.0);
+          source = with_new_key v (paired entries) key;
+          at = spot.Value (rank key (paired entries).0);
           old = unit_value;
           finds = found_so how host cells v index s (Ok spot.Missing) means
               (ap (λ kind. located kind (layer_of index)) is ∙ ap (λ ix. located (layer.Map entries) ix) keyed
@@ -235,16 +240,16 @@ module _ {H : Type 0} where
               ∙ adds_key adds
               ∙ ap (λ kind. Ok (with_key v kind (layer_of index))) is
               ∙ ap (λ ix. Ok (with_key v (layer.Map entries) ix)) keyed;
-          stands = subst (λ s. Stands v (with_new_key v entries key) s (spot.Value (rank key entries.0)) unit_value) named
-              (new_value_stands v entries key is same no_place);
+          stands = subst (λ s. Stands v (with_new_key v (paired entries) key) s (spot.Value (rank key (paired entries).0)) unit_value) named
+              (new_value_stands v entries key is no_place);
           unshared = tt;
         }
-    opens_new adds (layer.Array items) (layer.Int i) is keyed meant_there none same = absurd same
-    opens_new adds kind ix is keyed meant_there none same = cc
+    opens_new adds (layer.Array items) (layer.Int i) is keyed meant_there none plain = absurd plain
+    opens_new adds kind ix is keyed meant_there none plain = cc
 
     opens_by : how.add_if_not_found ≡ true → (o : Option (Dynamic H)) → selected v s ≡ o → IsUnshared (layer_of v) o →
         Opens how host cells v index s
-    opens_by adds None none same = opens_new adds (layer_of v) (layer_of index) refl refl means none same
+    opens_by adds None none plain = opens_new adds (layer_of v) (layer_of index) refl refl means none plain
     opens_by adds (Some u) is plain =
         let there : Leads v u (layer_of index) s = leads v u (layer_of index) s means is in
         record { source = v; at = there.at; old = u; finds = finds u there; stands = there.stands; unshared = plain }

@@ -41,10 +41,10 @@ module _ {H : Type 0} where
     pub form : IsIndexing link.form
     pub step : meant (layer_of v) (layer_of (index_by link.form args)) ≡ Some s
 
-  -- what is written over is no handle of a cell; or nothing stands there yet, in a map with as many keys as values
+  -- what is written over is no handle of a cell; or nothing stands there yet, in a map
   abbrev pub IsUnshared : (source : UnionLayer H) → Option (Dynamic H) → Type 0
   IsUnshared source (Some old) = IsNoHandle old.value
-  IsUnshared (layer.Map entries) None = length entries.0 ≡ length entries.1
+  IsUnshared (layer.Map entries) None = ⊤
   IsUnshared source None = ⊥
 
   -- The links of a chain, with their arguments, lead down a path from a value. Each of them means a step from an array or a map, which

@@ -1,5 +1,4 @@
 -- What the rules of calls and of assignments keep.
-use Rattle.std.proofs.Common.{refl}
 use Rattle.std.specs.Prelude.{◌+◌, ◌&&◌, length, Bool, true, false, List, [], ◌∷◌, ◌++◌}
 use Rattle.std.specs.Prelude.{Option, Some, None, Result, Ok, Err, codes, is_some}
 use Rattle.rhai_machine.specs.Types.{Dynamic, EvalAltResult, Expr, out-Expr, FnPtr, OpAssignment, Position, Token, Union}
@@ -18,6 +17,7 @@ use Rattle.rhai_operators.specs.Answers.{Answer, op_assign_of}
 use Rattle.rhai_machine.specs.language.Setting.{Setting, globals_of}
 use Rattle.rhai_machine.specs.language.State.{Local}
 use Rattle.rhai_machine.specs.language.Functions.{Function}
+use Rattle.rhai_machine.specs.language.Activations.{NoThis}
 use Rattle.rhai_machine.specs.language.Variables.{Path, Variable, path_of, variable_in}
 use Rattle.rhai_machine.specs.language.Names.{bound_this}
 use Rattle.rhai_machine.specs.language.Places.{Place, Target, is_barred, put}
@@ -26,7 +26,7 @@ use Rattle.rhai_machine.specs.language.Frames.{IsDefinedVariable}
 use Rattle.rhai_machine.specs.language.Frames.{Purpose, ToCall, ToCallOn, ToCallOnThis, ToCallFunction, ToCallNumber, ToCurry, ToChain}
 use Rattle.rhai_machine.specs.language.Frames.{Attempt, InPlace, AsValue, Assignment, Update, Frame, core}
 use Rattle.rhai_machine.specs.language.Calls.{First, first_of, put_left, call_native, fire_first, fire_move, barred_call, question_first}
-use Rattle.rhai_machine.specs.language.Calls.{question_move, call_of, plainly, races, answered, behind_path, dispatch_core, focus_core}
+use Rattle.rhai_machine.specs.language.Calls.{question_move, call_of, plainly, races, answered, behind_path, dispatch_core}
 use Rattle.rhai_machine.specs.language.Calls.{operator_core, replied, applied, sized, with_position}
 use Rattle.rhai_machine.specs.language.Arguments.{call_on, lent_this, this_in, is_captured, linked_to, arguments_there}
 use Rattle.rhai_machine.specs.language.Arguments.{arguments_core, on_variable, on_this, captured_move, named_move, operation_named}
@@ -37,34 +37,24 @@ use Rattle.rhai_machine.specs.language.Methods.{Method, method_core}
 use Rattle.rhai_machine.specs.language.Assignment.{to_this, assignment_move, written_core, done, if_fast, says_missing, operation_of}
 use Rattle.rhai_machine.specs.language.Assignment.{native_of, target_left, update_core, assign_core, store_core, changed_core, fault_core}
 use Rattle.rhai_machine.specs.language.Assignment.{value_core, answered_core, lent_core, barred_core, fire_update}
-use Rattle.rhai_machine.proofs.MethodLaws.{Dispatched, dispatch_ends, linked_ends, focus_ends, method_ends}
+use Rattle.rhai_machine.proofs.MethodLaws.{Dispatched, dispatch_ends, linked_ends, method_ends}
 use Rattle.rhai_limits.proofs.Keeping.{Asked, Calm, Good, Moves, put_keeps, on_keeps, ended_keeps, changed_keeps, if_keeps}
 
 module _ {H : Type 0} (a : Asked) where
   -- ---- calls
 
-  dispatched_keeps : (of_method : Bool) (k : List (Frame H)) (l : Local H) → Calm a k l → Dispatched of_method k l (Good a)
-  dispatched_keeps of_method k l h = record {
+  dispatched_keeps : (k : List (Frame H)) (l : Local H) → Calm a k l → Dispatched k l (Good a)
+  dispatched_keeps k l h = record {
     fails = λ e. h;
     backs = λ v. h;
     asks = λ call. h;
     enters = λ f object is_fresh args at. h;
-    on_focus = λ is f is_fresh args at. h;
   }
-
-  pub focus_keeps : (f : Function H) (is_fresh : Bool) (args : List (Dynamic H)) (pos : Position) (k : List (Frame H)) (l : Local H) →
-      Calm a k l → Good a (focus_core f is_fresh args pos k l)
-  focus_keeps f is_fresh args pos k l h = focus_ends k l (Good a) (record {
-    fails = λ e. h;
-    enters = λ f is_fresh args at. h;
-    fails_inside = λ n inner e free. h;
-    enters_inside = λ n inner f is_fresh args at free. h;
-  }) f is_fresh args pos
 
   pub method_keeps : (s : Setting H) (method : Method) (args : List (Dynamic H)) (focus : Dynamic H) (k : List (Frame H)) (l : Local H) →
       Calm a k l → Good a (method_core s method args focus k l)
   method_keeps s method args focus k l h = method_ends s k l (Good a) (record {
-    dispatched = λ of_method. dispatched_keeps of_method k l h;
+    dispatched = dispatched_keeps k l h;
     questions = λ call. h;
   }) method args focus
 
@@ -146,7 +136,7 @@ module _ {H : Type 0} (a : Asked) where
     pub dispatch_keeps : (how : Dispatch) (call : Call H) (k : List (Frame H)) (l : Local H) → Calm a k l →
         Good a (dispatch_core s how call k l)
     dispatch_keeps how call k l h =
-        dispatch_ends k l (Good a) how.of_method (dispatched_keeps how.of_method k l h) s how refl call
+        dispatch_ends k l (Good a) (dispatched_keeps k l h) s how call
 
     pub operator_keeps : (builtin : Option (Result (Dynamic H) (EvalAltResult H))) (call : Call H) (k : List (Frame H)) (l : Local H) →
         Calm a k l → Good a (operator_core s builtin call k l)
@@ -161,7 +151,7 @@ module _ {H : Type 0} (a : Asked) where
     arguments_there_keep (ToCallOnThis operation this_at how) args k l h =
         on_keeps a (bound_this this_at l.this) _ k l h (λ v. dispatch_keeps how (lent_this operation args v) k l h)
     arguments_there_keep (ToCallFunction f at curried) args k l h =
-        linked_ends k l (Good a) true (dispatched_keeps true k l h) f at (curried ++ args)
+        linked_ends k l (Good a) (dispatched_keeps k l h) f NoThis at (curried ++ args)
     arguments_there_keep (ToCallNumber number operation curried) args k l h =
         if_keeps a (races l.around.cells (curried ++ args)) _ _ h h
     arguments_there_keep (ToCurry pointer) args k l h = h

@@ -40,7 +40,7 @@ use Rattle.rhai_machine.specs.language.State.{Surroundings}
 use Rattle.rhai_machine.specs.language.Values.{bool_value, through}
 use Rattle.rhai_machine.specs.language.Frames.{Back, ended}
 use Rattle.std.specs.Str.{bytes_eq}
-use Rattle.rhai_machine.specs.language.Calls.{asks_function, call_races, called_core, called_function, dispatch_behind, found_by}
+use Rattle.rhai_machine.specs.language.Calls.{asks_function, called_core, called_function, dispatch_behind, found_by, races}
 use Rattle.rhai_machine.specs.language.Calls.{found_core, knows_asked}
 use Rattle.rhai_machine.specs.language.Calls.{knows_function}
 use Rattle.rhai_machine.specs.language.Calls.{named_core}
@@ -99,7 +99,7 @@ module _ {H : Type 0} (s : Setting H) (limits : Limits) where
 
   dispatch_behind_same : (path : List (List ℕ)) (how : Dispatch) (call : Call H) (k : List (Frame H)) (l : Local H) →
       SameOrLimited (dispatch_behind s path how call k l) (dispatch_behind other path how call k l)
-  dispatch_behind_same [] how call k l = if_same (call_races how.of_method l.around.cells call.args) _ _ _ _ (inl refl)
+  dispatch_behind_same [] how call k l = if_same (races l.around.cells call.args) _ _ _ _ (inl refl)
       (named_same how call.args call k l)
   dispatch_behind_same (root ∷ path) how call k l = inl refl
 

@@ -14,7 +14,7 @@ use Rattle.rhai_machine.specs.language.Activations.{Entered}
 use Rattle.rhai_machine.specs.language.Turns.{next_turn}
 use Rattle.rhai_machine.specs.language.Links.{link_of}
 use Rattle.rhai_machine.specs.language.Frames.{Control, Frame, Argument, CallNamed}
-use Rattle.rhai_machine.specs.language.Frames.{EnterFunction, EnterOnFocus, Question, Fire, QuestionUpdate, FireUpdate, OpenExpr}
+use Rattle.rhai_machine.specs.language.Frames.{EnterFunction, Question, Fire, QuestionUpdate, FireUpdate, OpenExpr}
 use Rattle.rhai_machine.specs.language.Frames.{OpenStmt, Enter, Run, Store, StoreThis, WhileTurn, DoTurn, Choose, ForTurn, ForItem, Share}
 use Rattle.rhai_machine.specs.language.Frames.{OpenChain, ChainArguments, ChainRoot, ReadRoot, Walk, Locate, Back, Changed, Fail}
 use Rattle.rhai_machine.specs.language.Frames.{StatementValue, DefineValue, ImportPath, IfCondition, RestOfList, RestoreList, Top}
@@ -39,7 +39,7 @@ use Rattle.rhai_machine.specs.language.Unwinding.{up_core, down_core, changed_up
 use Rattle.rhai_machine.specs.language.Language.{move_at}
 use Rattle.rhai_limits.proofs.Keeping.{Asked, Allowed, Calm, At, Good, Moves, none_added, stopped, on_keeps, ended_keeps, shortened}
 use Rattle.rhai_limits.proofs.Keeping.{call_left, function_entered}
-use Rattle.rhai_limits.proofs.Calls.{focus_keeps, fire_keeps, question_keeps, operator_keeps, arguments_keep, named_keeps, keyword_keeps}
+use Rattle.rhai_limits.proofs.Calls.{fire_keeps, question_keeps, operator_keeps, arguments_keep, named_keeps, keyword_keeps}
 use Rattle.rhai_limits.proofs.Calls.{store_keeps, barred_keeps, fire_update_keeps}
 use Rattle.rhai_limits.proofs.Forms.{argument_keeps, and_next_keeps, or_next_keeps, coalesce_next_keeps, items_keep, entries_keep}
 use Rattle.rhai_limits.proofs.Forms.{part_keeps, joined_keeps, unprinted_keeps, expr_keeps, while_keeps, while_core_keeps, do_keeps}
@@ -158,7 +158,6 @@ module _ {H : Type 0} (a : Asked) (s : Setting H) (allowed : Allowed a s.limits)
   move_keeps (CallNamed operation curried args captures alone) k l h = named_keeps a s operation curried args captures alone k l h
   move_keeps (EnterFunction e) k l h = opened_keeps (nat_lt s.limits.max_call_levels e.level)
       (nat_lt s.limits.max_variables (length (variables_before e.is_fresh l.scope) + length e.def.params)) e k l refl refl h
-  move_keeps (EnterOnFocus f is_fresh args at) k l h = focus_keeps a f is_fresh args at k l h
   move_keeps (Question call) k l h = question_keeps a s call call.args k l h
   move_keeps (Fire call) k l h = fire_keeps a s call call.args k l h
   move_keeps (QuestionUpdate u) k l h = λ pure. barred_keeps a s (is_barred pure u.target) u k l h

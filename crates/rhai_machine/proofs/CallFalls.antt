@@ -13,6 +13,7 @@ use Rattle.rhai_machine.specs.machine.Settling.{Falls}
 use Rattle.rhai_machine.specs.language.Setting.{Setting, globals_of}
 use Rattle.rhai_machine.specs.language.State.{Local}
 use Rattle.rhai_machine.specs.language.Functions.{Function}
+use Rattle.rhai_machine.specs.language.Activations.{NoThis}
 use Rattle.rhai_machine.specs.language.Variables.{Path, Variable, variable_in}
 use Rattle.rhai_machine.specs.language.Names.{bound_this}
 use Rattle.rhai_machine.specs.language.Frames.{Operation, Dispatch, Call, Core, Frame, core, CallNamed, Question, Fire, Purpose, ToCall}
@@ -20,7 +21,7 @@ use Rattle.rhai_machine.specs.language.Frames.{ToCallOn, ToCallOnThis, ToCallNum
 use Rattle.rhai_machine.specs.language.Frames.{MakePointer, Curry, IsShared}
 use Rattle.rhai_machine.specs.language.Frames.{IsDefinedVariable, ToChain}
 use Rattle.rhai_machine.specs.language.Places.{Place, is_barred}
-use Rattle.rhai_machine.specs.language.Calls.{operator_core, behind_path, call_of, plainly, races, dispatch_core, focus_core, fire_first}
+use Rattle.rhai_machine.specs.language.Calls.{operator_core, behind_path, call_of, plainly, races, dispatch_core, fire_first}
 use Rattle.rhai_machine.specs.language.Calls.{fire_move, First}
 use Rattle.rhai_machine.specs.language.Calls.{first_of, put_left, barred_call, question_first, question_move, call_native}
 use Rattle.rhai_machine.specs.language.Calls.{replied, applied}
@@ -29,7 +30,7 @@ use Rattle.rhai_machine.specs.language.Arguments.{arguments_there, arguments_cor
 use Rattle.rhai_machine.specs.language.Arguments.{named_move, operation_named, pointer_of, pointer_wanted, text_wanted, unlinked_core}
 use Rattle.rhai_machine.specs.language.Arguments.{pointer_core, keyword_core, behind_move}
 use Rattle.rhai_machine.specs.language.Methods.{Method, method_core}
-use Rattle.rhai_machine.proofs.MethodLaws.{dispatch_ends, focus_ends, method_ends}
+use Rattle.rhai_machine.proofs.MethodLaws.{dispatch_ends, method_ends}
 use Rattle.rhai_machine.proofs.Sizes.{purpose_size, stack_size, size, result_falls, reply_falls, on_below, wider_falls, if_falls}
 
 module _ {H : Type 0} where
@@ -72,36 +73,25 @@ module _ {H : Type 0} where
     question_falls call (x ∷ rest) k l = question_first_falls call rest (first_of l.around.cells call x) k l
 
     dispatch_falls : (how : Dispatch) (call : Call H) (k : List (Frame H)) (l : Local H) →
-        size (dispatch_core s how call k l) < 14 + stack_size k
-    dispatch_falls how call k l = dispatch_ends k l (λ c. size c < 14 + stack_size k) how.of_method (record {
+        size (dispatch_core s how call k l) < 12 + stack_size k
+    dispatch_falls how call k l = dispatch_ends k l (λ c. size c < 12 + stack_size k) (record {
       fails = λ e. omega arith;
       backs = λ v. omega arith;
       asks = λ call. omega arith;
       enters = λ f object is_fresh args at. omega arith;
-      on_focus = λ is f is_fresh args at. omega arith;
-    }) s how refl call
-
-    plain_falls : (call : Call H) (k : List (Frame H)) (l : Local H) →
-        size (dispatch_core s (plainly false false) call k l) < 12 + stack_size k
-    plain_falls call k l = dispatch_ends k l (λ c. size c < 12 + stack_size k) false (record {
-      fails = λ e. omega arith;
-      backs = λ v. omega arith;
-      asks = λ call. omega arith;
-      enters = λ f object is_fresh args at. omega arith;
-      on_focus = λ is. absurd (cc is);
-    }) s (plainly false false) refl call
+    }) s how call
 
     pub operator_falls : (builtin : Option (Result (Dynamic H) (EvalAltResult H))) (call : Call H) (k : List (Frame H)) (l : Local H) →
         size (operator_core s builtin call k l) < 12 + stack_size k
     operator_falls (Some r) call k l = result_falls (applied s.limits r call.operation.at) (12 + stack_size k) (stack_size k) (omega arith)
-    operator_falls None call k l = plain_falls call k l
+    operator_falls None call k l = dispatch_falls (plainly false false) call k l
 
     -- the arguments of a call, and what is done once they are there
     numbered_falls : (call : Call H) (k : List (Frame H)) (l : Local H) → size (numbered_core call k l) < 14 + stack_size k
     numbered_falls call k l = if_falls (races l.around.cells call.args) _ _ (14 + stack_size k) (omega arith) (omega arith)
 
     linked_falls : (function : Function H) (at : Position) (args : List (Dynamic H)) (k : List (Frame H)) (l : Local H) →
-        size (linked_core function at args k l) < 14 + stack_size k
+        size (linked_core function NoThis at args k l) < 14 + stack_size k
     linked_falls function at args k l = if_falls (races l.around.cells args) _ _ (14 + stack_size k) (omega arith) (omega arith)
 
     there_size : (purpose : Purpose H) (args : List (Dynamic H)) (k : List (Frame H)) (l : Local H) →
@@ -110,11 +100,11 @@ module _ {H : Type 0} where
     there_size (ToCallOn operation variable how) args k l = omega (
       arith,
       on_below (call_on (globals_of s.offer) l.around l.scope operation variable args) (λ call. dispatch_core s how call k l) k l
-          (14 + stack_size k) (omega arith) (λ call. dispatch_falls how call k l),
+          (12 + stack_size k) (omega arith) (λ call. dispatch_falls how call k l),
     )
     there_size (ToCallOnThis operation this_at how) args k l = omega (
       arith,
-      on_below (bound_this this_at l.this) (λ v. dispatch_core s how (lent_this operation args v) k l) k l (14 + stack_size k)
+      on_below (bound_this this_at l.this) (λ v. dispatch_core s how (lent_this operation args v) k l) k l (12 + stack_size k)
           (omega arith) (λ v. dispatch_falls how (lent_this operation args v) k l),
     )
     there_size (ToCallFunction function at curried) args k l = omega (arith, linked_falls function at (curried ++ args) k l)
@@ -202,22 +192,11 @@ module _ {H : Type 0} where
     pub method_falls : (method : Method) (args : List (Dynamic H)) (focus : Dynamic H) (k : List (Frame H)) (l : Local H) →
         size (method_core s method args focus k l) ≤ 13 + stack_size k
     method_falls method args focus k l = method_ends s k l (λ c. size c ≤ 13 + stack_size k) (record {
-      dispatched = λ of_method. record {
+      dispatched = record {
         fails = λ e. omega arith;
         backs = λ v. omega arith;
         asks = λ call. omega arith;
         enters = λ f object is_fresh args at. omega arith;
-        on_focus = λ is f is_fresh args at. omega arith;
       };
       questions = λ call. omega arith;
     }) method args focus
-
-    -- a function that is entered on the focus
-    pub focus_falls : (f : Function H) (is_fresh : Bool) (args : List (Dynamic H)) (at : Position) (k : List (Frame H)) (l : Local H) →
-        size (focus_core f is_fresh args at k l) < 13 + stack_size k
-    focus_falls f is_fresh args at k l = focus_ends k l (λ c. size c < 13 + stack_size k) (record {
-      fails = λ e. omega arith;
-      enters = λ f is_fresh args at. omega arith;
-      fails_inside = λ n inner e free. omega arith;
-      enters_inside = λ n inner f is_fresh args at free. omega arith;
-    }) f is_fresh args at

@@ -41,7 +41,7 @@ use Rattle.rhai_machine.specs.language.Frames.{ArrayItem, EntryValue, TextPart, 
 use Rattle.rhai_machine.specs.language.Frames.{OpenChain, ChainArguments, ChainRoot, ReadRoot, Walk, Locate, AssignChain, AssignedChain}
 use Rattle.rhai_machine.specs.language.Frames.{RootValue, ChainEnd, StepDown, Temporary, PartMethod, PartAssigned, Measured, MethodLink}
 use Rattle.rhai_machine.specs.language.Frames.{MemberLink, MemberGot, MemberOperated, GetterTried, SetterTried, IndexerTried, MemberSet}
-use Rattle.rhai_machine.specs.language.Frames.{EnterFunction, EnterOnFocus, AssignThis, AssignThisValue, CallEnd, Choose, ForTurn, ForItem}
+use Rattle.rhai_machine.specs.language.Frames.{EnterFunction, AssignThis, AssignThisValue, CallEnd, Choose, ForTurn, ForItem}
 use Rattle.rhai_machine.specs.language.Frames.{Share}
 use Rattle.rhai_machine.specs.language.Frames.{SwitchValue, SwitchCondition, ForItems, ForBody, ImportPath, RestoreScope, TryBody}
 use Rattle.rhai_machine.specs.language.Frames.{CatchBranch, ThrowValue}
@@ -75,7 +75,7 @@ use Rattle.rhai_machine.proofs.ChainLinks.{links, within}
 use Rattle.rhai_machine.proofs.Sizes.{all_numbers, parts_in, purpose_size, control_size, stack_size, size, enter_size, run_size}
 use Rattle.rhai_machine.proofs.Sizes.{result_falls}
 use Rattle.rhai_machine.proofs.Sizes.{on_falls, on_below, there_falls}
-use Rattle.rhai_machine.proofs.CallFalls.{named_call_falls, question_falls, fire_falls, focus_falls, keyword_falls, arguments_fall}
+use Rattle.rhai_machine.proofs.CallFalls.{named_call_falls, question_falls, fire_falls, keyword_falls, arguments_fall}
 use Rattle.rhai_machine.proofs.CallFalls.{behind_falls}
 use Rattle.rhai_machine.proofs.CallFalls.{operator_falls}
 use Rattle.rhai_machine.proofs.FormFalls.{candidates_size, choose_falls, met_falls, for_falls, started_falls, for_turn_falls, item_falls}
@@ -542,7 +542,6 @@ module _ {H : Type 0} where
     control_falls (AskUpdate u) k l = tt
     control_falls (Argument e) k l = argument_falls (literal_of (out-Expr e)) e k l
     control_falls (EnterFunction e) k l = tt
-    control_falls (EnterOnFocus f is_fresh args at) k l = focus_falls s f is_fresh args at k l
     control_falls (AssignThis op at v) k l = tt
     control_falls (CallNamed operation curried args captures alone) k l = named_call_falls s operation curried args captures alone k l
     control_falls (Question call) k l = question_falls s call call.args k l

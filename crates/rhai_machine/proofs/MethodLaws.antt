@@ -1,8 +1,6 @@
--- A call by name ends in one move: it fails, a value comes back, a native is charged for, or a function of a script is entered, a method's
--- on the focus. A method may ask about a native besides. So what holds of these holds of each call and of each method. A function that is
--- entered on the focus runs over the frames and the state that were there, or in the cell that the focus leads to.
-use Rattle.std.proofs.Common.{refl, sym}
-use Rattle.std.specs.Prelude.{◌≡◌, ℕ, ◌&&◌, Bool, true, false, not, drop, length, List, [], ◌∷◌, ◌++◌, Option, Some, None}
+-- A call by name ends in one move: it fails, a value comes back, a native is charged for, or a function of a script is entered. A method
+-- may ask about a native besides. So what holds of these holds of each call and of each method.
+use Rattle.std.specs.Prelude.{ℕ, ◌&&◌, Bool, true, false, not, drop, length, List, [], ◌∷◌, ◌++◌, Option, Some, None}
 use Rattle.std.specs.Prelude.{Result, Ok, Err, codes, is_some, if◌then◌else◌}
 use Rattle.std.specs.Str.{bytes_eq}
 use Rattle.rhai_tree.specs.declared.position.Position.{Position}
@@ -11,114 +9,59 @@ use Rattle.rhai_values.specs.declared.base.value.FnPtr.{FnPtr, out-FnPtr}
 use Rattle.rhai_values.specs.declared.base.value.FnPtrKind.{FnPtrKind}
 use Rattle.rhai_values.specs.declared.base.value.FnPtrKind.TheOpen as union
 use Rattle.rhai_values.specs.declared.base.value.FnPtrKind.TheVariants as kind
-use Rattle.rhai_values.specs.declared.base.value.Union.{Union}
-use Rattle.rhai_values.specs.declared.base.value.Union.TheVariants as value
-use Rattle.rhai_values.specs.Cells.{value_of_cell, with_held}
 use Rattle.rhai_values.specs.Layers.{UnionLayer, layer_of}
 use Rattle.rhai_errors.specs.declared.error.EvalAltResult.{EvalAltResult}
-use Rattle.rhai_spots.specs.Paths.{ToCell}
 use Rattle.rhai_machine.specs.language.Setting.{Setting}
 use Rattle.rhai_machine.specs.language.State.{Local}
-use Rattle.rhai_machine.specs.language.Values.{through, through_union, used}
+use Rattle.rhai_machine.specs.language.Values.{through}
 use Rattle.rhai_machine.specs.language.Functions.{Function}
 use Rattle.rhai_machine.specs.language.Activations.{ThisFrom, NoThis, TheFocus}
-use Rattle.rhai_machine.specs.language.Frames.{Operation, Dispatch, Call, Frame, Core, core, on_value, Ask, EnterFunction, EnterOnFocus}
-use Rattle.rhai_machine.specs.language.Frames.{Question, Back, Fail, StepDown}
-use Rattle.rhai_machine.specs.language.Handles.{entered_by, focus_of}
-use Rattle.rhai_machine.specs.language.Calls.{args_given, asks_function, call_of, call_races, entry_of, inside_core, focus_core, enter_core}
-use Rattle.rhai_machine.specs.language.Calls.{plainly, races}
+use Rattle.rhai_machine.specs.language.Frames.{Operation, Dispatch, Call, Frame, Core, core, on_value, Ask, EnterFunction}
+use Rattle.rhai_machine.specs.language.Frames.{Question, Back, Fail}
+use Rattle.rhai_machine.specs.language.Calls.{args_given, asks_function, call_of, entry_of, enter_core, plainly, races}
 use Rattle.rhai_machine.specs.language.Calls.{called_function, found_core, named_core, dispatch_behind, dispatch_core, function_behind}
 use Rattle.rhai_machine.specs.language.Arguments.{operation_named, pointer_wanted, numbered_core, linked_core, linked_to, natives_alone}
 use Rattle.rhai_machine.specs.language.Methods.{Method, MethodWord, CallWord, CurryWord, SharedWord, PlainWord, word_of, argument_at}
-use Rattle.rhai_machine.specs.language.Methods.{as_method, on_focus, copied_before, own_entry, numbered_on}
+use Rattle.rhai_machine.specs.language.Methods.{as_method, number_on_focus, on_focus, copied_before, own_entry}
 use Rattle.rhai_machine.specs.language.Methods.{unlinked_on, pointer_on, unlinked_alone, pointer_alone, call_argument, call_core}
 use Rattle.rhai_machine.specs.language.Methods.{curry_core, entry_core}
 use Rattle.rhai_machine.specs.language.Methods.{word_core, method_core}
 
-module _ {H : Type 0} where
-  -- the frames and the state in a cell that the focus leads to
-  abbrev pub frames_inside : ℕ → List (Frame H) → Local H → List (Frame H)
-  frames_inside n k l = StepDown (focus_of l) (ToCell n) ∷ k
-
-  abbrev pub inside : ℕ → (inner : Dynamic H) → Local H → Local H
-  inside n inner l = record l { focus = Some inner; around = record l.around { cells = with_held l.around.cells n } }
-
-  -- a cell that is free
-  abbrev pub IsFree : ℕ → Local H → Type 0
-  IsFree n l = is_some (value_of_cell l.around.cells n) ≡ true
-
-  -- the cell of a handle that was looked through is free
-  pub used_free : (name : List ℕ) (at : Position) (there : Option (Dynamic H)) (inner : Dynamic H) → used name at there ≡ Ok inner →
-      is_some there ≡ true
-  used_free name at (Some v) inner is = refl
-  used_free name at None inner is = cc
-
--- what holds of an error, of a value, of a charged call, of a function that is entered, and of a method's on the focus
-pub record Dispatched {H : Type 0} (of_method : Bool) (k : List (Frame H)) (l : Local H) (R : Core H → Type 0) : Type 0 where
+-- what holds of an error, of a value, of a charged call, and of a function that is entered
+pub record Dispatched {H : Type 0} (k : List (Frame H)) (l : Local H) (R : Core H → Type 0) : Type 0 where
   pub fails : (e : EvalAltResult H) → R (core (Fail e) k l)
   pub backs : (v : Dynamic H) → R (core (Back v) k l)
   pub asks : (call : Call H) → R (core (Ask call) k l)
   pub enters : (f : Function H) (object : ThisFrom) (is_fresh : Bool) (args : List (Dynamic H)) (at : Position) →
       R (core (EnterFunction (entry_of f object is_fresh args at l)) k l)
-  pub on_focus : of_method ≡ true → (f : Function H) (is_fresh : Bool) (args : List (Dynamic H)) (at : Position) →
-      R (core (EnterOnFocus f is_fresh args at) k l)
 
 -- and besides of a question
 pub record Ends {H : Type 0} (k : List (Frame H)) (l : Local H) (R : Core H → Type 0) : Type 0 where
-  pub dispatched : (of_method : Bool) → Dispatched of_method k l R
+  pub dispatched : Dispatched k l R
   pub questions : (call : Call H) → R (core (Question call) k l)
-
--- what holds of an error and of a function that is entered, here or in the cell of the focus
-pub record Focused {H : Type 0} (k : List (Frame H)) (l : Local H) (R : Core H → Type 0) : Type 0 where
-  pub fails : (e : EvalAltResult H) → R (core (Fail e) k l)
-  pub enters : (f : Function H) (is_fresh : Bool) (args : List (Dynamic H)) (at : Position) →
-      R (core (EnterFunction (entry_of f TheFocus is_fresh args at l)) k l)
-  pub fails_inside : (n : ℕ) (inner : Dynamic H) (e : EvalAltResult H) → IsFree n l →
-      R (core (Fail e) (frames_inside n k l) (inside n inner l))
-  pub enters_inside : (n : ℕ) (inner : Dynamic H) (f : Function H) (is_fresh : Bool) (args : List (Dynamic H)) (at : Position) →
-      IsFree n l → R (core (EnterFunction (entry_of f TheFocus is_fresh args at (inside n inner l))) (frames_inside n k l)
-      (inside n inner l))
 
 module _ {H : Type 0} (k : List (Frame H)) (l : Local H) (R : Core H → Type 0) where
   if_ends : (holds : Bool) (c d : Core H) → R c → R d → R (if holds then c else d)
   if_ends true c d first second = first
   if_ends false c d first second = second
 
-  -- a focus that is entered, where it is known what it leads to
-  entered_ends : (at : Position) (u : Union H) (inner : Dynamic H) (go : List (Frame H) → Local H → Core H) →
-      through_union l.around.cells u (focus_of l) at ≡ Ok inner → R (go k l) →
-      ((n : ℕ) → IsFree n l → R (go (frames_inside n k l) (inside n inner l))) → R (entered_by u inner go k l)
-  entered_ends at (value.Cell id) inner go is here there =
-      there id.number (used_free [] at (value_of_cell l.around.cells id.number) inner is)
-  entered_ends at _ inner go is here there = here
-
   on_ends : {A : Type 0} (r : Result A (EvalAltResult H)) (go : A → Core H) → ((e : EvalAltResult H) → R (core (Fail e) k l)) →
-      ((x : A) → r ≡ Ok x → R (go x)) → R (on_value r go k l)
-  on_ends (Ok x) go fails h = h x refl
+      ((x : A) → R (go x)) → R (on_value r go k l)
+  on_ends (Ok x) go fails h = h x
   on_ends (Err e) go fails h = fails e
 
-  -- a function that is entered on the focus
-  pub focus_ends : Focused k l R → (f : Function H) (is_fresh : Bool) (args : List (Dynamic H)) (at : Position) →
-      R (focus_core f is_fresh args at k l)
-  focus_ends b f is_fresh args at = on_ends (through l.around.cells (focus_of l) at) _ b.fails (λ inner is.
-      entered_ends at (focus_of l).value inner (λ k l. inside_core f is_fresh args at k l) is
-      (if_ends (races l.around.cells args) _ _ (b.fails _) (b.enters f is_fresh args at))
-      (λ n free. if_ends (races (inside n inner l).around.cells args) _ _ (b.fails_inside n inner _ free)
-      (b.enters_inside n inner f is_fresh args at free)))
-
-module _ {H : Type 0} (k : List (Frame H)) (l : Local H) (R : Core H → Type 0) (m : Bool) (b : Dispatched m k l R) where
+module _ {H : Type 0} (k : List (Frame H)) (l : Local H) (R : Core H → Type 0) (b : Dispatched k l R) where
   -- functions of scripts
-  enter_ends : (of_method : Bool) → of_method ≡ m → (f : Function H) (how : Dispatch) (call : Call H) →
-      R (enter_core of_method f how call k l)
-  enter_ends true is f how call = b.on_focus (sym is) f (not how.on_scope) (drop 1 call.args) call.operation.at
-  enter_ends false is f how call = b.enters f NoThis (not how.on_scope) (args_given call.lender call.args) call.operation.at
+  enter_ends : (of_method : Bool) (f : Function H) (how : Dispatch) (call : Call H) → R (enter_core of_method f how call k l)
+  enter_ends true f how call = b.enters f TheFocus (not how.on_scope) (drop 1 call.args) call.operation.at
+  enter_ends false f how call = b.enters f NoThis (not how.on_scope) (args_given call.lender call.args) call.operation.at
 
-  pub linked_ends : (f : Function H) (at : Position) (args : List (Dynamic H)) → R (linked_core f at args k l)
-  linked_ends f at args = if_ends k l R (races l.around.cells args) _ _ (b.fails _) (b.enters f _ true args at)
+  pub linked_ends : (f : Function H) (object : ThisFrom) (at : Position) (args : List (Dynamic H)) → R (linked_core f object at args k l)
+  linked_ends f object at args = if_ends k l R (races l.around.cells args) _ _ (b.fails _) (b.enters f object true args at)
 
-  module _ (s : Setting H) (how : Dispatch) (is : how.of_method ≡ m) where
+  module _ (s : Setting H) (how : Dispatch) where
     found_ends : (found : Option (Function H)) (call : Call H) → R (found_core s found how call k l)
-    found_ends (Some f) call = enter_ends how.of_method is f how call
+    found_ends (Some f) call = enter_ends how.of_method f how call
     found_ends None call = b.asks call
 
     -- a call by name
@@ -134,41 +77,36 @@ module _ {H : Type 0} (k : List (Frame H)) (l : Local H) (R : Core H → Type 0)
 
     -- and one behind a path
     behind_ends : (path : List (List ℕ)) (call : Call H) → R (dispatch_behind s path how call k l)
-    behind_ends [] call = if_ends k l R (call_races how.of_method l.around.cells call.args) _ _ (b.fails _) (named_ends call.args call)
+    behind_ends [] call = if_ends k l R (races l.around.cells call.args) _ _ (b.fails _) (named_ends call.args call)
     behind_ends (root ∷ path) call = on_ends k l R (function_behind s root path how call l) _ b.fails
-        (λ f found. b.enters f NoThis (not how.on_scope) (args_given call.lender call.args) call.operation.at)
+        (λ f. b.enters f NoThis (not how.on_scope) (args_given call.lender call.args) call.operation.at)
 
     pub dispatch_ends : (call : Call H) → R (dispatch_core s how call k l)
     dispatch_ends call = behind_ends how.path.names call
 
 module _ {H : Type 0} (s : Setting H) (k : List (Frame H)) (l : Local H) (R : Core H → Type 0) (b : Ends k l R) where
   fails : (e : EvalAltResult H) → R (core (Fail e) k l)
-  fails e = (b.dispatched true).fails e
+  fails e = b.dispatched.fails e
 
   -- a call by name
   by_name : (how : Dispatch) (call : Call H) → R (dispatch_core s how call k l)
-  by_name how call = dispatch_ends k l R how.of_method (b.dispatched how.of_method) s how refl call
+  by_name how call = dispatch_ends k l R b.dispatched s how call
 
   -- a native by its number
   numbered_ends : (call : Call H) → R (numbered_core call k l)
   numbered_ends call = if_ends k l R (races l.around.cells call.args) _ _ (fails _) (b.questions call)
 
-  numbered_on_ends : (number : ℕ) (operation : Operation) (args : List (Dynamic H)) (focus : Dynamic H) →
-      R (numbered_on number operation args focus k l)
-  numbered_on_ends number operation args focus =
-      if_ends k l R (call_races true l.around.cells (focus ∷ args)) _ _ (fails _) (b.questions _)
-
   -- pointers
   unlinked_on_ends : (of : FnPtrKind H) (pointer : FnPtr H) (method : Method) (called : List ℕ) (args : List (Dynamic H))
       (focus : Dynamic H) → R (unlinked_on s of pointer method called args focus k l)
   unlinked_on_ends (kind.Native id) pointer method called args focus =
-      numbered_on_ends id.number (operation_named called method.at) args focus
+      numbered_ends (number_on_focus id.number (operation_named called method.at) args focus)
   unlinked_on_ends _ pointer method called args focus = by_name (as_method (natives_alone (out-FnPtr H pointer).name))
       (on_focus (operation_named (out-FnPtr H pointer).name method.at) args focus)
 
   pointer_on_ends : (function : Option (Function H)) (pointer : FnPtr H) (method : Method) (called : List ℕ) (args : List (Dynamic H))
       (focus : Dynamic H) → R (pointer_on s function pointer method called args focus k l)
-  pointer_on_ends (Some f) pointer method called args focus = (b.dispatched true).on_focus refl f true args method.at
+  pointer_on_ends (Some f) pointer method called args focus = linked_ends k l R b.dispatched f TheFocus method.at args
   pointer_on_ends None pointer method called args focus = unlinked_on_ends (out-FnPtr H pointer).kind pointer method called args focus
 
   unlinked_alone_ends : (of : FnPtrKind H) (pointer : FnPtr H) (at : Position) (args : List (Dynamic H)) →
@@ -180,7 +118,7 @@ module _ {H : Type 0} (s : Setting H) (k : List (Frame H)) (l : Local H) (R : Co
 
   pointer_alone_ends : (function : Option (Function H)) (pointer : FnPtr H) (at : Position) (args : List (Dynamic H)) →
       R (pointer_alone s function pointer at args k l)
-  pointer_alone_ends (Some f) pointer at args = linked_ends k l R true (b.dispatched true) f at args
+  pointer_alone_ends (Some f) pointer at args = linked_ends k l R b.dispatched f NoThis at args
   pointer_alone_ends None pointer at args = unlinked_alone_ends (out-FnPtr H pointer).kind pointer at args
 
   -- words
@@ -188,7 +126,7 @@ module _ {H : Type 0} (s : Setting H) (k : List (Frame H)) (l : Local H) (R : Co
       R (call_argument s method args seen focus k l)
   call_argument_ends method [] seen focus = fails _
   call_argument_ends method (first ∷ rest) seen focus =
-      on_ends k l R (pointer_wanted s.host_type l.around.cells first (argument_at method)) _ fails (λ pointer is. pointer_on_ends
+      on_ends k l R (pointer_wanted s.host_type l.around.cells first (argument_at method)) _ fails (λ pointer. pointer_on_ends
       (linked_to pointer (length ((out-FnPtr H pointer).curry ++ rest)) l.around.lib) pointer method (codes "call")
       ((out-FnPtr H pointer).curry ++ rest) focus)
 
@@ -199,7 +137,7 @@ module _ {H : Type 0} (s : Setting H) (k : List (Frame H)) (l : Local H) (R : Co
   call_ends _ method args seen focus = call_argument_ends method args seen focus
 
   curry_ends : (form : UnionLayer H) (at : Position) (args : List (Dynamic H)) (seen : Dynamic H) → R (curry_core s form at args seen k l)
-  curry_ends (union.FnPtr pointer) at args seen = (b.dispatched true).backs _
+  curry_ends (union.FnPtr pointer) at args seen = b.dispatched.backs _
   curry_ends _ at args seen = fails _
 
   entry_ends : (own : Option (FnPtr H)) (method : Method) (args : List (Dynamic H)) (focus : Dynamic H) →
@@ -212,12 +150,12 @@ module _ {H : Type 0} (s : Setting H) (k : List (Frame H)) (l : Local H) (R : Co
   word_ends : (word : MethodWord) (method : Method) (args : List (Dynamic H)) (focus : Dynamic H) →
       R (word_core s word method args focus k l)
   word_ends CallWord method args focus = on_ends k l R (through l.around.cells focus method.at) _ fails
-      (λ seen is. call_ends (layer_of seen) method args seen focus)
+      (λ seen. call_ends (layer_of seen) method args seen focus)
   word_ends CurryWord method args focus = on_ends k l R (through l.around.cells focus method.at) _ fails
-      (λ seen is. curry_ends (layer_of seen) method.at args seen)
-  word_ends SharedWord method args focus = (b.dispatched true).backs _
+      (λ seen. curry_ends (layer_of seen) method.at args seen)
+  word_ends SharedWord method args focus = b.dispatched.backs _
   word_ends PlainWord method args focus = on_ends k l R (own_entry l.around.cells method focus) _ fails
-      (λ own is. entry_ends own method args focus)
+      (λ own. entry_ends own method args focus)
 
   -- what holds of these holds of a method
   pub method_ends : (method : Method) (args : List (Dynamic H)) (focus : Dynamic H) → R (method_core s method args focus k l)

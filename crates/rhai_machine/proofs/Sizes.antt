@@ -22,7 +22,7 @@ use Rattle.rhai_machine.specs.language.Frames.{DoCondition, DoBody, BreakValue, 
 use Rattle.rhai_machine.specs.language.Frames.{CallArgument, KeywordArgument, Purpose, ToChain, OpenChain, ChainArguments, ChainRoot}
 use Rattle.rhai_machine.specs.language.Frames.{ReadRoot, Walk, Locate, AssignChain, AssignedChain, RootValue, ChainEnd, StepDown, Temporary}
 use Rattle.rhai_machine.specs.language.Frames.{PartMethod, PartAssigned, Measured, MethodLink, MemberLink, MemberGot, MemberOperated}
-use Rattle.rhai_machine.specs.language.Frames.{GetterTried, SetterTried, IndexerTried, MemberSet, EnterFunction, EnterOnFocus}
+use Rattle.rhai_machine.specs.language.Frames.{GetterTried, SetterTried, IndexerTried, MemberSet, EnterFunction}
 use Rattle.rhai_machine.specs.language.Frames.{AssignThis, AssignThisValue, CallEnd, Choose, ForTurn, ForItem, Share, SwitchValue}
 use Rattle.rhai_machine.specs.language.Frames.{SwitchCondition}
 use Rattle.rhai_machine.specs.language.Frames.{ForItems, ForBody, ImportPath, RestoreScope, TryBody, CatchBranch, ThrowValue}
@@ -63,7 +63,6 @@ module _ {H : Type 0} where
   control_size (AskUpdate u) = 0
   control_size (Argument e) = 1
   control_size (EnterFunction e) = 0
-  control_size (EnterOnFocus function is_fresh args at) = 13
   control_size (AssignThis op at v) = 0
   control_size (CallNamed operation curried args captures natives_alone) = 15
   control_size (Question call) = 13

@@ -1,6 +1,6 @@
 -- What a pointer is called by, and what its copy is.
 use Rattle.std.proofs.Common.{◌≡◌, List, ◌++◌, map, length, Option, Some, None, Result, Ok, Err, refl, sym, ap, ◌∙◌}
-use Rattle.std.specs.Prelude.{ℕ, false, true, codes}
+use Rattle.std.specs.Prelude.{ℕ, false, codes}
 use Rattle.std.specs.Option.{option_map}
 use Rattle.rhai_tree.specs.declared.position.Position.{Position}
 use Rattle.rhai_values.specs.declared.base.value.Dynamic.{Dynamic}
@@ -15,7 +15,8 @@ use Rattle.rhai_errors.specs.declared.error.EvalAltResult.{EvalAltResult}
 use Rattle.rhai_functions.specs.declared.function.Function.{Function}
 use Rattle.rhai_machine.specs.language.Setting.{Setting}
 use Rattle.rhai_machine.specs.language.State.{Local}
-use Rattle.rhai_machine.specs.language.Frames.{EnterOnFocus, Frame, Core, core, on_value, ended, Fail}
+use Rattle.rhai_machine.specs.language.Activations.{NoThis, TheFocus}
+use Rattle.rhai_machine.specs.language.Frames.{Frame, Core, core, on_value, ended, Fail}
 use Rattle.rhai_machine.specs.language.Arguments.{linked, linked_core, linked_to}
 use Rattle.rhai_machine.specs.language.Methods.{Method, call_argument, call_core, copied_before, curry_core, entry_core, own_seen}
 use Rattle.rhai_machine.specs.language.Methods.{pointer_alone, pointer_on, pointer_there, unlinked_alone, unlinked_on}
@@ -57,7 +58,7 @@ module _ {H : Type 0} where
         (focus : Dynamic H) →
         pointer_on s found q method called (copied_before q args) focus k l ≡ on_as s found (copy_pointer q) called method.at args focus k l
     copied_on_is (Some f) q method called args focus =
-        sym (ap (λ o. core (EnterOnFocus f true (o.curry ++ args) method.at) k l) (copied_out q))
+        sym (ap (λ o. linked_core f TheFocus method.at (o.curry ++ args) k l) (copied_out q))
     copied_on_is None q method called args focus =
         unlinked_on_is (out-FnPtr H q).kind q method called (copied_before q args) focus
         ∙ sym (ap (λ o. on_by s (native_number_of o.kind) called o.name method.at (o.curry ++ args) focus k l) (copied_out q))
@@ -65,7 +66,7 @@ module _ {H : Type 0} where
     -- a pointer by itself likewise
     copied_alone_is : (found : Option (Function H)) (q : FnPtr H) (at : Position) (args : List (Dynamic H)) →
         pointer_alone s found q at (copied_before q args) k l ≡ alone_as s found (copy_pointer q) at args k l
-    copied_alone_is (Some f) q at args = sym (ap (λ o. linked_core f at (o.curry ++ args) k l) (copied_out q))
+    copied_alone_is (Some f) q at args = sym (ap (λ o. linked_core f NoThis at (o.curry ++ args) k l) (copied_out q))
     copied_alone_is None q at args =
         unlinked_alone_is (out-FnPtr H q).kind q at (copied_before q args)
         ∙ sym (ap (λ o. alone_by s (native_number_of o.kind) o.name at (o.curry ++ args) k l) (copied_out q))

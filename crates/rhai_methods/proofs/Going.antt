@@ -10,10 +10,10 @@ use Rattle.rhai_functions.specs.declared.function.Function.{Function}
 use Rattle.rhai_machine.specs.machine.Memory.{here, ◌⨾◌, Leads}
 use Rattle.rhai_machine.specs.language.Setting.{Rules, cut}
 use Rattle.rhai_machine.specs.language.State.{Answers, Local, State}
-use Rattle.rhai_machine.specs.language.Activations.{NoThis}
+use Rattle.rhai_machine.specs.language.Activations.{ThisFrom}
 use Rattle.rhai_machine.specs.language.Frames.{Operation, Dispatch, Call, EnterFunction, Frame, Core, core, ended, ended_or_changed}
 use Rattle.rhai_machine.specs.language.Frames.{Question, Fail}
-use Rattle.rhai_machine.specs.language.Calls.{call_of, call_races, dispatch_core, entry_of, plainly, races}
+use Rattle.rhai_machine.specs.language.Calls.{call_of, dispatch_core, entry_of, plainly, races}
 use Rattle.rhai_machine.specs.language.Arguments.{linked_core, natives_alone, operation_named}
 use Rattle.rhai_machine.specs.language.Methods.{as_method, number_on_focus, numbered_on, on_focus}
 use Rattle.rhai_machine.specs.language.Runs.{at, with_core, Runs, Steps, Goes}
@@ -22,13 +22,13 @@ use Rattle.rhai_steps.proofs.Pieces.{faulted, told}
 use Rattle.rhai_calls.specs.declared.dispatch.Called.TheVariants.{Ended, Enters}
 use Rattle.rhai_calls.specs.Dispatch.{came_to}
 use Rattle.rhai_calls.specs.ToldChanges.{with_changed}
-use Rattle.rhai_call_forms.proofs.Levels.{IsLevel, call_runs_out_at}
+use Rattle.rhai_call_forms.proofs.Levels.{IsLevel, call_runs_out_at, linked_level}
 use Rattle.rhai_methods.specs.Calls.{named_alone, named_on, number_alone}
 use Rattle.rhai_methods.specs.Methods.{came_from, IsEntered, MethodCall}
-use Rattle.rhai_methods.specs.Parts.{IsLinkedAlone}
+use Rattle.rhai_methods.specs.Parts.{IsKeptOut, IsLinked}
 use Rattle.rhai_methods.specs.declared.calls.MethodEntry.{MethodEntry}
 use Rattle.rhai_methods.specs.declared.calls.MethodEntry.TheVariants.{OnTarget, Alone}
-use Rattle.rhai_methods.proofs.Levels.{came_level, linked_level}
+use Rattle.rhai_methods.proofs.Levels.{came_level}
 
 -- what changed nothing ends as it would by itself
 pub unchanged_call_ends : {H : Type 0} (r : Result (Dynamic H) (EvalAltResult H)) → ended_or_changed (with_changed false r) ≡ ended r
@@ -133,42 +133,44 @@ module _ {S H : Type 0} (rules : Rules S H) (pos : Position) where
         IsEntered call (Alone f args) → Goes rules (named_alone rules.setting name pos args) s (came_from pos call) new
     named_enters_alone runs is = entered_from (named_alone rules.setting name pos args) s new (Alone f args) call is (found_alone runs)
 
-  -- ---- a function that a pointer is linked to, by itself
+  -- ---- a function that a pointer is linked to
 
-  module _ (f : Function H) (args : List (Dynamic H)) (s : State S H) where
+  module _ (f : Function H) (object : ThisFrom) (args : List (Dynamic H)) (wanted : MethodEntry H)
+      (enters : (k : List (Frame H)) (l : Local H) → came_from pos (Enters wanted) k l
+      ≡ core (EnterFunction (entry_of f object true args pos l)) k l) (s : State S H) where
     abbrev held_race : EvalAltResult H
     held_race = error.ErrorDataRace f.def.name pos
 
     abbrev unless_held : Bool → List (Frame H) → Core H
     unless_held held k =
-        if held then core (Fail held_race) k s.local else core (EnterFunction (entry_of f NoThis true args pos s.local)) k s.local
+        if held then core (Fail held_race) k s.local else core (EnterFunction (entry_of f object true args pos s.local)) k s.local
 
     linked_enters : races s.local.around.cells args ≡ false →
-        Goes rules (linked_core f pos args) s (came_from pos (Enters (Alone f args))) s
+        Goes rules (linked_core f object pos args) s (came_from pos (Enters wanted)) s
     unfolding Goes
-    linked_enters free k =
-        subst (λ (held : Bool). Leads (machine rules) (cut rules) (with_core (unless_held held k) s) (with_core (unless_held false k) s))
-        (sym free) here
+    linked_enters free k = rw (enters k s.local)
+        (subst (λ (held : Bool). Leads (machine rules) (cut rules) (with_core (unless_held held k) s) (with_core (unless_held false k) s))
+        (sym free) here)
 
-    linked_errs : (e : EvalAltResult H) → (is_out_of_memory e ≡ false → (races s.local.around.cells args ≡ true) × (e ≡ held_race)) →
-        Goes rules (linked_core f pos args) s (came_from pos (Ended (Err e))) s
-    linked_errs e is = errs_from (linked_core f pos args) s e (λ k. linked_level k s.local rules.setting f pos args)
+    linked_errs : (e : EvalAltResult H) → IsKeptOut s.local.around.cells f args pos e →
+        Goes rules (linked_core f object pos args) s (came_from pos (Ended (Err e))) s
+    linked_errs e is = errs_from (linked_core f object pos args) s e (λ k. linked_level k s.local rules.setting f object pos args)
         (λ m k. subst (λ (x : EvalAltResult H). unless_held (races s.local.around.cells args) k ≡ core (Fail x) k s.local)
         (sym (is m).1) (ap (λ (held : Bool). unless_held held k) (is m).0))
 
     -- it is entered, unless an argument is the handle of a cell that is held
-    pub linked_goes : (call : MethodCall H) → IsLinkedAlone s.local.around.cells f args pos call →
-        Goes rules (linked_core f pos args) s (came_from pos call) s
+    pub linked_goes : (call : MethodCall H) → IsLinked s.local.around.cells f args pos wanted call →
+        Goes rules (linked_core f object pos args) s (came_from pos call) s
     linked_goes (Ended (Err e)) is = linked_errs e is
     linked_goes call is =
-        subst (λ (x : MethodCall H). Goes rules (linked_core f pos args) s (came_from pos x) s) (sym is.1) (linked_enters is.0)
+        subst (λ (x : MethodCall H). Goes rules (linked_core f object pos args) s (came_from pos x) s) (sym is.1) (linked_enters is.0)
 
   -- ---- a native by its number
 
   module _ (number : ℕ) (operation : Operation) (args : List (Dynamic H)) where
     -- it is asked about on the focus
     pub number_asks_on : (focus : Dynamic H) (s new : State S H) (r : Result (Dynamic H × Bool) (EvalAltResult H)) →
-        call_races true s.local.around.cells (focus ∷ args) ≡ false → Steps rules (Question
+        races s.local.around.cells (focus ∷ args) ≡ false → Steps rules (Question
         (number_on_focus number operation args focus)) s (ended_or_changed r) new →
         Goes rules (numbered_on number operation args focus) s (came_from pos (Ended r)) new
     unfolding Goes
@@ -180,7 +182,7 @@ module _ {S H : Type 0} (rules : Rules S H) (pos : Position) where
 
     -- unless an argument's cell is held
     pub number_races_on : (focus : Dynamic H) (s : State S H) (e : EvalAltResult H) →
-        call_races true s.local.around.cells (focus ∷ args) ≡ true →
+        races s.local.around.cells (focus ∷ args) ≡ true →
         (is_out_of_memory e ≡ false → e ≡ error.ErrorDataRace operation.name operation.at) →
         Goes rules (numbered_on number operation args focus) s (came_from pos (Ended (Err e))) s
     number_races_on focus s e held is = fails_from (numbered_on number operation args focus) s e

@@ -13,14 +13,15 @@ use Rattle.rhai_functions.specs.declared.function.Function.{Function}
 use Rattle.rhai_machine.specs.language.Setting.{Setting}
 use Rattle.rhai_machine.specs.language.State.{Local}
 use Rattle.rhai_machine.specs.language.Values.{through}
-use Rattle.rhai_machine.specs.language.Frames.{Operation, Frame, ToCallFunction}
-use Rattle.rhai_machine.specs.language.Calls.{call_of, call_races, plainly}
-use Rattle.rhai_machine.specs.language.Arguments.{linked_core, linked_to, natives_alone, operation_named, pointer_wanted}
+use Rattle.rhai_machine.specs.language.Activations.{NoThis, TheFocus}
+use Rattle.rhai_machine.specs.language.Frames.{Operation, Frame}
+use Rattle.rhai_machine.specs.language.Calls.{call_of, plainly}
+use Rattle.rhai_machine.specs.language.Arguments.{linked_to, natives_alone, operation_named, pointer_wanted}
 use Rattle.rhai_machine.specs.language.Methods.{Method, CallWord, argument_at, as_method, call_argument, call_core, copied_before}
-use Rattle.rhai_machine.specs.language.Methods.{entry_core, numbered_on, on_focus, own_core, own_entry, pointer_alone, pointer_on}
-use Rattle.rhai_machine.specs.language.Methods.{unlinked_alone, unlinked_on, word_core}
+use Rattle.rhai_machine.specs.language.Methods.{entry_core, number_on_focus, numbered_on, on_focus, own_core, own_entry}
+use Rattle.rhai_machine.specs.language.Methods.{pointer_alone, pointer_on, unlinked_alone, unlinked_on, word_core}
 use Rattle.rhai_call_forms.specs.Pointers.{native_number_of}
-use Rattle.rhai_call_forms.proofs.Levels.{IsLevel, dispatch_level, either, number_level, on_level, there_level}
+use Rattle.rhai_call_forms.proofs.Levels.{IsLevel, dispatch_level, linked_level, number_level, on_level}
 use Rattle.rhai_methods.specs.Calls.{alone_by, on_by}
 use Rattle.rhai_methods.specs.Methods.{came_from, MethodCall}
 use Rattle.rhai_methods.specs.Parts.{all_of, alone_as, alone_with, on_as, on_with}
@@ -34,15 +35,10 @@ module _ {H : Type 0} (k : List (Frame H)) (l : Local H) where
   came_level at (Enters (OnTarget f args)) = record { stack = refl; local = refl }
   came_level at (Enters (Alone f args)) = record { stack = refl; local = refl }
 
-  numbered_level : (number : ℕ) (operation : Operation) (args : List (Dynamic H)) (focus : Dynamic H) →
-      IsLevel k l (numbered_on number operation args focus k l)
-  numbered_level number operation args focus =
-      either k l (call_races true l.around.cells (focus ∷ args)) _ _ (record { stack = refl; local = refl }) (record
-      { stack = refl; local = refl })
-
   module _ (s : Setting H) where
-    pub linked_level : (f : Function H) (at : Position) (args : List (Dynamic H)) → IsLevel k l (linked_core f at args k l)
-    linked_level f at args = there_level k l s (ToCallFunction f at []) args
+    numbered_level : (number : ℕ) (operation : Operation) (args : List (Dynamic H)) (focus : Dynamic H) →
+        IsLevel k l (numbered_on number operation args focus k l)
+    numbered_level number operation args focus = number_level k l s (number_on_focus number operation args focus)
 
     -- ---- a call by a number or a name
 
@@ -63,7 +59,7 @@ module _ {H : Type 0} (k : List (Frame H)) (l : Local H) where
 
     on_as_level : (found : Option (Function H)) (p : FnPtr H) (called : List ℕ) (at : Position) (args : List (Dynamic H))
         (focus : Dynamic H) → IsLevel k l (on_as s found p called at args focus k l)
-    on_as_level (Some f) p called at args focus = record { stack = refl; local = refl }
+    on_as_level (Some f) p called at args focus = linked_level k l s f TheFocus at (all_of p args)
     on_as_level None p called at args focus =
         on_by_level (native_number_of (out-FnPtr H p).kind) called (out-FnPtr H p).name at (all_of p args) focus
 
@@ -74,7 +70,7 @@ module _ {H : Type 0} (k : List (Frame H)) (l : Local H) where
 
     alone_as_level : (found : Option (Function H)) (p : FnPtr H) (at : Position) (args : List (Dynamic H)) →
         IsLevel k l (alone_as s found p at args k l)
-    alone_as_level (Some f) p at args = linked_level f at (all_of p args)
+    alone_as_level (Some f) p at args = linked_level k l s f NoThis at (all_of p args)
     alone_as_level None p at args = alone_by_level (native_number_of (out-FnPtr H p).kind) (out-FnPtr H p).name at (all_of p args)
 
     pub alone_with_level : (p : FnPtr H) (at : Position) (args : List (Dynamic H)) → IsLevel k l (alone_with s p at args k l)
@@ -91,7 +87,7 @@ module _ {H : Type 0} (k : List (Frame H)) (l : Local H) where
 
     pointer_level : (found : Option (Function H)) (pointer : FnPtr H) (method : Method) (called : List ℕ) (args : List (Dynamic H))
         (focus : Dynamic H) → IsLevel k l (pointer_on s found pointer method called args focus k l)
-    pointer_level (Some f) pointer method called args focus = record { stack = refl; local = refl }
+    pointer_level (Some f) pointer method called args focus = linked_level k l s f TheFocus method.at args
     pointer_level None pointer method called args focus = unlinked_on_level (out-FnPtr H pointer).kind pointer method called args focus
 
     unlinked_alone_level : (of : FnPtrKind H) (pointer : FnPtr H) (at : Position) (args : List (Dynamic H)) →
@@ -103,7 +99,7 @@ module _ {H : Type 0} (k : List (Frame H)) (l : Local H) where
 
     alone_level : (found : Option (Function H)) (pointer : FnPtr H) (at : Position) (args : List (Dynamic H)) →
         IsLevel k l (pointer_alone s found pointer at args k l)
-    alone_level (Some f) pointer at args = linked_level f at args
+    alone_level (Some f) pointer at args = linked_level k l s f NoThis at args
     alone_level None pointer at args = unlinked_alone_level (out-FnPtr H pointer).kind pointer at args
 
     -- ---- the words

@@ -9,16 +9,15 @@ use Rattle.rhai_values.specs.declared.base.value.FnPtr.{FnPtr, out-FnPtr}
 use Rattle.rhai_functions.specs.declared.function.Function.{Function}
 use Rattle.rhai_machine.specs.language.Setting.{Rules}
 use Rattle.rhai_machine.specs.language.State.{State}
+use Rattle.rhai_machine.specs.language.Activations.{NoThis, TheFocus}
 use Rattle.rhai_machine.specs.language.Arguments.{linked_to}
-use Rattle.rhai_machine.specs.machine.Memory.{here}
 use Rattle.rhai_machine.specs.language.Runs.{Goes}
 use Rattle.rhai_call_forms.specs.Pointers.{native_number_of}
 use Rattle.rhai_methods.specs.Calls.{alone_by, on_by}
-use Rattle.rhai_methods.specs.Methods.{IsEntered, MethodCall, came_from}
-use Rattle.rhai_methods.specs.Parts.{all_of, alone_as, alone_with, name_called, on_as, on_with, IsLinkedAlone}
-use Rattle.rhai_calls.specs.declared.dispatch.Called.TheVariants.{Enters}
-use Rattle.rhai_methods.specs.declared.calls.MethodEntry.TheVariants.{OnTarget}
-use Rattle.rhai_methods.proofs.Going.{begins_alike, entered_from, linked_goes}
+use Rattle.rhai_methods.specs.Methods.{MethodCall, came_from}
+use Rattle.rhai_methods.specs.Parts.{all_of, alone_as, alone_with, name_called, on_as, on_with, IsLinked}
+use Rattle.rhai_methods.specs.declared.calls.MethodEntry.TheVariants.{Alone, OnTarget}
+use Rattle.rhai_methods.proofs.Going.{begins_alike, linked_goes}
 
 -- the name that is given, or else the pointer's own
 pub called_is : {H : Type 0} (p : FnPtr H) (given : Option (Bor (List ℕ))) (own : Bor (List ℕ)) → own.now ≡ (out-FnPtr H p).name →
@@ -71,17 +70,12 @@ module _ {S H : Type 0} (rules : Rules S H) (p : FnPtr H) (at : Position) (args 
 module _ {S H : Type 0} (rules : Rules S H) (p : FnPtr H) (at : Position) (args : List (Dynamic H)) (s : State S H)
     (call : MethodCall H) (f : Function H) where
   -- it is entered by itself
-  pub linked_alone_goes : IsLinkedAlone s.local.around.cells f (all_of p args) at call →
+  pub linked_alone_goes : IsLinked s.local.around.cells f (all_of p args) at (Alone f (all_of p args)) call →
       Goes rules (alone_as rules.setting (Some f) p at args) s (came_from at call) s
-  linked_alone_goes is = linked_goes rules at f (all_of p args) s call is
+  linked_alone_goes is = linked_goes rules at f NoThis (all_of p args) (Alone f (all_of p args)) (λ k l. refl) s call is
 
   -- or on the focus
-  enters_on : (called : List ℕ) (focus : Dynamic H) →
-      Goes rules (on_as rules.setting (Some f) p called at args focus) s (came_from at (Enters (OnTarget f (all_of p args)))) s
-  unfolding Goes
-  enters_on called focus k = here
-
-  pub linked_on_goes : IsEntered call (OnTarget f (all_of p args)) → (called : List ℕ) (focus : Dynamic H) →
-      Goes rules (on_as rules.setting (Some f) p called at args focus) s (came_from at call) s
-  linked_on_goes is called focus = entered_from rules at (on_as rules.setting (Some f) p called at args focus) s s
-      (OnTarget f (all_of p args)) call is (enters_on called focus)
+  pub linked_on_goes : IsLinked s.local.around.cells f (all_of p args) at (OnTarget f (all_of p args)) call → (called : List ℕ)
+      (focus : Dynamic H) → Goes rules (on_as rules.setting (Some f) p called at args focus) s (came_from at call) s
+  linked_on_goes is called focus =
+      linked_goes rules at f TheFocus (all_of p args) (OnTarget f (all_of p args)) (λ k l. refl) s call is

@@ -3,8 +3,8 @@ use Rattle.std.specs.Prelude.{◌≡◌, Bool, true, List, Err}
 use Rattle.rhai_tree.specs.declared.position.Position.{Position}
 use Rattle.rhai_errors.specs.Errors.{is_out_of_memory}
 use Rattle.rhai_machine.specs.language.State.{Local}
-use Rattle.rhai_machine.specs.language.Activations.{NoThis}
-use Rattle.rhai_machine.specs.language.Frames.{EnterFunction, EnterOnFocus, Frame, Core, core, ended_or_changed}
+use Rattle.rhai_machine.specs.language.Activations.{NoThis, TheFocus}
+use Rattle.rhai_machine.specs.language.Frames.{EnterFunction, Frame, Core, core, ended_or_changed}
 use Rattle.rhai_machine.specs.language.Calls.{entry_of}
 use Rattle.rhai_values.specs.declared.base.value.Dynamic.{Dynamic}
 use Rattle.rhai_calls.specs.declared.dispatch.Called.{Called}
@@ -21,7 +21,7 @@ module _ {H : Type 0} where
   -- focus or by itself
   abbrev pub came_from : Position → MethodCall H → List (Frame H) → Local H → Core H
   came_from at (Ended r) k l = core (ended_or_changed r) k l
-  came_from at (Enters (OnTarget function args)) k l = core (EnterOnFocus function true args at) k l
+  came_from at (Enters (OnTarget function args)) k l = core (EnterFunction (entry_of function TheFocus true args at l)) k l
   came_from at (Enters (Alone function args)) k l = core (EnterFunction (entry_of function NoThis true args at l)) k l
 
   -- a function is entered so, unless memory ran out

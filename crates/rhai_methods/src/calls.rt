@@ -64,7 +64,7 @@ fn number_on<H: Host, T: NativeTable<H>>(
         (came_from operation.now.at result)
         (state_of (T.state table.new) global.new scope (lending held target.new)) }
 {
-    if call_races(&global.cells, true, target, args) {
+    if call_races(&global.cells, target, args) {
         return Called::Ended(Err(data_race_by(session.alloc, operation.name, operation.at)));
     }
     Called::Ended(call_number_on(session, global, table, id, operation, target, args))

@@ -11,12 +11,12 @@ ghost use Rattle.rhai_steps.specs.Agreement.{KeepsSight};
 ghost use Rattle.rhai_steps.specs.Sessions.{under};
 ghost use Rattle.rhai_steps.specs.States.{state_of};
 ghost use Rattle.rhai_steps.specs.OnFocus.{lending};
-ghost use Rattle.rhai_methods.specs.Methods.{IsEntered, came_from};
+ghost use Rattle.rhai_methods.specs.Methods.{came_from};
 ghost use Rattle.rhai_methods.specs.Parts.{all_of, alone_as, alone_with, name_called, on_as, on_with};
-ghost use Rattle.rhai_methods.specs.Parts.{IsLinkedAlone};
-ghost use Rattle.rhai_methods.specs.declared.calls.MethodEntry.TheVariants.{OnTarget};
+ghost use Rattle.rhai_methods.specs.Parts.{AreLinked, IsLinked};
+ghost use Rattle.rhai_methods.specs.declared.calls.MethodEntry.TheVariants.{Alone, OnTarget};
 
-use crate::calls::{MethodEntry, call_alone, call_named_on, call_on, on_target};
+use crate::calls::{MethodEntry, call_alone, call_named_on, call_on};
 use crate::copies::{curried, no_pointer, own_pointer, pointer_copy, take_behind};
 use crate::words::{MethodWord, word_of};
 use rhai_call_forms::linked::function_linked;
@@ -26,6 +26,7 @@ use rhai_calls::native::tell_changed;
 use rhai_errors::error::EvalAltResult;
 use rhai_errors::errors::data_race_by;
 use rhai_errors::table::NativeTable;
+use rhai_few::Few;
 use rhai_functions::function::Function;
 use rhai_state::session::Session;
 use rhai_state::state::GlobalRuntimeState;
@@ -50,6 +51,37 @@ fn linked_with<H: Host>(
     function_linked(pointer, args.len(), lib)
 }
 
+/// Gets all that a pointer is called with, for the function that it is linked to.
+///
+/// # Errors
+/// All at the call: `ErrorDataRace` under the function's name for an argument that is the handle of a cell
+/// which is held, and `ErrorOutOfMemory`.
+fn linked_args<H: Host>(
+    alloc: Global,
+    cells: &CellStore<H>,
+    function: &Function<H>,
+    pointer: FnPtr<H>,
+    args: &mut [Dynamic<H>],
+    pos: Position,
+) -> Result<Few<Dynamic<H>>, EvalAltResult<H>>
+    ensures { AreLinked (cells_of cells.now) function.now (all_of pointer args.old) pos result }
+{
+    let (name, curried, _) = parts_of(pointer);
+    drop(name);
+    match take_behind(alloc, curried, args, pos) {
+        Err(error) => Err(error),
+        Ok(all) => {
+            if races(cells, all.as_slice()) {
+                let called = function.def.get().def().name.get().as_str();
+                let error = data_race_by(alloc, called, pos);
+                drop(all);
+                return Err(error);
+            }
+            Ok(all)
+        }
+    }
+}
+
 /// Answers that a function which a pointer is linked to is to be entered by itself. It gets all that the
 /// pointer is called with.
 fn enter_linked_alone<H: Host>(
@@ -60,24 +92,14 @@ fn enter_linked_alone<H: Host>(
     args: &mut [Dynamic<H>],
     pos: Position,
 ) -> Called<(Dynamic<H>, bool), MethodEntry<H>, H>
-    ensures { IsLinkedAlone (cells_of cells.now) function (all_of pointer args.old) pos result }
+    ensures { IsLinked (cells_of cells.now) function (all_of pointer args.old) pos
+        (Alone function (all_of pointer args.old)) result }
 {
-    let (name, curried, _) = parts_of(pointer);
-    drop(name);
-    match take_behind(alloc, curried, args, pos) {
+    match linked_args(alloc, cells, &function, pointer, args, pos) {
+        Ok(all) => Called::Enters(MethodEntry::Alone(function, all)),
         Err(error) => {
             drop(function);
             Called::Ended(Err(error))
-        }
-        Ok(all) => {
-            if races(cells, all.as_slice()) {
-                let called = function.def.get().def().name.get().as_str();
-                let error = data_race_by(alloc, called, pos);
-                drop(all);
-                drop(function);
-                return Called::Ended(Err(error));
-            }
-            Called::Enters(MethodEntry::Alone(function, all))
         }
     }
 }
@@ -154,16 +176,22 @@ fn call_pointer<H: Host, T: NativeTable<H>>(
 /// pointer is called with.
 fn enter_linked_on<H: Host>(
     alloc: Global,
+    cells: &CellStore<H>,
     function: Function<H>,
     pointer: FnPtr<H>,
     args: &mut [Dynamic<H>],
     pos: Position,
 ) -> Called<(Dynamic<H>, bool), MethodEntry<H>, H>
-    ensures { IsEntered result (OnTarget function (all_of pointer args.old)) }
+    ensures { IsLinked (cells_of cells.now) function (all_of pointer args.old) pos
+        (OnTarget function (all_of pointer args.old)) result }
 {
-    let (name, curried, _) = parts_of(pointer);
-    drop(name);
-    on_target(alloc, function, curried, args, pos)
+    match linked_args(alloc, cells, &function, pointer, args, pos) {
+        Ok(all) => Called::Enters(MethodEntry::OnTarget(function, all)),
+        Err(error) => {
+            drop(function);
+            Called::Ended(Err(error))
+        }
+    }
 }
 
 /// Calls a pointer that is no function's on the focus. A native by its number is called under this name, or
@@ -228,7 +256,14 @@ fn call_pointer_on<H: Host, T: NativeTable<H>>(
         (state_of (T.state table.new) global.new scope (lending held target.new)) }
 {
     match linked_with(&pointer, args, global.lib.as_slice()) {
-        Ok(Some(function)) => enter_linked_on(session.alloc, function, pointer, args, pos),
+        Ok(Some(function)) => enter_linked_on(
+            session.alloc,
+            &global.cells,
+            function,
+            pointer,
+            args,
+            pos,
+        ),
         Ok(None) => unlinked_on(session, global, table, pointer, called, target, args, pos),
         Err(_) => {
             drop(pointer);

@@ -5,7 +5,7 @@ ghost use Rattle.std.specs.Prelude.{◌≡◌, ◌<◌, length, Ok, Some, None, 
 ghost use Rattle.std.specs.Prelude.{MatchResult, true};
 ghost use Rattle.std.specs.Borrow.{sem};
 ghost use Rattle.std.specs.Option.{option_copied};
-ghost use Rattle.rhai_tree.specs.Lookup.{place_of, rank, with_entry};
+ghost use Rattle.rhai_tree.specs.Lookup.{paired, place_of, rank, with_entry};
 ghost use Rattle.rhai_values.specs.Cells.{cells_of};
 ghost use Rattle.rhai_values.specs.Copy.{plain};
 ghost use Rattle.rhai_errors.specs.Errors.{is_out_of_memory};
@@ -147,9 +147,9 @@ fn insert_unit<H: Host>(
     entries: &mut Table<Dynamic<H>>,
     key: &Shared<Text>,
 ) -> Result<usize, AllocError>
-    requires { place_of key.now entries.old.0 ≡ None }
-    ensures ok { IfOk result (λ at. (at ≡ rank key.now entries.old.0) × (at < length entries.new.1)) }
-    ensures entries { OnOk result (entries.new ≡ with_entry key.now (plain value.Unit) entries.old) }
+    requires { place_of key.now (paired entries.old).0 ≡ None }
+    ensures ok { IfOk result (λ at. (at ≡ rank key.now (paired entries.old).0) × (at < length entries.new.1)) }
+    ensures entries { OnOk result (entries.new ≡ with_entry key.now (plain value.Unit) (paired entries.old)) }
     ensures err { OnErr result (entries.new ≡ entries.old) }
 {
     let _as_many = entries.len();

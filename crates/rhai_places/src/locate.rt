@@ -3,6 +3,7 @@
 
 ghost use Rattle.std.specs.Prelude.{◌≡◌, ◌<◌, ◌≤◌, length, IfOk, IfSome, unsigned_abs};
 ghost use Rattle.std.specs.Str.{chars};
+ghost use Rattle.rhai_tree.specs.Lookup.{paired};
 ghost use Rattle.rhai_values.specs.Layers.{layer_of};
 ghost use Rattle.rhai_spots.specs.Indexing.{index_in, slice_start, slice_spot, in_integer, in_text};
 ghost use Rattle.rhai_spots.specs.Indexing.{in_array, in_blob, in_map, located};
@@ -178,7 +179,7 @@ fn locate_byte<H>(count: usize, index: &Union<H>) -> Result<Spot, Refusal>
 }
 
 fn locate_key<H>(entries: &Table<Dynamic<H>>, index: &Union<H>) -> Result<Spot, Refusal>
-    ensures spot { result ≡ in_map entries.now.0 (out-Union H index.now) }
+    ensures spot { result ≡ in_map (paired entries.now).0 (out-Union H index.now) }
     ensures there { IfOk result (λ at. IsOfMap (length entries.now.1) at) }
 {
     let _as_many = entries.len();

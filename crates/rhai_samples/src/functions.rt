@@ -141,6 +141,15 @@ pub const VARIABLE_DECLARED: &[Part<'_>] = &[
     Function("keep", &["n"]),
 ];
 
+/// `fn m() { is_shared(this) }`
+pub const THIS_ASKED: &[Part<'_>] = &[
+    This(21),
+    Call("is_shared", 1, 11),
+    Value,
+    Block(1, 9, 27),
+    Function("m", &[]),
+];
+
 /// `fn g() { 1 }`
 pub const FUNCTION_G: &[Part<'_>] = &[Int(1, 10), Value, Block(1, 8, 12), Function("g", &[])];
 

@@ -5,7 +5,7 @@ use Rattle.std.specs.Option.{option_map}
 use Rattle.std.proofs.lemmas.List.Edits.{length-insert}
 use Rattle.std.proofs.lemmas.List.Quantifiers.{position-Some}
 use Rattle.std.proofs.lemmas.List.Sums.{prefix_len-le-length}
-use Rattle.rhai_tree.specs.Lookup.{place_of, rank, put_at, with_entry}
+use Rattle.rhai_tree.specs.Lookup.{paired, place_of, rank, put_at, with_entry}
 use Rattle.rhai_values.specs.declared.base.value.FnPtrKind.TheOpen as layer
 use Rattle.rhai_values.specs.Layers.{UnionLayer}
 use Rattle.rhai_spots.specs.declared.spot.Refusal.{Refusal}
@@ -93,7 +93,7 @@ module _ {H : Type 0} where
   keyless (layer.Str text) index e = absurd (no_key _ (in_text_found _ index) e)
   keyless (layer.Array items) index e = absurd (no_key _ (in_array_found _ index) e)
   keyless (layer.Blob bytes) index e = absurd (no_key _ (in_blob_found _ index) e)
-  keyless (layer.Map entries) (layer.Str key) e = key_missing (place_of key entries.0) _ refl e
+  keyless (layer.Map entries) (layer.Str key) e = key_missing (place_of key (paired entries).0) _ refl e
   keyless (layer.Map entries) index e = absurd (no_key _ refl e)
   keyless source index e = absurd (no_key _ refl e)
 

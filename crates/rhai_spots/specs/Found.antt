@@ -1,6 +1,6 @@
 -- What an index gives: the spot where it leads once a missing key is inserted, or the error.
 use Rattle.std.specs.Prelude.{◌≡◌, ℕ, ⊤, Bool, true, false, if◌then◌else◌, ◌||◌, List, [], Option, Some, None, Result, Ok, Err}
-use Rattle.rhai_tree.specs.Lookup.{place_of, rank, with_entry}
+use Rattle.rhai_tree.specs.Lookup.{paired, place_of, rank, with_entry}
 use Rattle.rhai_values.specs.Cells.{value_of_cell}
 use Rattle.rhai_values.specs.Copy.{plain}
 use Rattle.rhai_errors.specs.Errors.{is_out_of_memory}
@@ -26,13 +26,13 @@ module _ {H : Type 0} where
 
   -- a map and a key that it does not have
   abbrev pub IsKeyless : (source index : UnionLayer H) → Type 0
-  IsKeyless (layer.Map entries) (layer.Str key) = place_of key entries.0 ≡ None
+  IsKeyless (layer.Map entries) (layer.Str key) = place_of key (paired entries).0 ≡ None
   IsKeyless _ _ = ⊥
 
   -- a map with `()` under one more key, and the spot of that key
   abbrev pub with_key : Dynamic H → (source index : UnionLayer H) → Dynamic H × Spot
   with_key source (layer.Map entries) (layer.Str key) =
-      (record source { value = value.Map (with_entry key (plain value.Unit) entries) }, spot.Value (rank key entries.0))
+      (record source { value = value.Map (with_entry key (plain value.Unit) (paired entries)) }, spot.Value (rank key (paired entries).0))
   with_key source _ _ = (source, spot.Missing)
 
   -- an index is a text

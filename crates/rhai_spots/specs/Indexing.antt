@@ -3,7 +3,7 @@ use Rattle.std.specs.Prelude.{ℕ, suc, ◌+◌, ◌-◌, min, max, ℤ, pos, ne
 use Rattle.std.specs.Prelude.{None, option_map, Result, Ok, Err, ok_or}
 use Rattle.std.specs.Ordering.{int_eq}
 use Rattle.std.specs.Str.{chars}
-use Rattle.rhai_tree.specs.Lookup.{place_of}
+use Rattle.rhai_tree.specs.Lookup.{paired, place_of}
 use Rattle.rhai_errors.specs.declared.error.Bounds.{Bounds}
 use Rattle.rhai_values.specs.declared.base.value.FnPtrKind.TheOpen as layer
 use Rattle.rhai_values.specs.Layers.{UnionLayer}
@@ -91,7 +91,7 @@ module _ {H : Type 0} where
   in_blob count (layer.Int i) = ok_or (option_map (λ at. spot.Byte at) (index_in count i)) (refusal.ArrayBounds (bounds count i))
   in_blob count _ = Err refusal.WantsInteger
 
-  -- an index into a map with these keys: a text, which may be no key of it
+  -- an index into a map with these keys, each of which has a value: a text, which may be no key of it
   abbrev pub in_map : (keys : List (List ℕ)) → UnionLayer H → Result Spot Refusal
   in_map keys (layer.Str key) = Ok (key_spot (place_of key keys))
   in_map keys _ = Err refusal.WantsText
@@ -102,5 +102,5 @@ module _ {H : Type 0} where
   located (layer.Str text) index = in_text (length (chars text)) index
   located (layer.Array items) index = in_array (length items) index
   located (layer.Blob bytes) index = in_blob (length bytes) index
-  located (layer.Map entries) index = in_map entries.0 index
+  located (layer.Map entries) index = in_map (paired entries).0 index
   located _ index = Err refusal.NotIndexed

@@ -19,7 +19,7 @@ use Rattle.rhai_machine.specs.language.Setting.{Setting, Rules, cut}
 use Rattle.rhai_machine.specs.language.State.{State, Local, HasMemory, Answers}
 use Rattle.rhai_machine.specs.language.Frames.{Back, Call, Control, Core, Dispatch, Fail, Frame, core, ended, on_value}
 use Rattle.rhai_machine.specs.language.Calls.{applied, called_core, called_function, dispatch_core, enter_core, found_core}
-use Rattle.rhai_machine.specs.language.Calls.{asks_function, call_races, dispatch_behind, function_behind, knows_asked, named_core}
+use Rattle.rhai_machine.specs.language.Calls.{asks_function, dispatch_behind, function_behind, knows_asked, named_core, races}
 use Rattle.rhai_machine.specs.language.Calls.{operator_core, plainly}
 use Rattle.rhai_machine.specs.language.Calls.{signature, types_of}
 use Rattle.rhai_machine.specs.language.Values.{bool_value, through}
@@ -82,7 +82,7 @@ module _ {H : Type 0} (s : Setting H) (how : Dispatch) (call : Call H) (k : List
   wants_on (Err e) pos = refl
 
   wants_behind : (path : List (List ℕ)) (pos : Position) → without_memory pos (dispatch_behind s path how call k l) ≡ fails_at pos
-  wants_behind [] pos = wants_dispatched (call_races how.of_method l.around.cells call.args) pos
+  wants_behind [] pos = wants_dispatched (races l.around.cells call.args) pos
   wants_behind (root ∷ path) pos = wants_on (function_behind s root path how call l) pos
 
   -- so it does before a call is dispatched

@@ -14,8 +14,9 @@ use Rattle.std.specs.Cmp.Lexicographic.{slice_cmp}
 use Rattle.std.specs.List.{position, position_or_len}
 use Rattle.std.specs.Str.{bytes_eq}
 use Rattle.rhai_tree.specs.Ascending.{is_before, is_below, is_ascending}
-use Rattle.rhai_tree.specs.Lookup.{place_of, rank}
+use Rattle.rhai_tree.specs.Lookup.{paired, place_of, rank}
 use Rattle.std.specs.List.{insert, remove}
+use Rattle.std.proofs.Common.{take, take_all}
 
 abbrev pub compare : List ℕ → List ℕ → Ordering
 compare = slice_cmp nat_cmp
@@ -202,3 +203,9 @@ module _ (key : List ℕ) where
 pub insert_ascends : (key : List ℕ) (keys : List (List ℕ)) → is_ascending keys ≡ true → place_of key keys ≡ None →
     is_ascending (insert keys (rank key keys) key) ≡ true
 insert_ascends key keys up absent = ascends_with key keys up (none_passes (λ k. bytes_eq k key) keys absent)
+
+-- a map with as many keys as values has them all as entries
+pub paired_same : {T : Type 0} → (t : List (List ℕ) × List T) → length t.0 ≡ length t.1 → paired t ≡ t
+paired_same (keys, xs) same =
+    ap (λ ks. (ks, take (length keys) xs)) (take_all (length xs) keys (omega arith))
+    ∙ ap (λ ys. (keys, ys)) (take_all (length keys) xs (omega arith))

@@ -1,4 +1,4 @@
--- Which forms of the tree are there.
+-- What a part of the tree is told by: names without a path, options of statements and chains, catch variables, aliases.
 use Rattle.std.specs.Prelude.{ℕ, Bool, true, false, if◌then◌else◌, ◌&&◌, ◌||◌, ◌==◌, List, [], ◌∷◌, Option, Some, None, codes}
 use Rattle.std.specs.Int.RustNames.{bit_and}
 use Rattle.std.specs.Str.{bytes_eq}

@@ -1,5 +1,5 @@
--- What a run may rely on in a part of a checked tree: it has forms that are there alone, a list counts the links of each chain, each offset
--- is that of the newest variable of its name in the scope, and each index of a path that of the newest import of its root's name.
+-- What a run may rely on in a part of a checked tree: a list counts the links of each chain, each offset is that of the newest variable of
+-- its name in the scope, and each index of a path that of the newest import of its root's name.
 use Rattle.std.specs.declared.num.NonZeroUsize.{NonZeroUsize}
 use Rattle.std.specs.Prelude.{Bool, false, IsTrue, List, [], ◌∷◌, ◌++◌, map, Option, Some, None, option_map}
 use Rattle.rhai_tree.specs.Types.{ASTFlags, ConditionalExpr, Expr, FnCallExpr, Ident, MapEntry, Namespace, Position, ScriptFuncDef}

@@ -1,5 +1,5 @@
 -- Where a key stands among ascending keys, and the value that a map has for it.
-use Rattle.std.specs.Prelude.{ℕ, not, List, slice_get, slice_set, insert, Option, Some, None, option_and_then, position}
+use Rattle.std.specs.Prelude.{ℕ, not, List, length, take, slice_get, slice_set, insert, Option, Some, None, option_and_then, position}
 use Rattle.std.specs.List.{position_or_len}
 use Rattle.std.specs.Str.{bytes_eq}
 use Rattle.rhai_tree.specs.Ascending.{is_before}
@@ -11,6 +11,10 @@ place_of key keys = position (λ k. bytes_eq k key) keys
 -- where a key stands or would go: at the first key that does not come before it, or at the end
 abbrev pub rank : List ℕ → List (List ℕ) → ℕ
 rank key keys = position_or_len (λ k. not (is_before k key)) keys
+
+-- the entries of a map: its keys that have a value, and its values that have a key, which are all of them in any map that a run has
+abbrev pub paired : {T : Type 0} → List (List ℕ) × List T → List (List ℕ) × List T
+paired t = (take (length t.1) t.0, take (length t.0) t.1)
 
 -- the value that a map has for a key, if the key is there
 abbrev pub value_of : {T : Type 0} → List ℕ → List (List ℕ) × List T → Option T

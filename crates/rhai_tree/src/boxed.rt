@@ -6,7 +6,6 @@ use std::alloc::{AllocError, AllocFailed, Global};
 use std::marker::Model;
 
 /// A `Box` that contracts see as its value.
-#[derive(Debug)]
 pub struct Boxed<T> {
     inner: Box<T>,
 }

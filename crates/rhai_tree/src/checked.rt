@@ -10,9 +10,15 @@ use crate::{Items, Shared};
 use std::marker::Model;
 
 /// A script function that the checker passed.
-#[derive(Drop)]
 pub struct CheckedFn {
     def: ScriptFuncDef,
+}
+
+// Written by hand, so that the crates above call this, and need not go through the field.
+impl Drop for CheckedFn {
+    fn drop(self) {
+        let CheckedFn { def: _ } = self;
+    }
 }
 
 impl Model for CheckedFn {
@@ -53,10 +59,19 @@ impl CheckedFn {
 }
 
 /// A tree that the checker passed: its statements, and the functions that stand beside them.
-#[derive(Drop)]
 pub struct CheckedTree {
     statements: Items<Stmt>,
     functions: Items<Shared<CheckedFn>>,
+}
+
+// Written by hand for the same reason.
+impl Drop for CheckedTree {
+    fn drop(self) {
+        let CheckedTree {
+            statements: _,
+            functions: _,
+        } = self;
+    }
 }
 
 impl Model for CheckedTree {

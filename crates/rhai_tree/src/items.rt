@@ -11,7 +11,6 @@ use std::alloc::{AllocError, AllocFailed, Global};
 use std::marker::Model;
 
 /// A `Vec` that contracts see as the list of its items.
-#[derive(Debug)]
 pub struct Items<T> {
     items: Vec<T>,
 }

@@ -6,6 +6,7 @@
 
 mod boxed;
 pub mod checked;
+mod debug;
 pub mod expr;
 pub mod fault;
 pub mod flags;

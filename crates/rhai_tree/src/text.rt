@@ -6,7 +6,6 @@ use std::alloc::{AllocError, Global};
 use std::marker::Model;
 
 /// A `String` that contracts see as its bytes.
-#[derive(Debug)]
 pub struct Text {
     text: String,
 }

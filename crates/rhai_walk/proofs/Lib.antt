@@ -2,7 +2,6 @@ pub mod Beginning
 mod Below
 pub mod Descending
 pub mod Entering
-pub mod FreeFocus
 mod GivenAtOnce
 pub mod Inside
 pub mod PartCalls

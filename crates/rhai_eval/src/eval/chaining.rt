@@ -31,7 +31,7 @@ use rhai_values::base::value::{Dynamic, Host};
 use std::alloc::Global;
 
 /// How an expression goes on from its first part. Ports upstream's `ChainType`.
-#[derive(Clone, Copy, Debug, PartialEq, Eq)]
+#[derive(Clone, Copy, Debug, PartialEq, Eq, Hash)]
 pub enum ChainType {
     /// By an index.
     Indexing,

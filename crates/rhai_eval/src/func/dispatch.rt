@@ -8,8 +8,9 @@ ghost use Rattle.rhai_values.specs.Copy.{copy_of};
 ghost use Rattle.rhai_errors.specs.Errors.{is_out_of_memory};
 ghost use Rattle.rhai_errors.specs.Native.{left_by, lent_value};
 ghost use Rattle.rhai_state.specs.Scope.{names_in};
-ghost use Rattle.rhai_machine.specs.language.Calls.{dispatch_core};
-ghost use Rattle.rhai_machine.specs.language.Frames.{EnterOnFocus, core, ended_or_changed};
+ghost use Rattle.rhai_machine.specs.language.Activations.{TheFocus};
+ghost use Rattle.rhai_machine.specs.language.Calls.{dispatch_core, entry_of};
+ghost use Rattle.rhai_machine.specs.language.Frames.{EnterFunction, core, ended_or_changed};
 ghost use Rattle.rhai_machine.specs.language.State.{Answers};
 ghost use Rattle.rhai_machine.specs.language.Values.{unit_value as unit};
 ghost use Rattle.rhai_machine.specs.language.Runs.{Goes, Steps};
@@ -17,7 +18,7 @@ ghost use Rattle.rhai_steps.specs.Operations.{operation_of};
 ghost use Rattle.rhai_steps.specs.OnFocus.{lending};
 ghost use Rattle.rhai_methods.specs.Methods.{IsEntered};
 ghost use Rattle.rhai_methods.specs.declared.calls.MethodEntry.TheVariants.{Alone, OnTarget};
-ghost use Rattle.rhai_steps.specs.States.{state_of};
+ghost use Rattle.rhai_steps.specs.States.{local_of, state_of};
 ghost use Rattle.rhai_laws.specs.Kept.{Kept};
 ghost use Rattle.rhai_eval.specs.Ends.{EndsChanged};
 ghost use Rattle.rhai_eval.specs.Entering.{came_out, IsByItself, came_to};
@@ -354,7 +355,10 @@ impl<H: Host> Engine<H> {
         args: Few<Dynamic<H>>,
         pos: Position,
     ) -> Result<(Dynamic<H>, bool), EvalAltResult<H>>
-        ensures runs { (scope : _) (held : _) → Steps (under H.name_of self.now T.natives) (EnterOnFocus function true args pos)
+        ensures runs { (scope : _) (held : _) →
+            let caller = local_of global.old scope (lending held place.old) in
+            Steps (under H.name_of self.now T.natives)
+            (EnterFunction (entry_of function TheFocus true args pos caller))
             (state_of (T.state table.old) global.old scope (lending held place.old)) (ended_or_changed result)
             (state_of (T.state table.new) global.new scope (lending held place.new)) }
         ensures search { global.new.always_search_scope ≡ global.old.always_search_scope }
@@ -385,7 +389,9 @@ impl<H: Host> Engine<H> {
         args: Few<Dynamic<H>>,
         pos: Position,
     ) -> Result<(Dynamic<H>, bool), EvalAltResult<H>>
-        ensures runs { (held : _) → Steps (under H.name_of self.now T.natives) (EnterOnFocus function false args pos)
+        ensures runs { (held : _) → let caller = local_of global.old scope.old (lending held place.old) in
+            Steps (under H.name_of self.now T.natives)
+            (EnterFunction (entry_of function TheFocus false args pos caller))
             (state_of (T.state table.old) global.old scope.old (lending held place.old))
             (ended_or_changed result)
             (state_of (T.state table.new) global.new scope.new (lending held place.new)) }
@@ -393,9 +399,7 @@ impl<H: Host> Engine<H> {
     {
         let mut run = take(alloc, global, scope);
         let evaluator = self.evaluator(alloc);
-        let result = enter_with_this(
-            &evaluator, alloc, &mut run, table, function, place, args, pos,
-        );
+        let result = enter_with_this(&evaluator, &mut run, table, function, place, args, pos);
         give_back(run, global, scope);
         tell_changed(result, false)
     }
@@ -471,19 +475,21 @@ impl<H: Host> Engine<H> {
     /// value comes whether a native gave it that is not pure. Ports upstream's `exec_fn_call`.
     ///
     /// A function of a script runs one level deeper, on the variables of the scope where there is one; its
-    /// own go at its end. For a method it has the first argument as its `this`, in its own place, and no
-    /// other argument may lead to the cell of that. Otherwise it gets all arguments, of a first one in a
-    /// place of the caller (`is_ref_mut`) a copy. All arguments are used up, whatever the call comes to: `()`
-    /// stands in their places, but in that of a first one that is lent. Without a first argument the others
-    /// stay.
+    /// own go at its end. For a method it has the first argument as its `this`, in its own place. Otherwise
+    /// it gets all arguments, of a first one in a place of the caller (`is_ref_mut`) a copy. All arguments are
+    /// used up, whatever the call comes to: `()` stands in their places, but in that of a first one that is
+    /// lent. Without a first argument the others stay.
+    ///
+    /// A method on the handle of a cell holds nothing: its `this` is the handle, which is entered where it is
+    /// used. A native holds the cell while it runs, after its charge. So another argument may be a handle of
+    /// that cell too.
     ///
     /// Asked: a first argument where `is_ref_mut` or `is_method_call` is set. Where there is no first
     /// argument the call has none.
     ///
     /// # Errors
-    /// At the call: `ErrorDataRace` for an argument that is the handle of a cell which is held, by the first
-    /// argument of a method too; `ErrorFunctionNotFound` for `eval`; and those of `call_script_fn` and
-    /// `exec_native_fn_call`.
+    /// At the call: `ErrorDataRace` for an argument that is the handle of a cell which is held;
+    /// `ErrorFunctionNotFound` for `eval`; and those of `call_script_fn` and `exec_native_fn_call`.
     pub fn exec_fn_call<T: NativeTable<H>>(
         &self,
         alloc: Global,

@@ -25,7 +25,7 @@ use Rattle.rhai_machine.specs.language.Setting.{Globals, Setting, globals_of}
 use Rattle.rhai_machine.specs.language.State.{Local, Surroundings}
 use Rattle.rhai_machine.specs.language.Values.{Cells, bool_value, flat, is_handle, through}
 use Rattle.rhai_machine.specs.language.Functions.{Function, in_libraries, key_by}
-use Rattle.rhai_machine.specs.language.Activations.{NoThis}
+use Rattle.rhai_machine.specs.language.Activations.{ThisFrom, NoThis}
 use Rattle.rhai_machine.specs.language.Variables.{Path, Variable, path_of, variable_in}
 use Rattle.rhai_machine.specs.language.Names.{Meaning, AtEntry, AsTemporary, bound_this, meant}
 use Rattle.rhai_machine.specs.language.Places.{is_constant}
@@ -211,11 +211,12 @@ module _ {H : Type 0} where
   abbrev pub linked_to : FnPtr H → (count : ℕ) → List (Module H) → Option (Function H)
   linked_to pointer count lib = linked (out-FnPtr H pointer).kind (out-FnPtr H pointer).name count lib
 
-  -- a linked function is entered with all its arguments; one that is the handle of a held cell is a data race under the function's name
-  abbrev pub linked_core : Function H → Position → List (Dynamic H) → List (Frame H) → Local H → Core H
-  linked_core function at args k l =
+  -- a linked function is entered with all its arguments, and the `this` that it has; an argument that is the handle of a held cell is a
+  -- data race under the function's name
+  abbrev pub linked_core : Function H → ThisFrom → Position → List (Dynamic H) → List (Frame H) → Local H → Core H
+  linked_core function object at args k l =
       if races l.around.cells args then core (Fail (error.ErrorDataRace function.def.name at)) k l
-      else core (EnterFunction (entry_of function NoThis true args at l)) k l
+      else core (EnterFunction (entry_of function object true args at l)) k l
 
   -- the native of a number is asked without a charge; an argument that is the handle of a held cell is a data race
   abbrev pub numbered_core : Call H → List (Frame H) → Local H → Core H
@@ -232,7 +233,7 @@ module _ {H : Type 0} where
         (λ call. dispatch_core s how call k l) k l
     arguments_there (ToCallOnThis operation this_at how) args k l =
         on_value (bound_this this_at l.this) (λ v. dispatch_core s how (lent_this operation args v) k l) k l
-    arguments_there (ToCallFunction function at curried) args k l = linked_core function at (curried ++ args) k l
+    arguments_there (ToCallFunction function at curried) args k l = linked_core function NoThis at (curried ++ args) k l
     arguments_there (ToCallNumber number operation curried) args k l =
         numbered_core (record (call_of operation (curried ++ args)) { number = Some number }) k l
     arguments_there (ToCurry pointer) args k l = core (Back (with_curried pointer args)) k l

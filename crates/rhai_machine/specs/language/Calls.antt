@@ -28,8 +28,7 @@ use Rattle.rhai_machine.specs.language.Functions.{Function, found_function, key_
 use Rattle.rhai_machine.specs.language.Variables.{Path, no_path}
 use Rattle.rhai_machine.specs.language.Activations.{ThisFrom, NoThis, TheFocus, Entered}
 use Rattle.rhai_machine.specs.language.Frames.{Operation, Lender, FromEntry, FromThis, FromFocus, Dispatch, Call, Control, Frame, Core}
-use Rattle.rhai_machine.specs.language.Frames.{core, on_value, ended, changed, Ask, EnterFunction, EnterOnFocus, Fire, Back, Fail}
-use Rattle.rhai_machine.specs.language.Handles.{entered, focus_of}
+use Rattle.rhai_machine.specs.language.Frames.{core, on_value, ended, changed, Ask, EnterFunction, Fire, Back, Fail}
 
 -- further texts of a row, each after a comma and a blank
 abbrev pub more : List (List ℕ) → List ℕ
@@ -230,22 +229,6 @@ module _ {H : Type 0} where
   races cells [] = false
   races cells (v ∷ args) = is_held cells v.value || races cells args
 
-  -- whether two values are handles of the same cell
-  abbrev pub is_same_cell : Union H → Union H → Bool
-  is_same_cell (value.Cell id) (value.Cell other) = nat_eq id.number other.number
-  is_same_cell _ _ = false
-
-  -- whether an argument is a handle of the cell that the focus is a handle of
-  abbrev pub leads_there : Union H → List (Dynamic H) → Bool
-  leads_there object [] = false
-  leads_there object (v ∷ args) = is_same_cell object v.value || leads_there object args
-
-  -- whether an argument is the handle of a held cell; of a method also of the cell that its focus is a handle of, since that is entered
-  abbrev pub call_races : (of_method : Bool) → Cells H → List (Dynamic H) → Bool
-  call_races false cells args = races cells args
-  call_races true cells [] = false
-  call_races true cells (v ∷ args) = races cells (v ∷ args) || leads_there v.value args
-
   -- whether two values are a function's name and a number of parameters
   abbrev pub names_function : Union H → Union H → Bool
   names_function (value.Str name) (value.Int count) = true
@@ -296,20 +279,10 @@ module _ {H : Type 0} where
     at = at;
   }
 
-  -- a function is entered on the focus; an argument that is the handle of a held cell is a data race under the function's name
-  abbrev pub inside_core : Function H → (is_fresh : Bool) → (args : List (Dynamic H)) → Position → List (Frame H) → Local H → Core H
-  inside_core function is_fresh args at k l =
-      if races l.around.cells args then core (Fail (error.ErrorDataRace function.def.name at)) k l
-      else core (EnterFunction (entry_of function TheFocus is_fresh args at l)) k l
-
-  -- a function is entered on the focus; of a handle on the cell's value, and the cell is held meanwhile
-  abbrev pub focus_core : Function H → (is_fresh : Bool) → (args : List (Dynamic H)) → Position → List (Frame H) → Local H → Core H
-  focus_core function is_fresh args at k l = on_value (through l.around.cells (focus_of l) at)
-      (λ inner. entered inner (λ k l. inside_core function is_fresh args at k l) k l) k l
-
-  -- the function that a call found is entered: a method on the focus, and any other with all its arguments
+  -- The function that a call found is entered: a method has the focus as its `this`, a handle too, and any other gets all its arguments.
   abbrev pub enter_core : (of_method : Bool) → Function H → Dispatch → Call H → List (Frame H) → Local H → Core H
-  enter_core true function how call k l = core (EnterOnFocus function (not how.on_scope) (drop 1 call.args) call.operation.at) k l
+  enter_core true function how call k l = core (EnterFunction (entry_of function TheFocus (not how.on_scope) (drop 1 call.args)
+      call.operation.at l)) k l
   enter_core false function how call k l = core (EnterFunction (entry_of function NoThis (not how.on_scope)
       (args_given call.lender call.args) call.operation.at l)) k l
 
@@ -373,8 +346,7 @@ module _ {H : Type 0} where
     -- a call by a name without a path fails where an argument is a handle of a held cell, and else goes on by the name
     abbrev pub by_name_core : Dispatch → Call H → List (Frame H) → Local H → Core H
     by_name_core how call k l =
-        if call_races how.of_method l.around.cells call.args then core (Fail (error.ErrorDataRace call.operation.name call.operation.at)) k
-        l
+        if races l.around.cells call.args then core (Fail (error.ErrorDataRace call.operation.name call.operation.at)) k l
         else named_core how call.args call k l
 
     -- the function of a script that a call behind a path means, or why there is none

@@ -162,8 +162,6 @@ pub data Control (H : Type 0) : Type 0 where
   QuestionUpdate : Update H → Control H
   -- the native of an update is called
   FireUpdate : Update H → Control H
-  -- a function of a script is entered on the focus, with variables of its own or on the caller's
-  EnterOnFocus : Function H → (is_fresh : Bool) → (args : List (Dynamic H)) → (at : Position) → Control H
   -- an expression goes on by its form, once it is charged
   OpenExpr : ExprLayer → Control H
   -- a statement goes on by its form, once it is charged

@@ -10,14 +10,14 @@ use Rattle.rhai_machine.specs.language.State.{Local}
 use Rattle.rhai_machine.specs.language.Frames.{Control, Frame, Core, core, Eval, Exec, Ask, Assign, AskUpdate, Argument, Question, Fire}
 use Rattle.rhai_machine.specs.language.Frames.{QuestionUpdate, FireUpdate, OpenExpr, OpenStmt, Enter, Run, Store, StoreThis, WhileTurn}
 use Rattle.rhai_machine.specs.language.Frames.{DoTurn, Back}
-use Rattle.rhai_machine.specs.language.Frames.{Changed, Fail, DoBody, CallNamed, EnterFunction, EnterOnFocus, AssignThis, OpenChain}
+use Rattle.rhai_machine.specs.language.Frames.{Changed, Fail, DoBody, CallNamed, EnterFunction, AssignThis, OpenChain}
 use Rattle.rhai_machine.specs.language.Frames.{ChainArguments, ChainRoot}
 use Rattle.rhai_machine.specs.language.Frames.{ReadRoot, Walk, Locate, Choose, ForTurn, ForItem, Share}
 use Rattle.rhai_machine.specs.language.Links.{link_of}
 use Rattle.rhai_machine.specs.language.Chains.{asked_move, locate_core, open_move, read_root_core, root_move, walk_move}
 use Rattle.rhai_machine.specs.language.Expressions.{literal_of, argument_move, expr_move}
 use Rattle.rhai_machine.specs.language.Bodies.{opened_function}
-use Rattle.rhai_machine.specs.language.Calls.{focus_core, question_move, fire_move}
+use Rattle.rhai_machine.specs.language.Calls.{question_move, fire_move}
 use Rattle.rhai_machine.specs.language.Arguments.{named_move}
 use Rattle.rhai_machine.specs.language.Places.{target_of}
 use Rattle.rhai_machine.specs.language.Assignment.{store_core, store_this, question_update, fire_update, variable_of_assignment}
@@ -37,7 +37,6 @@ module _ {H : Type 0} (s : Setting H) where
   move_at (Ask call) k l = Charge call.operation.at (core (Question call) k l)
   move_at (EnterFunction e) k l = Charge e.at (opened_function s.limits e k l)
   move_at (Assign assignment v) k l = Charge assignment.at (core (Store assignment v) k l)
-  move_at (EnterOnFocus function is_fresh args at) k l = Go (focus_core function is_fresh args at k l)
   move_at (AssignThis op at v) k l = Charge at (core (StoreThis op at v) k l)
   move_at (AskUpdate u) k l = Charge u.at (core (QuestionUpdate u) k l)
   move_at (Argument e) k l = argument_move (literal_of (out-Expr e)) e k l

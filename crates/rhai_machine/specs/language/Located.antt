@@ -2,7 +2,7 @@
 use Rattle.std.specs.Prelude.{Bool, true, false, not, ◌&&◌, List, [], ◌∷◌, drop, length, Result, is_some}
 use Rattle.std.specs.Option.{unwrap_or}
 use Rattle.rhai_machine.specs.Types.{Dynamic, EvalAltResult, Union}
-use Rattle.rhai_tree.specs.Lookup.{place_of}
+use Rattle.rhai_tree.specs.Lookup.{paired, place_of}
 use Rattle.rhai_values.specs.declared.base.value.Union.TheVariants as value
 use Rattle.rhai_values.specs.declared.base.value.FnPtrKind.TheOpen as union
 use Rattle.rhai_values.specs.Copy.{plain}
@@ -55,7 +55,7 @@ module _ {H : Type 0} where
 
   -- whether an index is a key that a map does not have
   abbrev pub lacks_key : (map index : UnionLayer H) → Bool
-  lacks_key (union.Map entries) (union.Str key) = not (is_some (place_of key entries.0))
+  lacks_key (union.Map entries) (union.Str key) = not (is_some (place_of key (paired entries).0))
   lacks_key _ _ = false
 
   -- whether the focus is a map that is a constant and does not have this key

@@ -19,9 +19,9 @@ use Rattle.rhai_machine.specs.language.State.{Local}
 use Rattle.rhai_machine.specs.language.Values.{Cells, bool_value, through}
 use Rattle.rhai_machine.specs.language.Functions.{Function}
 use Rattle.rhai_machine.specs.language.Variables.{no_path}
-use Rattle.rhai_machine.specs.language.Frames.{Operation, FromFocus, Dispatch, Call, Frame, Core, core, on_value, EnterOnFocus, Question}
-use Rattle.rhai_machine.specs.language.Frames.{Back, Fail}
-use Rattle.rhai_machine.specs.language.Calls.{call_of, call_races, dispatch_core, plainly}
+use Rattle.rhai_machine.specs.language.Activations.{NoThis, TheFocus}
+use Rattle.rhai_machine.specs.language.Frames.{Operation, FromFocus, Dispatch, Call, Frame, Core, core, on_value, Back, Fail}
+use Rattle.rhai_machine.specs.language.Calls.{call_of, dispatch_core, plainly}
 use Rattle.rhai_machine.specs.language.Arguments.{linked_core, linked_to, natives_alone, numbered_core, operation_named, pointer_wanted}
 
 -- a method as it is called: its name, where it and its first argument stand, and whether the focus was a handle before it was entered
@@ -114,11 +114,9 @@ module _ {H : Type 0} where
 
   -- ---- pointers
 
-  -- the native of a number is asked about the focus at once, unless the call races
+  -- the native of a number is asked about the focus
   abbrev pub numbered_on : (number : ℕ) → Operation → (args : List (Dynamic H)) → (focus : Dynamic H) → List (Frame H) → Local H → Core H
-  numbered_on number operation args focus k l =
-      if call_races true l.around.cells (focus ∷ args) then core (Fail (error.ErrorDataRace operation.name operation.at)) k l
-      else core (Question (number_on_focus number operation args focus)) k l
+  numbered_on number operation args focus k l = numbered_core (number_on_focus number operation args focus) k l
 
   module _ (s : Setting H) where
     -- a pointer that is linked to no function is called on the focus: a native's number under this name, and any other by its own name
@@ -132,7 +130,7 @@ module _ {H : Type 0} where
     -- a pointer is called on the focus: the function that it is linked to, if there is one, or else its native or its name
     abbrev pub pointer_on : Option (Function H) → FnPtr H → Method → (called : List ℕ) → (args : List (Dynamic H)) →
         (focus : Dynamic H) → List (Frame H) → Local H → Core H
-    pointer_on (Some function) pointer method called args focus k l = core (EnterOnFocus function true args method.at) k l
+    pointer_on (Some function) pointer method called args focus k l = linked_core function TheFocus method.at args k l
     pointer_on None pointer method called args focus k l = unlinked_on (out-FnPtr H pointer).kind pointer method called args focus k l
 
     -- the focus is a pointer that is linked to no function, and is called with these arguments: nothing is lent
@@ -144,7 +142,7 @@ module _ {H : Type 0} where
 
     -- the focus is a pointer, and is called with these arguments
     abbrev pub pointer_alone : Option (Function H) → FnPtr H → Position → (args : List (Dynamic H)) → List (Frame H) → Local H → Core H
-    pointer_alone (Some function) pointer at args k l = linked_core function at args k l
+    pointer_alone (Some function) pointer at args k l = linked_core function NoThis at args k l
     pointer_alone None pointer at args k l = unlinked_alone (out-FnPtr H pointer).kind pointer at args k l
 
     -- ---- words

@@ -4,7 +4,7 @@ ghost use Rattle.std.specs.Prelude.{◌≡◌, ◌<◌, ok_or, length, slice_get
 ghost use Rattle.std.specs.Option.{option_copied};
 ghost use Rattle.std.specs.Borrow.{Lends, sem};
 ghost use Rattle.rhai_tree.specs.Ascending.{is_ascending};
-ghost use Rattle.rhai_tree.specs.Lookup.{place_of, rank, value_of, with_entry};
+ghost use Rattle.rhai_tree.specs.Lookup.{paired, place_of, rank, value_of, with_entry};
 ghost use Rattle.rhai_tree.specs.contracts.table.Table.{the_row};
 
 use crate::{Shared, Table, Text};
@@ -14,8 +14,10 @@ use std::cmp::Ordering;
 impl<T> Table<T> {
     /// Finds the index of a key in the order of the keys, or the index where it would go.
     pub fn find(&self, key: &str) -> Result<usize, usize>
-        ensures { result ≡ ok_or (place_of key.now self.now.0) (rank key.now self.now.0) }
+        ensures found { result ≡ ok_or (place_of key.now self.now.0) (rank key.now self.now.0) }
+        ensures paired { paired self.now ≡ self.now }
     {
+        let _as_many = self.len();
         search(self.keys(), key)
     }
 

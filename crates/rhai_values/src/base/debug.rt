@@ -1,6 +1,6 @@
-//! Values and pointers as a reader of a log sees them. No clause says what is printed.
+//! Values, pointers and environments as a reader of a log sees them. No clause says what is printed.
 
-use crate::base::value::{Dynamic, FnPtr, Host, Union};
+use crate::base::value::{Dynamic, EncapsulatedEnviron, FnPtr, Host, Union};
 use rhai_tree::Table;
 use std::fmt;
 use std::fmt::{Debug, Formatter, Write};
@@ -24,6 +24,17 @@ impl<H: Host> Debug for Union<H> {
 impl<H: Host> Debug for FnPtr<H> {
     fn fmt<W: Write>(&self, f: &mut Formatter<W>) -> fmt::Result {
         show_pointer(self, f)
+    }
+}
+
+/// With the numbers of its libraries and imports in their place.
+impl<H: Host> Debug for EncapsulatedEnviron<H> {
+    fn fmt<W: Write>(&self, f: &mut Formatter<W>) -> fmt::Result {
+        f.debug_struct("EncapsulatedEnviron")
+            .field("lib", &self.lib.len())
+            .field("imports", &self.imports.len())
+            .field("constants", &self.constants)
+            .finish()
     }
 }
 

@@ -96,9 +96,6 @@ finish_call-returns-then-is_fresh-clause-runs = bodies.finish_call-returns-then-
 pub finish_call-returns-else-is_fresh-clause-runs : goal.finish_call-returns-else-is_fresh-clause-runs
 finish_call-returns-else-is_fresh-clause-runs = bodies.finish_call-returns-else-is_fresh-clause-runs
 
-pub enter_on_focus-returns-in_default-clause-runs : goal.enter_on_focus-returns-in_default-clause-runs
-enter_on_focus-returns-in_default-clause-runs = bodies.enter_on_focus-returns-in_default-clause-runs
-
 pub enter_on_focus-returns-clause-runs : goal.enter_on_focus-returns-clause-runs
 enter_on_focus-returns-clause-runs = bodies.enter_on_focus-returns-clause-runs
 

@@ -1,15 +1,14 @@
-use Rattle.std.proofs.Common.{◌≡◌, false, true, None, Some, Err, length, refl, subst, sym, ap, ◌∙◌, arith}
+use Rattle.std.proofs.Common.{◌≡◌, false, true, None, Some, length, refl, ap, ◌∙◌, arith}
 use Rattle.std.specs.Option.{option_copied}
 use Rattle.rhai_state.specs.Scope.{entries_of, names_in}
 use Rattle.rhai_state.specs.declared.state.GlobalRuntimeState.{GlobalRuntimeState}
 use Rattle.rhai_machine.specs.machine.Memory.{here, ◌⨾◌}
 use Rattle.rhai_machine.specs.language.Activations.{NoThis, OwnThis, TheFocus}
-use Rattle.rhai_values.specs.Cells.{cells_of}
-use Rattle.rhai_machine.specs.language.Calls.{entry_of, is_held}
-use Rattle.rhai_machine.specs.language.Frames.{Enter, EnterFunction, EnterOnFocus, ended}
-use Rattle.rhai_machine.specs.language.Runs.{Runs, Goes}
+use Rattle.rhai_machine.specs.language.Calls.{entry_of}
+use Rattle.rhai_machine.specs.language.Frames.{Enter, EnterFunction, ended}
+use Rattle.rhai_machine.specs.language.Runs.{Goes}
 use Rattle.rhai_machine.specs.language.State.{Held, deeper}
-use Rattle.rhai_steps.specs.States.{holding, local_of, state_of}
+use Rattle.rhai_steps.specs.States.{holding, local_of}
 use Rattle.rhai_bodies.specs.Closing.{taken_back}
 use Rattle.rhai_bodies.specs.declared.callers.Captured.{Captured}
 use Rattle.rhai_context.specs.declared.Context.{Context}
@@ -23,10 +22,9 @@ use Rattle.rhai_eval_core.proofs.BodyLemmas.{refused_ends, whole_ends}
 use Rattle.rhai_steps.proofs.Agreeing.{stays}
 use Rattle.rhai_eval_core.proofs.NameLemmas.{suits_now}
 use Rattle.rhai_eval_core.proofs.ArgsLeft.{entered_never, entered_not, entered_nothing, entered_so}
-use Rattle.rhai_eval_core.proofs.FocusSteps.{enters_focus, focus_refused, inside_runs, is_bound, unchanged_walk_ends}
-use Rattle.rhai_walk.proofs.Entering.{standing}
+use Rattle.rhai_eval_core.proofs.Untold.{unchanged_walk_ends}
 use Rattle.rhai_eval_core.proofs.evaluator.Evaluator.+eval.Goals as goal
-use Rattle.rhai_context.specs.Ends.{came, error_in}
+use Rattle.rhai_context.specs.Ends.{came}
 use Rattle.rhai_steps.specs.Agreement.{imports_in, sight_of}
 use Rattle.rhai_eval_core.proofs.SightLemmas.{sight_closed}
 use Rattle.rhai_bodies.specs.declared.opening.CallExit.{CallExit}
@@ -229,17 +227,6 @@ finish_call-returns-else-is_fresh-clause-runs g t c k =
     rw (c.in-Enters.is, c.if-is_fresh.false, c.enter_captured.ensures.this)
     ((rw c.as_mut_slice-values.ensures.value at c.enter_captured.ensures.runs) (holding c.args.run.now.this) k)
 
-pub enter_on_focus-returns-in_default-clause-runs : goal.enter_on_focus-returns-in_default-clause-runs
-enter_on_focus-returns-in_default-clause-runs g t c scope held =
-    let rules = under g.H.Host.name_of c.args.self.now g.T.NativeTable.natives in
-    let begun = state_of (g.T.NativeTable.state c.args.table.now) c.args.run.now.global scope (lending held c.args.focus.now) in
-    let error = error_in c.enter_focus.new.place in
-    let cells = cells_of c.args.run.now.global.cells in
-    focus_refused rules c.args.function true c.args.args.now c.args.pos begun begun (Err error) error c.args.focus.now
-    c.enter_focus.new.focus cells (cells_of c.enter_focus.new.cells) refl refl (is_held cells c.args.focus.now.value) refl
-    (λ is. let seen = c.enter_focus.ensures.held is in (ap cells_of seen.1, seen.2, seen.3))
-    (λ free. c.enter_focus.ensures.raced free c.in_default.is)
-
 pub enter_on_focus-returns-clause-runs : goal.enter_on_focus-returns-clause-runs
 enter_on_focus-returns-clause-runs g t c scope held =
     let rules = under g.H.Host.name_of c.args.self.now g.T.NativeTable.natives in
@@ -248,50 +235,35 @@ enter_on_focus-returns-clause-runs g t c scope held =
     c.leave_focus.ensures.run in
     let error_is : c.leave_focus.new.run.error ≡ c.run_body-done.new.run.error = ap (λ (r : Context _). r.error)
     c.leave_focus.ensures.run in
-    let inner = c.enter_focus.new.focus in
-    let entered : GlobalRuntimeState _ = record c.args.run.now.global { cells = c.enter_focus.new.cells } in
-    let passes = c.enter_focus.ensures.entered c.in-Some.above c.in-Some.is in
+    let focus = c.args.focus.now in
     let level_is = c.body_of-level.ensures.level ∙ ap (λ (r : Context _). deeper r.global.level) c.lend_focus-aside.ensures.rest in
     let global_is = ap (λ (r : Context _). r.global) c.lend_focus-aside.ensures.rest in
     let table = g.T.NativeTable.state c.args.table.now in
     let left = g.T.NativeTable.state c.run_body-done.new.table in
     let run = c.run_body-done.new.run in
-    let runs = fresh_ends rules c.args.function TheFocus c.args.args.now c.args.pos entered scope (lending held inner)
+    let runs = fresh_ends rules c.args.function TheFocus c.args.args.now c.args.pos c.args.run.now.global scope (lending held focus)
     c.body_of-level.result.0.now (option_copied c.body_of-level.result.1) c.body_of-level.result.2 c.lend_focus-aside.new.run.global
     table left run result c.body_of-level.ensures.def c.body_of-level.ensures.environ level_is global_is
-    (c.run_body-done.ensures.runs scope (lending held inner) TheFocus true c.lend_focus-aside.ensures.scope
-    c.lend_focus-aside.ensures.this) run.global run.this refl refl in
-    let owned : Held _ = record { this = Some inner; focus = None } in
-    let owns = fresh_ends rules c.args.function OwnThis c.args.args.now c.args.pos entered scope owned
+    (c.run_body-done.ensures.runs scope (lending held focus) TheFocus true c.lend_focus-aside.ensures.scope
+    c.lend_focus-aside.ensures.this) c.leave_focus.new.run.global run.this
+    (ap (λ (r : Context _). r.global) c.leave_focus.ensures.run) refl in
+    let owned : Held _ = record { this = Some focus; focus = None } in
+    let owns = fresh_ends rules c.args.function OwnThis c.args.args.now c.args.pos c.args.run.now.global scope owned
     c.body_of-level.result.0.now (option_copied c.body_of-level.result.1) c.body_of-level.result.2 c.lend_focus-aside.new.run.global
     table left run result c.body_of-level.ensures.def c.body_of-level.ensures.environ level_is global_is
     (c.run_body-done.ensures.runs scope owned OwnThis true c.lend_focus-aside.ensures.scope c.lend_focus-aside.ensures.this)
     run.global run.this refl refl in
     let bound = (kept rules (EnterFunction (entry_of c.args.function OwnThis true c.args.args.now c.args.pos (local_of
-    entered scope owned)))
+    c.args.run.now.global scope owned)))
     (ended result) _ _ tt owns).bound in
-    let worked = is_bound run.this bound in
-    let closed = c.leave_focus.new.run.global in
-    rw (value_is, error_is)
-    (subst (λ (global : GlobalRuntimeState _). Runs rules (EnterOnFocus c.args.function true c.args.args.now c.args.pos)
-    (state_of table c.args.run.now.global scope (lending held c.args.focus.now)) result
-    (standing c.leave_focus.new.focus (cells_of closed.cells) (state_of left global scope (lending held worked.0))))
-    (sym (ap (λ (r : Context _). r.global) c.leave_focus.ensures.run))
-    (enters_focus rules c.args.function true c.args.args.now c.args.pos
-    (state_of table c.args.run.now.global scope (lending held c.args.focus.now))
-    (state_of left run.global scope (lending held worked.0)) result c.in-Some.above c.args.focus.now inner worked.0
-    c.leave_focus.new.focus (cells_of c.args.run.now.global.cells) (cells_of c.enter_focus.new.cells)
-    (cells_of run.global.cells) (cells_of closed.cells) passes.0
-    (inside_runs rules c.args.function true c.args.args.now c.args.pos
-    (state_of table entered scope (lending held inner)) (state_of left run.global scope (lending held worked.0)) result
-    passes.1 (rw worked.1 at runs))
-    (c.leave_focus.ensures.leaves worked.0 worked.1)))
+    rw (value_is, error_is) (rw (c.leave_focus.ensures.leaves bound) at runs)
 
 pub enter_on_focus-returns-clause-counts : goal.enter_on_focus-returns-clause-counts
 enter_on_focus-returns-clause-counts g t c =
     let rules = under g.H.Host.name_of c.args.self.now g.T.NativeTable.natives in
     let result = came c.run_body-done.result c.leave_focus.new.run.value c.leave_focus.new.run.error in
-    counted rules (EnterOnFocus c.args.function true c.args.args.now c.args.pos) (ended result) _ _
+    counted rules (EnterFunction (entry_of c.args.function TheFocus true c.args.args.now c.args.pos
+    (local_of c.args.run.now.global c.args.run.now.scope (lending (holding None) c.args.focus.now)))) (ended result) _ _
     (enter_on_focus-returns-clause-runs g t c c.args.run.now.scope (holding None))
 
 pub run_method-returns-in-Ended-clause-runs : goal.run_method-returns-in-Ended-clause-runs

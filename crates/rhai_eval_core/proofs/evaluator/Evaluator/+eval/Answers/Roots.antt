@@ -11,7 +11,7 @@ use Rattle.rhai_chains.specs.Chains.{chain_at}
 use Rattle.rhai_steps.specs.OnFocus.{lending}
 use Rattle.rhai_context.specs.Ends.{came, came_changed, error_in}
 use Rattle.rhai_eval_core.specs.Agreement.{ChangesNames, KeepsNames, RestoresNames, SuitsNames}
-use Rattle.rhai_eval_core.proofs.FocusSteps.{without_came}
+use Rattle.rhai_eval_core.proofs.Untold.{without_came}
 use Rattle.rhai_eval_core.specs.States.{under}
 use Rattle.rhai_eval_core.proofs.RootLemmas.{begins, lent_back, variable_refused, variable_runs, this_begins, this_enters, this_refused}
 use Rattle.rhai_eval_core.proofs.RootLemmas.{value_begins, value_fails}
