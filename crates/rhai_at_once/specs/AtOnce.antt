@@ -3,7 +3,7 @@ use Rattle.std.specs.Prelude.{◌≡◌, true, false, [], ◌∷◌, None}
 use Rattle.rhai_tree.specs.declared.expr.Expr.{Expr}
 use Rattle.rhai_tree.specs.declared.expr.FnCallExpr.{FnCallExpr}
 use Rattle.rhai_tree.specs.Forms.{is_unqualified}
-use Rattle.rhai_plain.specs.Callees.{has_own_meaning}
+use Rattle.rhai_functions.specs.Words.{has_own_meaning}
 
 -- the call is one by its name alone, with this argument and no other, and its name means nothing besides functions
 pub record IsLone (call : FnCallExpr) (arg : Expr) : Type 0 where

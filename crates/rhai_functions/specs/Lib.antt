@@ -4,3 +4,4 @@ pub mod Functions
 pub mod Keys
 pub mod Namespaces
 pub mod Qualified
+pub mod Words

@@ -12,3 +12,4 @@ pub mod lookup;
 pub mod metadata;
 pub mod named;
 pub mod paths;
+pub mod words;

@@ -1,7 +1,7 @@
 -- A call by name ends in one move: it fails, a value comes back, a native is charged for, or a function of a script is entered. A method
 -- may ask about a native besides. So what holds of these holds of each call and of each method.
 use Rattle.std.specs.Prelude.{ℕ, ◌&&◌, Bool, true, false, not, drop, length, List, [], ◌∷◌, ◌++◌, Option, Some, None}
-use Rattle.std.specs.Prelude.{Result, Ok, Err, codes, is_some, if◌then◌else◌}
+use Rattle.std.specs.Prelude.{Result, Ok, Err, codes, if◌then◌else◌}
 use Rattle.std.specs.Str.{bytes_eq}
 use Rattle.rhai_tree.specs.declared.position.Position.{Position}
 use Rattle.rhai_values.specs.declared.base.value.Dynamic.{Dynamic}
@@ -16,7 +16,7 @@ use Rattle.rhai_machine.specs.language.State.{Local}
 use Rattle.rhai_machine.specs.language.Values.{through}
 use Rattle.rhai_machine.specs.language.Functions.{Function}
 use Rattle.rhai_machine.specs.language.Activations.{ThisFrom, NoThis, TheFocus}
-use Rattle.rhai_machine.specs.language.Frames.{Operation, Dispatch, Call, Frame, Core, core, on_value, Ask, EnterFunction}
+use Rattle.rhai_machine.specs.language.Frames.{Dispatch, Call, Frame, Core, core, on_value, Ask, EnterFunction}
 use Rattle.rhai_machine.specs.language.Frames.{Question, Back, Fail}
 use Rattle.rhai_machine.specs.language.Calls.{args_given, asks_function, call_of, entry_of, enter_core, plainly, races}
 use Rattle.rhai_machine.specs.language.Calls.{called_function, found_core, named_core, dispatch_behind, dispatch_core, function_behind}

@@ -148,7 +148,9 @@ module _ {S H : Type 0} (rules : Rules S H) (pos : Position) where
     linked_enters : races s.local.around.cells args ≡ false →
         Goes rules (linked_core f object pos args) s (came_from pos (Enters wanted)) s
     unfolding Goes
-    linked_enters free k = rw (enters k s.local)
+    linked_enters free k =
+        subst (λ (c : Core H). Leads (machine rules) (cut rules) (with_core (linked_core f object pos args k s.local) s) (with_core c s))
+        (sym (enters k s.local))
         (subst (λ (held : Bool). Leads (machine rules) (cut rules) (with_core (unless_held held k) s) (with_core (unless_held false k) s))
         (sym free) here)
 

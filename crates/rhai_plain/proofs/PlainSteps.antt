@@ -36,7 +36,8 @@ use Rattle.rhai_machine.specs.language.Calls.{call_of, called_core, entry_of, is
 use Rattle.rhai_machine.specs.language.Frames.{Call, CallNamed, EnterFunction, Fail, Frame, Operation, ToCall, core}
 use Rattle.rhai_machine.specs.language.Functions.{Function, found_function, in_libraries, key_by}
 use Rattle.rhai_machine.specs.language.Variables.{variable_in}
-use Rattle.rhai_plain.specs.Callees.{IsPlain, has_own_meaning, is_by_value, starts_by_value}
+use Rattle.rhai_functions.specs.Words.{has_own_meaning}
+use Rattle.rhai_plain.specs.Callees.{IsPlain, is_by_value, starts_by_value}
 use Rattle.rhai_plain.specs.Filling.{HasFilled, filled}
 
 -- a name that means nothing besides functions is none of those that do

@@ -1,18 +1,12 @@
 -- A call that means a function of the libraries whatever its arguments come to.
-use Rattle.std.specs.Prelude.{◌≡◌, ℕ, Bool, true, false, ◌||◌, List, [], ◌∷◌, Some, None, codes, length}
-use Rattle.std.specs.Str.{bytes_eq}
+use Rattle.std.specs.Prelude.{◌≡◌, ℕ, Bool, true, false, List, [], ◌∷◌, Some, None, length}
 use Rattle.rhai_machine.specs.Types.{Expr, out-Expr, Module, ScriptFuncDef}
 use Rattle.rhai_tree.specs.declared.expr.FnCallExpr.{FnCallExpr}
 use Rattle.rhai_tree.specs.declared.expr.Expr.TheOpen as layer
 use Rattle.rhai_tree.specs.Forms.{is_unqualified}
 use Rattle.rhai_tree.specs.Layers.{ExprLayer}
+use Rattle.rhai_functions.specs.Words.{has_own_meaning}
 use Rattle.rhai_machine.specs.language.Functions.{in_libraries, key_by}
-
--- one of the eight names that mean something besides functions
-abbrev pub has_own_meaning : List ℕ → Bool
-has_own_meaning name = bytes_eq name (codes "call") || (bytes_eq name (codes "Fn") || (bytes_eq name (codes "curry")
-    || (bytes_eq name (codes "is_shared") || (bytes_eq name (codes "is_def_var") || (bytes_eq name (codes "type_of")
-    || (bytes_eq name (codes "eval") || bytes_eq name (codes "is_def_fn")))))))
 
 -- an expression that is passed by its value whatever it is: no variable, and not `this`
 abbrev pub is_by_value : ExprLayer → Bool

@@ -2,30 +2,17 @@
 
 ghost use Rattle.std.specs.Prelude.{◌≡◌, IfSome, IsTrue, None, false, true};
 ghost use Rattle.rhai_tree.specs.Forms.{is_unqualified};
-ghost use Rattle.rhai_plain.specs.Callees.{IsPlain, has_own_meaning as own_meaning, starts_by_value as by_value};
+ghost use Rattle.rhai_plain.specs.Callees.{IsPlain, starts_by_value as by_value};
 
 use rhai_functions::key::FnKey;
 use rhai_functions::lookup::find_in_modules;
+use rhai_functions::words::has_own_meaning;
 use rhai_state::state::GlobalRuntimeState;
 use rhai_steps::variables::is_plain;
 use rhai_tree::Shared;
 use rhai_tree::checked::CheckedFn;
 use rhai_tree::expr::{Expr, FnCallExpr};
 use rhai_values::base::value::Host;
-
-/// Tells whether a name means something besides functions.
-pub fn has_own_meaning(name: &str) -> bool
-    ensures { result ≡ own_meaning name.now }
-{
-    name == "call"
-        || name == "Fn"
-        || name == "curry"
-        || name == "is_shared"
-        || name == "is_def_var"
-        || name == "type_of"
-        || name == "eval"
-        || name == "is_def_fn"
-}
 
 /// Tells whether the first argument, if there is one, is passed by its value whatever it is. Then it is no
 /// variable and not `this`.

@@ -143,10 +143,10 @@ pub const VARIABLE_DECLARED: &[Part<'_>] = &[
 
 /// `fn m() { is_shared(this) }`
 pub const THIS_ASKED: &[Part<'_>] = &[
-    This(21),
-    Call("is_shared", 1, 11),
+    This(20),
+    Call("is_shared", 1, 10),
     Value,
-    Block(1, 9, 27),
+    Block(1, 8, 26),
     Function("m", &[]),
 ];
 

@@ -1,0 +1,3 @@
+mod Choices
+pub mod Fitting
+mod Stacks

@@ -1,0 +1,5 @@
+pub mod Codes
+pub mod Fits
+pub mod Keys
+pub mod Levels
+pub mod Lists
