@@ -39,7 +39,8 @@ use rhai_values::base::value::{Dynamic, Host};
 /// first under fast operators, then the native `op=`, which may change the target, or its built-in, and
 /// where both are missing the native `op`, which gives its new value. The variable is found by its offset
 /// where that is given and variables are not searched for, and else by its name. What no entry has, as a name
-/// behind a path, is not assigned to. Asked: the offset leads to the newest variable of the name.
+/// behind a path, is not assigned to. Asked: the offset leads to the newest variable of the name, and the
+/// index of its path to the newest import of its first name.
 ///
 /// # Errors
 /// At the variable: `ErrorTooManyOperations` where the count has reached the limit,

@@ -10,7 +10,7 @@ ghost use Rattle.rhai_machine.specs.language.Places.{is_constant as constant_at,
 ghost use Rattle.rhai_machine.specs.language.Places.{target_at, target_meant, target_of};
 ghost use Rattle.rhai_machine.specs.language.Places.{unless_constant as allowed, while_lent};
 ghost use Rattle.rhai_machine.specs.language.Variables.{variable_named};
-ghost use Rattle.rhai_steps.specs.Agreement.{AgreesAt};
+ghost use Rattle.rhai_steps.specs.Agreement.{AgreesAt, RootStands};
 ghost use Rattle.rhai_steps.specs.Offers.{globals_in};
 ghost use Rattle.rhai_steps.specs.States.{surroundings_of};
 ghost use Rattle.rhai_steps.specs.Variables.{offset_is_good, variable_told};
@@ -167,6 +167,7 @@ fn no_target<H: Host>(
     namespace: &Namespace,
     pos: Position,
 ) -> EvalAltResult<H>
+    requires { RootStands global.now namespace.now }
     ensures { is_out_of_memory result ≡ false →
         target_meant (cells_of global.now.cells) name.now pos (temporary (value_beside
         (globals_in session.now.offered) (surroundings_of global.now) (variable_named name.now namespace.now pos)))

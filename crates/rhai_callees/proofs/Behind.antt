@@ -52,11 +52,12 @@ use Rattle.rhai_calls.specs.Lending.{lent_call}
 use Rattle.rhai_call_forms.specs.Forms.{is_operator_form}
 use Rattle.rhai_call_forms.proofs.FormLemmas.{function_goes}
 use Rattle.rhai_callees.specs.Behind.{before_last, behind_call, enters, is_read_last, last_of, led_by, public_call}
-use Rattle.rhai_callees.specs.Behind.{public_at, purpose_of, purpose_on, value_at, form_is_good, last_is_good, IsCharged, IsSpent}
+use Rattle.rhai_callees.specs.Behind.{public_at, purpose_of, purpose_on, value_at, behind_is_good, form_is_good, last_is_good}
+use Rattle.rhai_callees.specs.Behind.{IsCharged, IsSpent}
 use Rattle.rhai_callees.specs.Linked.{Comes}
 use Rattle.rhai_callees.specs.Variables.{meaning_passed}
 use Rattle.rhai_callees.proofs.Going.{came_told}
-use Rattle.rhai_steps.specs.Agreement.{variable_is_good}
+use Rattle.rhai_steps.specs.Agreement.{call_leads, root_is_good, variable_leads}
 
 -- ---- how such a call begins
 
@@ -160,6 +161,10 @@ first_true : (a b : Bool) → IsTrue (a && b) → IsTrue a
 first_true true b h = refl
 first_true false b h = cc
 
+both_true : (a b : Bool) → IsTrue a → IsTrue b → IsTrue (a && b)
+both_true true b is holds = holds
+both_true false b is holds = is
+
 module _ (frame : NamesFrame) where
   chosen_resolve : (is_last : Bool) (arg : Expr) (args : List Expr) → IsTrue (all_resolve_exprs (map tests_of (arg ∷ args)) frame) →
       IsTrue (all_resolve_exprs (map tests_of (if is_last then args else arg ∷ args)) frame)
@@ -167,14 +172,20 @@ module _ (frame : NamesFrame) where
   chosen_resolve false arg args h = h
 
   -- those do that are evaluated before what is read last
-  pub before_resolves : {H : Type 0} (args : List Expr) (this : Option (Dynamic H)) → IsTrue (all_resolve_exprs (map tests_of args) frame) →
+  before_resolves : {H : Type 0} (args : List Expr) (this : Option (Dynamic H)) → IsTrue (all_resolve_exprs (map tests_of args) frame) →
       IsTrue (all_resolve_exprs (map tests_of (before_last args this)) frame)
   before_resolves [] this h = h
   before_resolves (arg ∷ args) this h = chosen_resolve (is_read_last (out-Expr arg) this) arg args h
 
+  -- so do they of a call behind a path that may run
+  pub before_leads : {H : Type 0} (namespace : Namespace) (args : List Expr) (this : Option (Dynamic H)) →
+      IsTrue (call_leads namespace args frame) → IsTrue (all_resolve_exprs (map tests_of (before_last args this)) frame)
+  before_leads namespace args this h =
+      before_resolves args this (after (root_is_good namespace frame) (all_resolve_exprs (map tests_of args) frame) h)
+
   module _ (good : (e : Expr) (offset : Option NonZeroUsize) (name : Name) (namespace : Namespace) (pos : Position) →
       out-Expr e ≡ layer.Variable offset name namespace pos → IsTrue (resolves_expr e frame) →
-      IsTrue (variable_is_good offset name namespace.path frame)) where
+      IsTrue (variable_leads offset name namespace frame)) where
     good_at : (arg : Expr) (o : ExprLayer) → out-Expr arg ≡ o → IsTrue (resolves_expr arg frame) →
         IsTrue (form_is_good o frame)
     good_at arg (layer.Variable offset name namespace pos) is h = good arg offset name namespace pos is h
@@ -186,11 +197,19 @@ module _ (frame : NamesFrame) where
     good_chosen false arg h = refl
 
     -- and the offset is good of what is read last, where that is so of each variable that resolves
-    pub good_last : {H : Type 0} (args : List Expr) (this : Option (Dynamic H)) → IsTrue (all_resolve_exprs (map tests_of args) frame) →
+    good_last : {H : Type 0} (args : List Expr) (this : Option (Dynamic H)) → IsTrue (all_resolve_exprs (map tests_of args) frame) →
         IsTrue (last_is_good (last_of args this) frame)
     good_last [] this h = refl
     good_last (arg ∷ args) this h = good_chosen (is_read_last (out-Expr arg) this) arg
         (first_true (resolves_expr arg frame) (all_resolve_exprs (map tests_of args) frame) h)
+
+    -- with the index of the call's path
+    pub good_behind : {H : Type 0} (namespace : Namespace) (args : List Expr) (this : Option (Dynamic H)) →
+        IsTrue (call_leads namespace args frame) → IsTrue (behind_is_good (last_of args this) namespace frame)
+    good_behind namespace args this h =
+        let path = first_true (root_is_good namespace frame) (all_resolve_exprs (map tests_of args) frame) h in
+        let rest = after (root_is_good namespace frame) (all_resolve_exprs (map tests_of args) frame) h in
+        both_true (last_is_good (last_of args this) frame) (root_is_good namespace frame) (good_last args this rest) path
 
 -- ---- once its arguments are there
 

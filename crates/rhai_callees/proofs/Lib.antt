@@ -3,3 +3,4 @@ pub mod Going
 pub mod Lending
 pub mod Lists
 pub mod Passing
+pub mod PublicRoots

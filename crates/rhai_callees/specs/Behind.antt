@@ -1,12 +1,14 @@
 -- Calls behind a path: which argument is charged first and read last, and what comes of the call once the others are there.
-use Rattle.std.specs.Prelude.{◌≡◌, ◌<◌, ◌≤◌, ◌+◌, ℕ, Bool, true, ◌||◌, List, [], ◌∷◌, length, Option, Some, None, Result, Ok, Err}
+use Rattle.std.specs.Prelude.{◌≡◌, ◌<◌, ◌≤◌, ◌+◌, ℕ, Bool, true, ◌&&◌, ◌||◌, List, [], ◌∷◌, length, Option, Some, None, Result, Ok, Err}
 use Rattle.std.specs.Prelude.{is_some, if◌then◌else◌}
 use Rattle.rhai_tree.specs.declared.expr.Expr.{Expr, out-Expr}
 use Rattle.rhai_tree.specs.declared.expr.Expr.TheOpen as layer
+use Rattle.rhai_tree.specs.declared.expr.Namespace.{Namespace}
 use Rattle.rhai_tree.specs.declared.position.Position.{Position}
 use Rattle.rhai_tree.specs.Layers.{ExprLayer}
 use Rattle.rhai_tree.specs.Positions.{position_of}
 use Rattle.rhai_values.specs.declared.base.value.Dynamic.{Dynamic}
+use Rattle.rhai_values.specs.declared.base.value.Module.{Module}
 use Rattle.rhai_errors.specs.declared.error.EvalAltResult.{EvalAltResult}
 use Rattle.rhai_errors.specs.declared.error.EvalAltResult.TheVariants as error
 use Rattle.rhai_state.specs.declared.scope.ScopeEntry.{ScopeEntry}
@@ -20,22 +22,26 @@ use Rattle.rhai_machine.specs.language.Functions.{key_by}
 use Rattle.rhai_machine.specs.language.Variables.{Path, variable_in, variable_named}
 use Rattle.rhai_machine.specs.language.Names.{bound_this, meant}
 use Rattle.rhai_machine.specs.language.Frames.{Dispatch, Operation, Purpose, ToCall, ToCallOn, ToCallOnThis}
-use Rattle.rhai_machine.specs.language.Calls.{public_behind, types_of}
+use Rattle.rhai_machine.specs.language.Calls.{public_behind, public_from, types_of}
 use Rattle.rhai_machine.specs.language.Arguments.{this_in}
-use Rattle.rhai_steps.specs.Agreement.{Test, variable_is_good}
+use Rattle.rhai_steps.specs.Agreement.{Test, root_is_good, variable_leads}
 use Rattle.rhai_calls.specs.declared.dispatch.Called.TheVariants.{Ended, Enters}
 use Rattle.rhai_calls.specs.Called.{Outcome}
 use Rattle.rhai_callees.specs.Variables.{meaning_passed}
 
--- the offset of a variable leads to the newest of its name
+-- the offset of a variable leads to the newest of its name, and the index of its path to the newest import of its root's
 abbrev pub form_is_good : ExprLayer → Test
-form_is_good (layer.Variable offset name namespace pos) frame = variable_is_good offset name namespace.path frame
+form_is_good (layer.Variable offset name namespace pos) frame = variable_leads offset name namespace frame
 form_is_good _ frame = true
 
--- the offset of what is read last, if anything is, leads to the newest variable of its name
+-- so is it with what is read last, if anything is
 abbrev pub last_is_good : (last : Option Expr) → Test
 last_is_good (Some arg) frame = form_is_good (out-Expr arg) frame
 last_is_good None frame = true
+
+-- and with a call behind a path, whose index leads to the newest import of its root's name
+abbrev pub behind_is_good : (last : Option Expr) → Namespace → Test
+behind_is_good last namespace frame = last_is_good last frame && root_is_good namespace frame
 
 module _ {H : Type 0} where
   -- an argument that is charged first and read last: `this` that is bound and no handle, or a variable
@@ -85,6 +91,12 @@ module _ {H : Type 0} where
   abbrev pub enters : Result (Function H) (EvalAltResult H) → List (Dynamic H) → Outcome H
   enters (Ok f) args = Enters (f, args)
   enters (Err e) args = Ended (Err e)
+
+  -- the public function of a key in the module that a path leads to, which begins at a root, if there is one; an empty path has none
+  abbrev pub public_from_root : Option (Module H) → (path : List (List ℕ)) → (path_at : Position) → FunctionKey →
+      (types : List (List ℕ)) → Position → Result (Function H) (EvalAltResult H)
+  public_from_root root [] path_at key types at = Err (error.ErrorModuleNotFound [] path_at)
+  public_from_root root (first ∷ rest) path_at key types at = public_from root (first ∷ rest) rest path_at key types at
 
   module _ (globals : Globals H) (around : Surroundings H) where
     -- the public function of a key in the module that a path leads to, or why there is none

@@ -3,30 +3,33 @@
 //! contracts cite specs/Behind.antt.
 
 ghost use Rattle.std.specs.Prelude.{◌≡◌, ◌≤◌, ◌∷◌, ◌++◌, [], Err, IfErr, IsTrue, Ok, OnOk, Some};
-ghost use Rattle.std.specs.Prelude.{false, is_some, true};
+ghost use Rattle.std.specs.Prelude.{false, is_some, length, true, None};
 ghost use Rattle.std.specs.Option.{option_and_then, option_copied};
 ghost use Rattle.rhai_tree.specs.declared.expr.Expr.{out-Expr};
 ghost use Rattle.rhai_values.specs.Cells.{cells_of};
 ghost use Rattle.rhai_errors.specs.Errors.{is_out_of_memory};
-ghost use Rattle.rhai_state.specs.Scope.{entries_of};
+ghost use Rattle.rhai_state.specs.Scope.{entries_of, in_use, Fits};
 ghost use Rattle.rhai_errors.specs.declared.error.EvalAltResult.TheVariants as error;
 ghost use Rattle.rhai_functions.specs.Keys.{function_key_of};
 ghost use Rattle.rhai_functions.specs.Namespaces.{down, public_in};
 ghost use Rattle.rhai_functions.specs.Qualified.{text_behind, path_text};
 ghost use Rattle.rhai_machine.specs.language.Calls.{public_or_unknown, signature, types_of};
+ghost use Rattle.rhai_machine.specs.language.Functions.{key_by};
 ghost use Rattle.rhai_machine.specs.language.Names.{looked_up, meant};
 ghost use Rattle.rhai_machine.specs.language.State.{Answers};
 ghost use Rattle.rhai_machine.specs.language.Variables.{path_of, variable_in};
-ghost use Rattle.rhai_steps.specs.Agreement.{AgreesAt, KeepsSight};
+ghost use Rattle.rhai_steps.specs.Agreement.{AgreesAt, KeepsSight, RootStands};
 ghost use Rattle.rhai_steps.specs.Offers.{globals_in};
+ghost use Rattle.rhai_steps.specs.Roots.{root_searched};
 ghost use Rattle.rhai_steps.specs.States.{surroundings_of};
 ghost use Rattle.rhai_steps.specs.Variables.{offset_is_good, variable_told};
 ghost use Rattle.rhai_context.specs.Ends.{error_in};
 ghost use Rattle.rhai_calls.specs.Called.{with_args};
 ghost use Rattle.rhai_calls.specs.Dispatch.{Means};
 ghost use Rattle.rhai_callees.specs.Behind.{before_last, behind_call, last_of, last_value, led_by, public_call};
-ghost use Rattle.rhai_callees.specs.Behind.{public_for, value_at, is_read_last as read_last, IsCharged, IsSpent};
-ghost use Rattle.rhai_callees.specs.Behind.{form_is_good, last_is_good};
+ghost use Rattle.rhai_callees.specs.Behind.{public_for, public_from_root, value_at, IsCharged, IsSpent};
+ghost use Rattle.rhai_callees.specs.Behind.{is_read_last as read_last};
+ghost use Rattle.rhai_callees.specs.Behind.{behind_is_good, form_is_good, last_is_good};
 ghost use Rattle.rhai_callees.specs.Linked.{Comes};
 ghost use Rattle.rhai_callees.specs.Variables.{copy_passed, meaning_passed};
 
@@ -39,14 +42,15 @@ use rhai_errors::errors::data_race_of;
 use rhai_few::Few;
 use rhai_functions::function::{Function, share_function};
 use rhai_functions::key::FnKey;
-use rhai_functions::paths::{find_down, find_public, find_root};
+use rhai_functions::paths::{find_down, find_public};
 use rhai_state::limits::Limits;
 use rhai_state::scope::Scope;
 use rhai_state::session::Session;
 use rhai_state::state::GlobalRuntimeState;
 use rhai_steps::qualified::{full_text, no_module};
 use rhai_steps::replies::{function_not_found, nullary_function_not_found};
-use rhai_steps::variables::{Variable, entry_of_variable, read_this};
+use rhai_steps::roots::root_of;
+use rhai_steps::variables::{Variable, entry_of_variable, is_plain, read_this};
 use rhai_tree::expr::{Expr, Namespace};
 use rhai_tree::position::Position;
 use rhai_tree::{Shared, Text};
@@ -296,9 +300,9 @@ fn share_found<H: Host>(
     }
 }
 
-/// Finds the public function of a name behind a path. It takes so many arguments and no `this` of a certain
-/// type.
-fn public_function<H: Host>(
+/// Finds the public function of a name behind a path, whose root is found as `root_of` says, which asks the
+/// same of its index. It takes so many arguments and no `this` of a certain type.
+fn public_searched<H: Host>(
     session: &Session<'_, H>,
     global: &GlobalRuntimeState<H>,
     namespace: &Namespace,
@@ -306,19 +310,18 @@ fn public_function<H: Host>(
     args: &[Dynamic<H>],
     pos: Position,
 ) -> Result<Function<H>, EvalAltResult<H>>
-    ensures { Answers result (public_for (globals_in session.now.offered) (surroundings_of global.now) H.name_of
-        (path_of namespace.now) name.now pos args.now) }
+    requires { Fits (in_use global.now.always_search_scope namespace.now.index) (length global.now.imports) }
+    ensures { Answers result (public_from_root (root_searched
+        (in_use global.now.always_search_scope namespace.now.index) namespace.now.path global.now.imports
+        session.now.offered.global_sub_modules.now) namespace.now.path namespace.now.position
+        (key_by name.now (length args.now) None) (types_of H.name_of (cells_of global.now.cells) args.now)
+        pos) }
 {
     let path = namespace.path.as_slice();
-    let [root, rest @ ..] = path else {
+    let [_root, rest @ ..] = path else {
         return Err(no_module(session.alloc, path, namespace.position));
     };
-    let imports = global.imports.as_slice();
-    match find_root(
-        imports,
-        session.offered.global_sub_modules,
-        root.get().as_str(),
-    ) {
+    match root_of(global, session.offered.global_sub_modules, namespace) {
         Some(root) => {
             let key = FnKey {
                 name,
@@ -332,6 +335,27 @@ fn public_function<H: Host>(
     }
 }
 
+/// Finds the public function that a name means behind a path, for these arguments. Asked: the index of the
+/// path leads to the newest import of its first name, or is not in use.
+fn public_function<H: Host>(
+    session: &Session<'_, H>,
+    global: &GlobalRuntimeState<H>,
+    namespace: &Namespace,
+    name: &str,
+    args: &[Dynamic<H>],
+    pos: Position,
+) -> Result<Function<H>, EvalAltResult<H>>
+    requires { RootStands global.now namespace.now }
+    ensures { Answers result (public_for (globals_in session.now.offered) (surroundings_of global.now) H.name_of
+        (path_of namespace.now) name.now pos args.now) }
+{
+    if is_plain(namespace) {
+        let path = namespace.path.as_slice();
+        return Err(no_module(session.alloc, path, namespace.position));
+    }
+    public_searched(session, global, namespace, name, args, pos)
+}
+
 /// Makes a call behind a path whose arguments are all there.
 fn call_public<H: Host>(
     session: &Session<'_, H>,
@@ -341,6 +365,7 @@ fn call_public<H: Host>(
     args: &[Dynamic<H>],
     pos: Position,
 ) -> Called<Dynamic<H>, Function<H>, H>
+    requires { RootStands global.now namespace.now }
     ensures { Comes (with_args result args.now) (public_call (globals_in session.now.offered)
         (surroundings_of global.now) H.name_of (path_of namespace.now) name.now pos (Ok args.now)) }
 {
@@ -353,7 +378,8 @@ fn call_public<H: Host>(
 /// Makes a call behind a path whose other arguments are there. What is read last is read now: of a variable a
 /// copy, without its handle, and of `this` a copy. The public function of the name in the module that the
 /// path leads to is for the caller to enter, with all arguments in the list. Nothing is charged. Asked: a
-/// variable's offset leads to the newest of its name.
+/// variable's offset leads to the newest of its name, and the index of the path, as that of the variable's,
+/// to the newest import of its first name.
 ///
 /// # Errors
 /// Those of reading the variable, at it, and `ErrorUnboundThis`; `ErrorModuleNotFound` at the path, where
@@ -370,7 +396,7 @@ pub fn call_behind<H: Host>(
     args: &mut Few<Dynamic<H>>,
     pos: Position,
 ) -> Called<Dynamic<H>, Function<H>, H>
-    requires { AgreesAt global.now scope.now (last_is_good (option_copied last)) }
+    requires { AgreesAt global.now scope.now (behind_is_good (option_copied last) namespace.now) }
     ensures { Comes (with_args result args.new) (behind_call (globals_in session.now.offered)
         (surroundings_of global.now) (entries_of scope.now) this.now H.name_of (option_copied last.entry)
         (path_of namespace.now) name.now args.old pos) }

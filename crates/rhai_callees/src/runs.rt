@@ -7,7 +7,7 @@ ghost use Rattle.rhai_machine.specs.language.Arguments.{arguments_there};
 ghost use Rattle.rhai_machine.specs.language.Calls.{call_at, plainly};
 ghost use Rattle.rhai_machine.specs.language.Frames.{ToCall, ToCallOn, ToCallOnThis};
 ghost use Rattle.rhai_machine.specs.language.Runs.{Goes};
-ghost use Rattle.rhai_steps.specs.Agreement.{AgreesAt, KeepsSight, variable_is_good};
+ghost use Rattle.rhai_steps.specs.Agreement.{AgreesAt, KeepsSight, variable_leads};
 ghost use Rattle.rhai_steps.specs.Operations.{operation_of};
 ghost use Rattle.rhai_steps.specs.Sessions.{under};
 ghost use Rattle.rhai_steps.specs.States.{holding, state_of};
@@ -44,8 +44,8 @@ pub fn call_with_variable<H: Host, T: NativeTable<H>>(
     values: &mut Few<Dynamic<H>>,
     natives_alone: bool,
 ) -> Called<Dynamic<H>, Function<H>, H>
-    requires { AgreesAt run.old.global run.old.scope (variable_is_good variable.offset variable.name.now
-        variable.namespace.now.path) }
+    requires { AgreesAt run.old.global run.old.scope (variable_leads variable.offset variable.name.now
+        variable.namespace.now) }
     ensures counts { run.old.global.num_operations ≤ run.new.global.num_operations }
     ensures sight { KeepsSight run.old.global run.new.global }
     ensures names { names_in run.new.scope ≡ names_in run.old.scope }

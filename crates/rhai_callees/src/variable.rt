@@ -13,7 +13,7 @@ ghost use Rattle.rhai_machine.specs.language.Variables.{Path, variable_named};
 ghost use Rattle.rhai_machine.specs.language.Runs.{Goes};
 ghost use Rattle.rhai_machine.specs.language.Arguments.{arguments_there};
 ghost use Rattle.rhai_steps.specs.Operations.{operation_of};
-ghost use Rattle.rhai_steps.specs.Agreement.{AgreesAt, KeepsSight};
+ghost use Rattle.rhai_steps.specs.Agreement.{AgreesAt, KeepsSight, RootStands};
 ghost use Rattle.rhai_steps.specs.Offers.{globals_in};
 ghost use Rattle.rhai_steps.specs.Sessions.{under};
 ghost use Rattle.rhai_steps.specs.States.{local_of, state_of, surroundings_of};
@@ -76,6 +76,7 @@ pub(crate) fn pass_beside<H: Host>(
     namespace: &Namespace,
     pos: Position,
 ) -> Result<Dynamic<H>, EvalAltResult<H>>
+    requires { RootStands global.now namespace.now }
     ensures { Answers result (copy_passed (cells_of global.now.cells) pos
         (value_beside (globals_in session.now.offered) (surroundings_of global.now)
         (variable_named variable.now namespace.now pos))) }
@@ -312,6 +313,7 @@ fn call_beside<H: Host, T: NativeTable<H>>(
     variable: &Variable<'_>,
     args: &mut Few<Dynamic<H>>,
 ) -> Called<Dynamic<H>, Function<H>, H>
+    requires { RootStands global.old variable.now.namespace.now }
     ensures counts { global.old.num_operations ≤ global.new.num_operations }
     ensures sight { KeepsSight global.old global.new }
     ensures runs { (scope : _) (held : _) (on_scope : _) → entry_named variable.now.namespace.now.path variable.now.name.now (entries_of scope) ≡ None →
@@ -345,8 +347,9 @@ fn call_beside<H: Host, T: NativeTable<H>>(
 /// Makes a call by name with a variable before its arguments, which are there. The variable is read now: a
 /// constant or a handle is passed as a copy, and any other is lent, so that a native may change it. A
 /// function of a script gets a copy, and is for the caller to enter. Of a variable that no entry has, by
-/// itself or behind a path, a copy is passed. Asked: the offset leads to the newest variable of the name.
-/// Ports what upstream's `make_function_call` does with a variable that comes first.
+/// itself or behind a path, a copy is passed. Asked: the offset leads to the newest variable of the name, and
+/// the index of its path to the newest import of its first name. Ports what upstream's `make_function_call`
+/// does with a variable that comes first.
 ///
 /// # Errors
 /// At the variable: `ErrorDataRace` where it is the handle of a cell that is held, and those of

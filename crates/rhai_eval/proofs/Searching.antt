@@ -1,9 +1,11 @@
 -- What a variable's name finds: a variable of the scope, or what the name means beside those.
 use Rattle.std.proofs.Common.{◌≡◌, ℕ, Bool, true, false, List, [], ◌∷◌, Option, Some, None, Result, Ok, Err, refl, sym, ap, ◌∙◌, is_some}
 use Rattle.std.specs.Borrow.{Bor}
-use Rattle.std.specs.Prelude.{IfErr}
+use Rattle.std.specs.Prelude.{IfErr, if◌then◌else◌}
 use Rattle.std.specs.Option.{option_copied}
+use Rattle.std.specs.declared.num.NonZeroUsize.{NonZeroUsize}
 use Rattle.rhai_tree.specs.declared.expr.Expr.TheOpen as layer
+use Rattle.rhai_tree.specs.declared.expr.Namespace.{Namespace}
 use Rattle.rhai_tree.specs.declared.position.Position.{Position}
 use Rattle.rhai_tree.specs.Forms.{is_unqualified}
 use Rattle.rhai_tree.specs.Layers.{ExprLayer}
@@ -11,16 +13,17 @@ use Rattle.rhai_values.specs.declared.base.value.Dynamic.{Dynamic}
 use Rattle.rhai_state.specs.declared.scope.ScopeEntry.{ScopeEntry}
 use Rattle.rhai_errors.specs.declared.error.EvalAltResult.{EvalAltResult}
 use Rattle.rhai_errors.specs.Errors.{is_out_of_memory}
-use Rattle.rhai_state.specs.Scope.{variable_value, in_use}
+use Rattle.rhai_state.specs.Scope.{variable_value, in_use, Fits}
 use Rattle.rhai_spots.specs.declared.part.Part.TheVariants as part
 use Rattle.rhai_machine.specs.language.Setting.{Globals}
 use Rattle.rhai_machine.specs.language.State.{Surroundings}
 use Rattle.rhai_machine.specs.language.Values.{unit_value}
 use Rattle.rhai_machine.specs.language.Variables.{Variable, variable_named}
 use Rattle.rhai_machine.specs.language.Names.{variable_of}
+use Rattle.rhai_steps.specs.Offsets.{index_in}
+use Rattle.rhai_steps.specs.Roots.{path_searched}
 use Rattle.rhai_eval.specs.Search.{beside, found_behind, in_place, is_variable, named, searched, value_there, variable_searched}
-use Rattle.rhai_eval.specs.Search.{without_path}
-use Rattle.rhai_eval.specs.Search.{IsBeside}
+use Rattle.rhai_eval.specs.Search.{found_by_path, IsBehind, IsBeside}
 
 module _ {H : Type 0} (searches : Bool) (globals : Globals H) (around : Surroundings H) (entries : List (ScopeEntry H)) where
   named_there : (variable : Variable) (there : Option (Dynamic H)) → is_some there ≡ true →
@@ -80,44 +83,60 @@ module _ {H : Type 0} (searches : Bool) (globals : Globals H) (around : Surround
 -- ---- a variable behind a path, or not
 
 module _ {H : Type 0} (searches : Bool) (globals : Globals H) (around : Surroundings H) (entries : List (ScopeEntry H)) where
-  in_scope : (path : List (List ℕ)) (variable : Variable) (there : Option (Dynamic H)) → is_unqualified path ≡ true →
-      named globals around variable (without_path path there) ≡ named globals around variable there
-  in_scope [] variable there is = refl
-  in_scope (root ∷ path) variable there is = cc
+  in_scope : (path : List (List ℕ)) (variable : Variable) (index : Option NonZeroUsize) (there : Option (Dynamic H)) →
+      is_unqualified path ≡ true → found_by_path path globals around variable index there ≡ named globals around variable there
+  in_scope [] variable index there is = refl
+  in_scope (root ∷ path) variable index there is = cc
 
   -- without a path it is searched for in the scope
   pub found_in_scope : (form : ExprLayer) → is_variable form ≡ true →
       found_behind searches form globals around entries ≡ searched searches form globals around entries
   found_in_scope (layer.Variable offset name namespace pos) is =
-      ap Some (in_scope namespace.path (variable_named name namespace pos) (variable_value (in_use searches offset) name entries) is)
+      ap Some (in_scope namespace.path (variable_named name namespace pos) (in_use searches namespace.index)
+      (variable_value (in_use searches offset) name entries) is)
   found_in_scope _ is = cc
 
-  in_module : (path : List (List ℕ)) (variable : Variable) (there : Option (Dynamic H)) → is_unqualified path ≡ false →
-      named globals around variable (without_path path there) ≡ named globals around variable None
-  in_module [] variable there is = cc
-  in_module (root ∷ path) variable there is = refl
+  in_module : (path : List (List ℕ)) (variable : Variable) (index : Option NonZeroUsize) (there : Option (Dynamic H)) →
+      is_unqualified path ≡ false → found_by_path path globals around variable index there
+      ≡ beside (path_searched globals around index path variable.name variable.path.at)
+  in_module [] variable index there is = cc
+  in_module (root ∷ path) variable index there is = refl
 
   -- and behind one it is a constant of a module
-  pub found_in_module : (form : ExprLayer) (v : Dynamic H) → is_variable form ≡ false → IsBeside globals around form (Ok v) →
+  pub found_in_module : (form : ExprLayer) (v : Dynamic H) → is_variable form ≡ false → IsBehind searches globals around form (Ok v) →
       found_behind searches form globals around entries ≡ Some (Ok (unit_value, part.Temporary v))
   found_in_module (layer.Variable offset name namespace pos) v behind is =
-      ap Some (in_module namespace.path (variable_named name namespace pos) (variable_value (in_use searches offset) name entries) behind
+      ap Some (in_module namespace.path (variable_named name namespace pos) (in_use searches namespace.index)
+      (variable_value (in_use searches offset) name entries) behind
       ∙ ap beside (sym (is tt)))
   found_in_module _ v behind is = absurd is
 
-  none_in_module : (form : ExprLayer) (e : EvalAltResult H) → is_variable form ≡ false → IsBeside globals around form (Err e) →
+  none_in_module : (form : ExprLayer) (e : EvalAltResult H) → is_variable form ≡ false → IsBehind searches globals around form (Err e) →
       is_out_of_memory e ≡ false → found_behind searches form globals around entries ≡ Some (Err e)
   none_in_module (layer.Variable offset name namespace pos) e behind is told =
-      ap Some (in_module namespace.path (variable_named name namespace pos) (variable_value (in_use searches offset) name entries) behind
+      ap Some (in_module namespace.path (variable_named name namespace pos) (in_use searches namespace.index)
+      (variable_value (in_use searches offset) name entries) behind
       ∙ ap beside (sym (is told)))
   none_in_module _ e behind is told = absurd is
 
   pub missed_in_module : {A : Type 0} (form : ExprLayer) (r : Result A (EvalAltResult H)) (e : EvalAltResult H) →
-      is_variable form ≡ false → r ≡ Err e → IsBeside globals around form (Err e) →
+      is_variable form ≡ false → r ≡ Err e → IsBehind searches globals around form (Err e) →
       IfErr r (λ e. is_out_of_memory e ≡ false → found_behind searches form globals around entries ≡ Some (Err e))
   missed_in_module form (Ok v) e behind is by = tt
   missed_in_module form (Err f) e behind is by = λ told.
       let same : f ≡ e = cc in rw same (none_in_module form e behind by (rw same at told))
+
+by_path : (is_unqualified : Bool) (index : Option NonZeroUsize) (count : ℕ) → is_unqualified ≡ false →
+    Fits (if is_unqualified then None else index) count → Fits index count
+by_path true index count behind fits = cc
+by_path false index count behind fits = fits
+
+-- the index of a path that is there fits
+pub index_fits : (searches : Bool) (form : ExprLayer) (offset : Option NonZeroUsize) (name : List ℕ) (namespace : Namespace)
+    (pos : Position) (count : ℕ) → form ≡ layer.Variable offset name namespace pos → is_variable form ≡ false →
+    Fits (index_in searches form) count → Fits (in_use searches namespace.index) count
+index_fits searches form offset name namespace pos count is behind fits =
+    by_path (is_unqualified namespace.path) (in_use searches namespace.index) count (rw is at behind) (rw is at fits)
 
 -- a value is there, seen or copied
 pub seen_there : {H : Type 0} (seen : Option (Bor (Dynamic H))) (there : Option (Dynamic H)) (b : Bool) → option_copied seen ≡ there →

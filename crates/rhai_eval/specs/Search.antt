@@ -1,19 +1,14 @@
 -- What a variable's name finds in a scope, and beside it.
-use Rattle.std.specs.Prelude.{ℕ, ◌-◌, Bool, true, false, List, [], ◌∷◌, length, slice_get, Option, Some, None, Result, Ok, Err}
-use Rattle.std.specs.Int.NonZero.{non_zero_usize_get}
-use Rattle.std.specs.Option.{option_map}
+use Rattle.std.specs.Prelude.{ℕ, Bool, true, false, List, [], ◌∷◌, Option, Some, None, Result, Ok, Err}
 use Rattle.std.specs.declared.num.NonZeroUsize.{NonZeroUsize}
 use Rattle.rhai_tree.specs.declared.expr.Expr.TheOpen as layer
 use Rattle.rhai_tree.specs.declared.position.Position.{Position}
 use Rattle.rhai_tree.specs.Forms.{is_unqualified}
 use Rattle.rhai_tree.specs.Layers.{ExprLayer}
 use Rattle.rhai_values.specs.declared.base.value.Dynamic.{Dynamic}
-use Rattle.rhai_values.specs.declared.base.value.Import.{Import, out-Import}
-use Rattle.rhai_values.specs.declared.base.value.Module.{Module}
 use Rattle.rhai_state.specs.declared.scope.ScopeEntry.{ScopeEntry}
 use Rattle.rhai_errors.specs.declared.error.EvalAltResult.{EvalAltResult}
 use Rattle.rhai_state.specs.Scope.{variable_value, in_use}
-use Rattle.rhai_functions.specs.Namespaces.{root_in}
 use Rattle.rhai_spots.specs.declared.part.Part.{Part}
 use Rattle.rhai_spots.specs.declared.part.Part.TheVariants as part
 use Rattle.rhai_machine.specs.language.Setting.{Globals}
@@ -21,6 +16,7 @@ use Rattle.rhai_machine.specs.language.State.{Answers, Surroundings}
 use Rattle.rhai_machine.specs.language.Values.{Cells, unit_value}
 use Rattle.rhai_machine.specs.language.Variables.{Variable, variable_named}
 use Rattle.rhai_machine.specs.language.Names.{value_beside, variable_of}
+use Rattle.rhai_steps.specs.Roots.{path_searched}
 
 -- a variable, behind a path or not
 abbrev pub names_variable : ExprLayer → Bool
@@ -62,33 +58,21 @@ module _ {H : Type 0} where
       (named globals around (variable_named name namespace pos) (variable_value (in_use searches offset) name entries))
   searched searches _ globals around entries = None
 
-  -- what the scope has of a name stands there for a name without a path alone
-  abbrev pub without_path : (path : List (List ℕ)) → Option (Dynamic H) → Option (Dynamic H)
-  without_path [] there = there
-  without_path (root ∷ path) there = None
+  -- what a variable means, by its path: without one an entry or what its name means beside those, and behind one a constant of the
+  -- module that the path leads to, whose root is found by its index where one is in use, and else by its name
+  abbrev pub found_by_path : (path : List (List ℕ)) → Globals H → Surroundings H → Variable → (index : Option NonZeroUsize) →
+      Option (Dynamic H) → Result (Dynamic H × Part H) (EvalAltResult H)
+  found_by_path [] globals around variable index there = named globals around variable there
+  found_by_path (root ∷ path) globals around variable index there =
+      beside (path_searched globals around index (root ∷ path) variable.name variable.path.at)
 
   -- what the search for any variable finds
   abbrev pub found_behind : Bool → ExprLayer → Globals H → Surroundings H → List (ScopeEntry H) →
       Option (Result (Dynamic H × Part H) (EvalAltResult H))
   found_behind searches (layer.Variable offset name namespace pos) globals around entries = Some
-      (named globals around (variable_named name namespace pos)
-      (without_path namespace.path (variable_value (in_use searches offset) name entries)))
+      (found_by_path namespace.path globals around (variable_named name namespace pos) (in_use searches namespace.index)
+      (variable_value (in_use searches offset) name entries))
   found_behind searches _ globals around entries = None
-
-  -- the module of an import
-  abbrev pub module_of : Import H → Module H
-  module_of i = (out-Import H i).«module»
-
-  -- the module of the import at an offset from the newest
-  abbrev pub import_at : List (Import H) → ℕ → Option (Module H)
-  import_at imports offset = option_map module_of (slice_get imports (length imports - offset))
-
-  -- the root of a path: by its offset among the imports where one is in use, and else by its name
-  abbrev pub root_searched : Option NonZeroUsize → (path : List (List ℕ)) → List (Import H) → (named : List (List ℕ) × List (Module H)) →
-      Option (Module H)
-  root_searched (Some offset) path imports named = import_at imports (non_zero_usize_get offset)
-  root_searched None [] imports named = None
-  root_searched None (root ∷ path) imports named = root_in root imports named
 
   -- the value of the variable, if a scope has it
   abbrev pub value_there : Bool → ExprLayer → List (ScopeEntry H) → Option (Dynamic H)
@@ -100,3 +84,9 @@ module _ {H : Type 0} where
   IsBeside globals around (layer.Variable offset name namespace pos) result =
       Answers result (value_beside globals around (variable_named name namespace pos))
   IsBeside globals around _ result = ⊥
+
+  -- what comes of reading a name behind a path, whose root is found by its index where one is in use
+  abbrev pub IsBehind : Bool → Globals H → Surroundings H → ExprLayer → Result (Dynamic H) (EvalAltResult H) → Type 0
+  IsBehind searches globals around (layer.Variable offset name namespace pos) result =
+      Answers result (path_searched globals around (in_use searches namespace.index) namespace.path name namespace.position)
+  IsBehind searches globals around _ result = ⊥

@@ -11,7 +11,7 @@ ghost use Rattle.rhai_machine.specs.language.Links.{first_in};
 ghost use Rattle.rhai_fits.specs.Contents.{Nothing, of_new, of_result};
 ghost use Rattle.rhai_fits.specs.Sealed.{AreSealed};
 ghost use Rattle.rhai_call_forms.specs.Leading.{all_args};
-ghost use Rattle.rhai_steps.specs.Agreement.{AgreesAt, passes};
+ghost use Rattle.rhai_steps.specs.Agreement.{AgreesAt, call_leads, passes};
 ghost use Rattle.rhai_steps.specs.States.{holding, state_of};
 ghost use Rattle.rhai_eval.specs.ArgumentValues.{value_with};
 ghost use Rattle.rhai_eval.specs.Chains.{assigned_in, AssignsNoHandle, chain_resolves};
@@ -206,7 +206,7 @@ pub fn make_qualified_function_call<H: Host, T: NativeTable<H>>(
     args_expr: &[Expr],
     pos: Position,
 ) -> Result<Dynamic<H>, EvalAltResult<H>>
-    requires resolves { AgreesAt global.old scope.old (all_resolve_exprs (map tests_of args_expr.now)) }
+    requires resolves { AgreesAt global.old scope.old (call_leads namespace.now args_expr.now) }
     requires behind { is_unqualified namespace.now.path ≡ false }
     requires sealed { AreSealed (cells_of global.old.cells) }
     ensures fits { FitsAgain (under H.name_of engine.now T.natives) Nothing

@@ -12,12 +12,16 @@ use Rattle.rhai_tree.specs.Names.{Frame, Name}
 use Rattle.rhai_tree.specs.Reading as walk
 use Rattle.rhai_tree.specs.Reading.{sound}
 use Rattle.rhai_tree.proofs.Walk.{resolves-expr}
-use Rattle.rhai_steps.specs.Agreement.{variable_is_good}
+use Rattle.rhai_steps.specs.Agreement.{call_leads, root_is_good, variable_is_good, variable_leads}
 
 pub both : (a b : Bool) → IsTrue (a && b) → IsTrue a × IsTrue b
 both true true h = (refl, refl)
 both true false h = (refl, h)
 both false b h = (h, cc)
+
+all_hold : (a b : Bool) → IsTrue a → IsTrue b → IsTrue (a && b)
+all_hold true b is holds = holds
+all_hold false b is holds = is
 
 -- what resolves under a test has the test
 pub holds_then : (test b : Bool) → IsTrue (if test then b else false) → IsTrue test × IsTrue b
@@ -35,14 +39,22 @@ two_resolve left right frame h =
     (first.0, (both (resolves_expr right frame) true first.1).0)
 
 module _ (call : FnCallExpr) (pos : Position) (frame : Frame) (h : IsTrue (resolves_call call pos frame)) where
-  -- the arguments of a call that resolves do
-  pub operands_of_call : IsTrue (all_resolve_exprs (map tests_of call.args) frame)
-  operands_of_call =
+  parts_of_call : IsTrue (walk.found_in_namespace sound call.namespace frame) × IsTrue (all_resolve_exprs (map tests_of call.args) frame)
+  parts_of_call =
       let opened = fold_out-FnCallExpr (walk.Seen sound) (walk.SeenStmt sound) (walk.SeenConditional sound) (walk.SeenCall sound)
       (walk.SeenEntry sound) (walk.Seen sound) (walk.expr_step sound) (walk.stmt_step sound) (walk.conditional_step sound)
       (walk.call_step sound)
       (walk.entry_step sound) (walk.block_step sound) call in
-      (both _ _ (fails_then _ _ (subst (λ (s : walk.SeenCall sound). IsTrue (s.value pos frame)) opened h)).1).1
+      both _ _ (fails_then _ _ (subst (λ (s : walk.SeenCall sound). IsTrue (s.value pos frame)) opened h)).1
+
+  -- the arguments of a call that resolves do
+  pub operands_of_call : IsTrue (all_resolve_exprs (map tests_of call.args) frame)
+  operands_of_call = parts_of_call.1
+
+  -- and the index of its path is good
+  pub path_of_call : IsTrue (call_leads call.namespace call.args frame)
+  path_of_call = all_hold (root_is_good call.namespace frame) (all_resolve_exprs (map tests_of call.args) frame)
+      (holds_then (root_is_good call.namespace frame) true parts_of_call.0).0 parts_of_call.1
 
 -- the operands of a call that resolves do
 pub operands_resolve : (call : FnCallExpr) (pos : Position) (left right : Expr) (frame : Frame) → call.args ≡ left ∷ right ∷ [] →
@@ -57,12 +69,15 @@ pub call_resolves : (e : Expr) (call : FnCallExpr) (pos : Position) (left right 
 call_resolves e call pos left right frame is args h = operands_resolve call pos left right frame args
     (subst (λ (t : walk.Seen sound). IsTrue (t.value frame)) (resolves-expr e (layer.Expr::FnCall call pos) is) h)
 
--- the offset of a variable that resolves is good
+-- the offset of a variable that resolves is good, and so is the index of its path
 pub good_name : (e : Expr) (offset : Option NonZeroUsize) (name : Name) (namespace : Namespace) (pos : Position) (frame : Frame) →
     out-Expr e ≡ layer.Variable offset name namespace pos → IsTrue (resolves_expr e frame) →
-    IsTrue (variable_is_good offset name namespace.path frame)
-good_name e offset name namespace pos frame is h = (holds_then _ true (both _ _
-    (subst (λ (t : walk.Seen sound). IsTrue (t.value frame)) (resolves-expr e (layer.Variable offset name namespace pos) is) h)).1).0
+    IsTrue (variable_leads offset name namespace frame)
+good_name e offset name namespace pos frame is h =
+    let parts = both _ _ (subst (λ (t : walk.Seen sound). IsTrue (t.value frame))
+    (resolves-expr e (layer.Variable offset name namespace pos) is) h) in
+    all_hold (variable_is_good offset name namespace.path frame) (root_is_good namespace frame)
+    (holds_then _ true parts.1).0 (holds_then _ true parts.0).0
 
 -- so it is with the target of an assignment
 place_then : (place b : Bool) → IsTrue (if place then b else (false && b)) → IsTrue b
@@ -71,6 +86,6 @@ place_then false b h = cc
 
 pub good_target : (e : Expr) (offset : Option NonZeroUsize) (name : Name) (namespace : Namespace) (pos : Position) (frame : Frame) →
     out-Expr e ≡ layer.Variable offset name namespace pos → IsTrue (target_resolves (tests_of e) frame) →
-    IsTrue (variable_is_good offset name namespace.path frame)
+    IsTrue (variable_leads offset name namespace frame)
 good_target e offset name namespace pos frame is h = good_name e offset name namespace pos frame is
     (place_then (tests_of e).is_place ((tests_of e).value frame) h)

@@ -1,10 +1,13 @@
 -- The steps of shared variables.
 use Rattle.std.proofs.Common.{◌≡◌, ◌<◌, ◌≤◌, ◌+◌, ◌∷◌, ℕ, zero, suc, [], true, false, List, Option, Some, None, add-one, ap, arith}
-use Rattle.std.proofs.Common.{drop, drop-cons, get_or, length, refl, sym, ◌∙◌}
+use Rattle.std.proofs.Common.{drop, drop-cons, get_or, length, refl, subst, sym, ◌∙◌, IsTrue}
 use Rattle.std.proofs.lemmas.Bool.{true≢false}
 use Rattle.std.proofs.lemmas.List as Lemmas
 use Rattle.std.specs.Prelude.{slice_get}
 use Rattle.rhai_tree.specs.declared.expr.SharedVariable.{SharedVariable}
+use Rattle.rhai_tree.specs.Frame.{shared_resolve}
+use Rattle.rhai_tree.specs.Names.{Name, is_good}
+use Rattle.rhai_tree.proofs.Statements.{shared_at}
 use Rattle.rhai_values.specs.declared.base.value.Dynamic.{Dynamic}
 use Rattle.rhai_errors.specs.declared.error.EvalAltResult.{EvalAltResult}
 use Rattle.rhai_errors.specs.declared.error.EvalAltResult.TheVariants as error
@@ -23,7 +26,9 @@ use Rattle.rhai_machine.specs.language.Sharing.{shared}
 use Rattle.rhai_machine.specs.language.State.{Held, Local, State}
 use Rattle.rhai_machine.specs.language.Values.{unit_value}
 use Rattle.rhai_machine.specs.language.Language.{machine}
+use Rattle.rhai_steps.specs.Agreement.{Agrees, Sight, variable_is_good}
 use Rattle.rhai_steps.specs.States.{local_of, state_of}
+use Rattle.rhai_steps.proofs.Agreeing.{brings, same}
 use Rattle.rhai_steps.proofs.Pieces.{or_runs_out, step_by}
 
 pub drop_item : {A : Type 0} (xs : List A) (i : ℕ) (x : A) → i < length xs → x ≡ get_or xs i x → drop i xs ≡ x ∷ drop (i + 1) xs
@@ -40,6 +45,14 @@ item_there (x ∷ xs) (suc i) lt = item_there xs i (omega arith)
 pub is_none : {A : Type 0} (o : Option A) → ((x : A) → o ≡ Some x → ⊥) → o ≡ None
 is_none None not = refl
 is_none (Some x) not = absurd (not x refl)
+
+-- the offset of a variable that is shared is good, where those before it left the frame as it was
+pub shared_agrees : {sight was : Sight} {names known : List Name} (variables : List SharedVariable) (i : ℕ) (variable : SharedVariable) →
+    sight ≡ was → names ≡ known → i < length variables → variable ≡ get_or variables i variable →
+    Agrees was known (shared_resolve variables) → Agrees sight names (variable_is_good variable.offset variable.ident.name [])
+shared_agrees variables i variable sight names lt is h =
+    same sight names (brings (λ frame good. subst (λ (v : SharedVariable). IsTrue (is_good v.offset v.ident.name frame.names)) (sym is)
+    (shared_at variables i variable frame lt good)) h)
 
 -- what becomes of a state of which a part writes its variables and cells alone
 pub left_so : {S H : Type 0} (t : S) (old new : GlobalRuntimeState H) (before behind : Scope H) (held : Held H) (m : Local H) →

@@ -1,14 +1,17 @@
 -- What a run may still rely on after a part of it, and what follows of it.
-use Rattle.std.proofs.Common.{◌≡◌, ◌++◌, ◌∷◌, [], ℕ, zero, suc, Bool, true, false, IsTrue, List, Option, Some, refl, sym, ap, subst, arith}
-use Rattle.std.proofs.Common.{◌∙◌}
+use Rattle.std.proofs.Common.{◌≡◌, ◌++◌, ◌∷◌, [], ℕ, zero, suc, Bool, true, false, IsTrue, List, Option, None, Some, refl, sym, ap}
+use Rattle.std.proofs.Common.{◌∙◌, subst, arith}
 use Rattle.std.proofs.lemmas.Bool.{eqb-true}
 use Rattle.std.specs.Int.NonZero.{non_zero_usize_get}
-use Rattle.std.specs.Prelude.{if◌then◌else◌}
+use Rattle.std.specs.Prelude.{◌&&◌, if◌then◌else◌, length, map}
 use Rattle.std.specs.declared.num.NonZeroUsize.{NonZeroUsize}
 use Rattle.rhai_tree.specs.Forms.{is_unqualified}
-use Rattle.rhai_tree.specs.Names.{Frame, Name, is_good, stands, with_import}
-use Rattle.rhai_state.specs.Scope.{in_use}
-use Rattle.rhai_steps.specs.Agreement.{Agrees, Leads, Restores, Sight, Test, framed, variable_is_good}
+use Rattle.rhai_tree.specs.Names.{Frame, Name, is_good, is_good_root, stands, with_import}
+use Rattle.rhai_tree.specs.declared.expr.Namespace.{Namespace}
+use Rattle.rhai_state.specs.Scope.{Fits, in_use, index_of, name_of, place_of}
+use Rattle.rhai_state.specs.declared.scope.ScopeEntry.{ScopeEntry}
+use Rattle.rhai_state.proofs.Newest.{good_fits, place_is_newest}
+use Rattle.rhai_steps.specs.Agreement.{Agrees, Leads, Restores, Sight, Test, framed, root_is_good, variable_is_good, variable_leads}
 
 -- one part after another
 pub leads_then : {a b c : Sight} {k : Frame} {l m : List Name} → Leads a k b l → Leads b (framed b l) c m → Leads a k c m
@@ -101,3 +104,59 @@ pub good_alone : {sight : Sight} {names : List Name} (offset : Option NonZeroUsi
     is_unqualified path ≡ true → Agrees sight names (variable_is_good offset name path) →
     Agrees sight names (variable_is_good offset name [])
 good_alone offset name path is h = brings (λ frame good. rw is at good) h
+
+-- the place that it leads to, where it is in use, is that of the newest variable of its name
+module _ {H : Type 0} (sight : Sight) (offset : Option NonZeroUsize) (name : Name) (entries : List (ScopeEntry H))
+    (good : Agrees sight (map name_of entries) (variable_is_good offset name [])) where
+  pub place_agrees : place_of (in_use sight.searched offset) name entries ≡ index_of name entries
+  place_agrees = place_is_newest (in_use sight.searched offset) name entries (good_in_use sight offset name (map name_of entries) good)
+
+  -- so is an index that is that place
+  pub index_agrees : (index : Option ℕ) → index ≡ place_of (in_use sight.searched offset) name entries → index ≡ index_of name entries
+  index_agrees index is = is ∙ place_agrees
+
+  -- and it is at most the number of variables
+  pub place_fits : Fits (in_use sight.searched offset) (length entries)
+  place_fits = good_fits (in_use sight.searched offset) name entries (good_in_use sight offset name (map name_of entries) good)
+
+-- ---- what a variable or a call hands on of its path
+
+both_hold : (a b : Bool) → IsTrue (a && b) → IsTrue a × IsTrue b
+both_hold true true h = (refl, refl)
+both_hold true false h = (refl, h)
+both_hold false b h = (h, cc)
+
+-- a test and another hold
+pub one_agrees : {sight : Sight} {names : List Name} (one other : Test) → Agrees sight names (λ frame. one frame && other frame) →
+    Agrees sight names one
+one_agrees one other h = brings (λ frame good. (both_hold (one frame) (other frame) good).0) h
+
+pub other_agrees : {sight : Sight} {names : List Name} (one other : Test) → Agrees sight names (λ frame. one frame && other frame) →
+    Agrees sight names other
+other_agrees one other h = brings (λ frame good. (both_hold (one frame) (other frame) good).1) h
+
+-- an index that is not given is good
+none_given : (path imports : List Name) → IsTrue (is_good_root None path imports)
+none_given [] imports = refl
+none_given (root ∷ path) imports = refl
+
+root_by : (searched : Bool) (sight : Sight) (names : List Name) (namespace : Namespace) → sight.searched ≡ searched →
+    Agrees sight names (root_is_good namespace) → IsTrue (is_good_root (in_use searched namespace.index) namespace.path sight.imports)
+root_by true sight names namespace is h = none_given namespace.path sight.imports
+root_by false sight names namespace is h = subst (λ (f : Frame). IsTrue (root_is_good namespace f)) (sym (h.stands is)) h.holds
+
+-- the index of a path that agrees is good where it is in use
+pub root_agrees : (sight : Sight) (names : List Name) (namespace : Namespace) → Agrees sight names (root_is_good namespace) →
+    IsTrue (is_good_root (in_use sight.searched namespace.index) namespace.path sight.imports)
+root_agrees sight names namespace h = root_by sight.searched sight names namespace refl h
+
+-- what a variable hands on: of its offset, and of the index of its path
+pub offset_agrees : {sight : Sight} {names : List Name} (offset : Option NonZeroUsize) (name : Name) (namespace : Namespace) →
+    Agrees sight names (variable_leads offset name namespace) → Agrees sight names (variable_is_good offset name namespace.path)
+offset_agrees offset name namespace h = one_agrees (variable_is_good offset name namespace.path) (root_is_good namespace) h
+
+pub path_agrees : (sight : Sight) (names : List Name) (offset : Option NonZeroUsize) (name : Name) (namespace : Namespace) →
+    Agrees sight names (variable_leads offset name namespace) →
+    IsTrue (is_good_root (in_use sight.searched namespace.index) namespace.path sight.imports)
+path_agrees sight names offset name namespace h =
+    root_agrees sight names namespace (other_agrees (variable_is_good offset name namespace.path) (root_is_good namespace) h)

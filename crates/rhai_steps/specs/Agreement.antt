@@ -1,12 +1,15 @@
 -- What a run relies on of the frame that its tree was checked above: its variables and imports are those, or variables are searched for.
 use Rattle.std.specs.declared.num.NonZeroUsize.{NonZeroUsize}
-use Rattle.std.specs.Prelude.{◌≡◌, ◌++◌, ◌∷◌, [], if◌then◌else◌, Bool, false, IsTrue, List, Option, map}
+use Rattle.std.specs.Prelude.{◌≡◌, ◌++◌, ◌∷◌, [], ◌&&◌, if◌then◌else◌, Bool, false, IsTrue, List, Option, map}
 use Rattle.rhai_tree.specs.Forms.{is_unqualified}
-use Rattle.rhai_tree.specs.Names.{Frame, Name, is_good}
+use Rattle.rhai_tree.specs.Frame.{all_resolve_exprs, tests_of}
+use Rattle.rhai_tree.specs.Names.{Frame, Name, is_good, is_good_root}
+use Rattle.rhai_tree.specs.declared.expr.Expr.{Expr}
+use Rattle.rhai_tree.specs.declared.expr.Namespace.{Namespace}
 use Rattle.rhai_values.specs.declared.base.value.Import.{Import}
 use Rattle.rhai_state.specs.declared.scope.Scope.{Scope}
 use Rattle.rhai_state.specs.declared.state.GlobalRuntimeState.{GlobalRuntimeState}
-use Rattle.rhai_state.specs.Scope.{names_in}
+use Rattle.rhai_state.specs.Scope.{names_in, in_use}
 use Rattle.rhai_state.specs.State.{import_name}
 
 -- what a form asks of its frame
@@ -32,6 +35,18 @@ above change test frame = test (change frame)
 -- a variable has no offset, or that of the newest of its name, and behind a path it has none
 abbrev pub variable_is_good : Option NonZeroUsize → Name → (path : List Name) → Test
 variable_is_good offset name path frame = is_good offset name (if is_unqualified path then frame.names else [])
+
+-- a path has no index, or that of the newest import of its root's name
+abbrev pub root_is_good : Namespace → Test
+root_is_good namespace frame = is_good_root namespace.index namespace.path frame.imports
+
+-- a variable behind a path, or by itself: its offset is good, and so is the index of the path
+abbrev pub variable_leads : Option NonZeroUsize → Name → Namespace → Test
+variable_leads offset name namespace frame = variable_is_good offset name namespace.path frame && root_is_good namespace frame
+
+-- a call behind a path: the index of the path is good, and each of the arguments may run
+abbrev pub call_leads : Namespace → (args : List Expr) → Test
+call_leads namespace args frame = root_is_good namespace frame && all_resolve_exprs (map tests_of args) frame
 
 -- what a checker knows of a state: whether variables are searched for, and the names of the imports, oldest first
 pub record Sight : Type 0 where
@@ -74,6 +89,11 @@ module _ {H : Type 0} where
   -- a test agrees with the frame of a state and a scope
   abbrev pub AgreesAt : GlobalRuntimeState H → Scope H → Test → Type 0
   AgreesAt global scope test = Agrees (sight_of global) (names_in scope) test
+
+  -- the index of a path is not in use, or it is that of the newest import of its root's name
+  abbrev pub RootStands : GlobalRuntimeState H → Namespace → Type 0
+  RootStands global namespace =
+      IsTrue (is_good_root (in_use global.always_search_scope namespace.index) namespace.path (imports_in global.imports))
 
   -- what neither imports nor searches leaves what a checker knows of the state
   abbrev pub KeepsSight : (old new : GlobalRuntimeState H) → Type 0

@@ -6,6 +6,7 @@ pub mod Loops
 pub mod OnFocus
 pub mod Offers
 pub mod Offsets
+pub mod Roots
 pub mod Saves
 pub mod States
 pub mod Values

@@ -10,5 +10,6 @@ pub mod operation;
 pub mod outcome;
 pub mod qualified;
 pub mod replies;
+pub mod roots;
 pub mod values;
 pub mod variables;

@@ -1,21 +1,27 @@
 //! Values behind a path. Ports upstream's `search_namespace`.
 
-ghost use Rattle.std.specs.Prelude.{◌≡◌, ◌++◌, ◌∷◌, [], IfOk, Ok, OnOk, false};
+ghost use Rattle.std.specs.Prelude.{◌≡◌, ◌++◌, ◌∷◌, [], IfOk, Ok, OnOk, false, length};
 ghost use Rattle.std.specs.String.{string_bytes};
 ghost use Rattle.rhai_errors.specs.Errors.{is_out_of_memory};
 ghost use Rattle.rhai_errors.specs.declared.error.EvalAltResult.TheVariants as error;
 ghost use Rattle.rhai_tree.specs.Lookup.{value_of};
 ghost use Rattle.rhai_machine.specs.language.Names.{own_constants};
 ghost use Rattle.rhai_machine.specs.language.State.{Answers};
+ghost use Rattle.rhai_state.specs.Scope.{in_use, Fits};
+ghost use Rattle.rhai_steps.specs.Offers.{globals_in};
+ghost use Rattle.rhai_steps.specs.Roots.{path_searched};
 ghost use Rattle.rhai_steps.specs.States.{surroundings_of};
-ghost use Rattle.rhai_functions.specs.Qualified.{text_behind, found_or_missing, is_global as is_own, path_text, qualified, read_only};
+ghost use Rattle.rhai_functions.specs.Qualified.{found_or_missing, is_global as is_own};
+ghost use Rattle.rhai_functions.specs.Qualified.{path_text, read_only, text_behind};
 ghost use Rattle.std.specs.Option.{option_copied};
 
+use crate::roots::root_of;
 use crate::values::copy;
 use rhai_errors::error::EvalAltResult;
-use rhai_functions::paths::{find_constant, find_down, find_root};
+use rhai_functions::paths::{find_constant, find_down};
 use rhai_state::session::Session;
 use rhai_state::state::GlobalRuntimeState;
+use rhai_tree::expr::Namespace;
 use rhai_tree::position::Position;
 use rhai_tree::{Shared, Text};
 use rhai_values::base::value::{AccessMode, Dynamic, Host};
@@ -144,32 +150,30 @@ fn find_own_constant<'g, H>(global: &'g GlobalRuntimeState<H>, name: &str) -> Op
 }
 
 /// Reads the value of a name behind a path, as a copy that may not be written. It is the constant of that
-/// name in the module that the path leads to, from the newest import of its first name, or else from the
-/// engine's module of that name. Where there is neither and the path is `global` alone, it is the state's own
-/// constant.
+/// name in the module that the path leads to, from its root on, which is found as `root_of` says. Where
+/// there is no root and the path is `global` alone, it is the state's own constant. Asked: the path's index
+/// is at most the number of imports.
 ///
 /// # Errors
-/// Both at the position: `ErrorModuleNotFound` with the path where nothing has its first name, and
-/// `ErrorVariableNotFound` with the path and the name.
+/// Both at the path: `ErrorModuleNotFound` with the path where it has no root, and `ErrorVariableNotFound`
+/// with the path and the name.
 pub fn search_path<H: Host>(
     session: &Session<'_, H>,
     global: &GlobalRuntimeState<H>,
-    path: &[Shared<Text>],
+    namespace: &Namespace,
     name: &str,
-    pos: Position,
 ) -> Result<Dynamic<H>, EvalAltResult<H>>
-    ensures { Answers result (qualified global.now.imports session.now.offered.global_sub_modules.now
-        (own_constants (surroundings_of global.now)) path.now name.now pos) }
+    requires { Fits (in_use global.now.always_search_scope namespace.now.index) (length global.now.imports) }
+    ensures { Answers result (path_searched (globals_in session.now.offered) (surroundings_of global.now)
+        (in_use global.now.always_search_scope namespace.now.index) namespace.now.path name.now
+        namespace.now.position) }
 {
-    let [root, rest @ ..] = path else {
+    let path = namespace.path.as_slice();
+    let pos = namespace.position;
+    let [_root, rest @ ..] = path else {
         return Err(no_module(session.alloc, path, pos));
     };
-    let imports = global.imports.as_slice();
-    match find_root(
-        imports,
-        session.offered.global_sub_modules,
-        root.get().as_str(),
-    ) {
+    match root_of(global, session.offered.global_sub_modules, namespace) {
         Some(root) => {
             let found = match find_down(root, rest) {
                 Some(within) => find_constant(within, name),

@@ -1,14 +1,15 @@
 //! Variables, and what a restoring list takes back.
 
 ghost use Rattle.std.specs.Prelude.{◌≡◌, ℕ, List, Ok, Err, Some, None, false, IsTrue, ◌++◌, ◌∷◌, [], true};
-ghost use Rattle.std.specs.Prelude.{not, ◌&&◌, ◌<◌, is_none, is_some, length, take, IfSome, IfOk, IfErr, OnOk, OnErr};
+ghost use Rattle.std.specs.Prelude.{not, ◌&&◌, ◌<◌, ◌-◌, is_none, is_some, length, take, IfSome, IfOk, IfErr, OnOk, OnErr};
+ghost use Rattle.std.specs.Int.NonZero.{non_zero_usize_get};
 ghost use Rattle.std.specs.Borrow.{sem};
 ghost use Rattle.rhai_values.specs.Cells.{cells_of};
 ghost use Rattle.rhai_errors.specs.Errors.{is_out_of_memory};
 ghost use Rattle.rhai_errors.specs.declared.error.EvalAltResult.TheVariants as error;
 ghost use Rattle.rhai_tree.specs.Forms.{is_exported as exported, is_unqualified};
 ghost use Rattle.rhai_tree.specs.declared.expr.Expr.{out-Expr};
-ghost use Rattle.rhai_state.specs.Scope.{entries_of, variable_value, index_of, new_entry, Fits};
+ghost use Rattle.rhai_state.specs.Scope.{entries_of, variable_value, index_of, new_entry, in_use, place_of, Fits};
 ghost use Rattle.rhai_machine.specs.language.State.{Answers};
 ghost use Rattle.rhai_machine.specs.language.Values.{copied, unit_value as unit};
 ghost use Rattle.rhai_machine.specs.language.Functions.{pointer_to};
@@ -16,7 +17,7 @@ ghost use Rattle.rhai_machine.specs.language.Names.{bound_this, entry_named, loo
 ghost use Rattle.rhai_machine.specs.language.Names.{value_beside, variable_of, without_entry};
 ghost use Rattle.rhai_machine.specs.language.Variables.{variable_named};
 ghost use Rattle.rhai_machine.specs.language.Statements.{deeper, mode_of as mode_asked};
-ghost use Rattle.rhai_steps.specs.Agreement.{AgreesAt, variable_is_good};
+ghost use Rattle.rhai_steps.specs.Agreement.{AgreesAt, RootStands, variable_is_good};
 ghost use Rattle.rhai_steps.specs.Declaring.{declarable, is_full, is_taken};
 ghost use Rattle.rhai_steps.specs.Lends.{lends_variable, with_value};
 ghost use Rattle.rhai_steps.specs.Offers.{globals_in};
@@ -55,16 +56,18 @@ pub struct Variable<'a> {
     pub at: Position,
 }
 
-/// Finds the index of the newest variable of a name. It goes by the offset where that is given and variables
-/// are not searched for, and else by search. Asked: the offset leads to the newest variable of the name.
+/// Finds the index of a variable. By an offset it is the one there, counted from the newest, whatever its
+/// name; where none is given or variables are searched for, the newest of the name. Asked: the offset is at
+/// most the number of variables.
 pub fn index_of_variable<H: Host>(
     global: &GlobalRuntimeState<H>,
     scope: &Scope<H>,
     offset: Option<NonZeroUsize>,
     name: &Shared<Text>,
 ) -> Option<usize>
-    requires { AgreesAt global.now scope.now (variable_is_good offset name.now []) }
-    ensures exact { result ≡ index_of name.now (entries_of scope.now) }
+    requires { Fits (in_use global.now.always_search_scope offset) (length (entries_of scope.now)) }
+    ensures exact { result ≡ place_of (in_use global.now.always_search_scope offset) name.now
+        (entries_of scope.now) }
     ensures within { IfSome result (λ at. at < length (entries_of scope.now)) }
 {
     let offset = global.offset_in_use(offset);
@@ -80,7 +83,7 @@ pub fn is_plain(namespace: &Namespace) -> bool
 }
 
 /// Finds the entry that a variable means, as `index_of_variable` finds it. None for a name behind a path, and
-/// for one that no entry has.
+/// for one that no entry has. Asked: the offset leads to the newest variable of the name.
 #[inline(always)]
 pub fn entry_of_variable<H: Host>(
     global: &GlobalRuntimeState<H>,
@@ -91,6 +94,8 @@ pub fn entry_of_variable<H: Host>(
 ) -> Option<usize>
     requires { AgreesAt global.now scope.now (variable_is_good offset name.now namespace.now.path) }
     ensures exact { result ≡ entry_named namespace.now.path name.now (entries_of scope.now) }
+    ensures by_offset { IfSome (in_use global.now.always_search_scope offset) (λ k.
+        result ≡ Some (length (entries_of scope.now) - non_zero_usize_get k)) }
     ensures within { IfSome result (λ at. at < length (entries_of scope.now)) }
 {
     match index_by_offset(global, scope, offset, name, namespace) {
@@ -118,6 +123,8 @@ pub fn index_by_offset<H: Host>(
 ) -> Option<usize>
     requires { AgreesAt global.now scope.now (variable_is_good offset name.now _namespace.now.path) }
     ensures exact { IfSome result (λ at. entry_named _namespace.now.path name.now (entries_of scope.now) ≡ Some at) }
+    ensures by_offset { IfSome (in_use global.now.always_search_scope offset) (λ k.
+        result ≡ Some (length (entries_of scope.now) - non_zero_usize_get k)) }
     ensures within { IfSome result (λ at. at < length (entries_of scope.now)) }
 {
     let offset = global.offset_in_use(offset)?;
@@ -169,7 +176,7 @@ fn function_pointer<H: Host>(
 ///
 /// # Errors
 /// `ErrorVariableNotFound` at the position, where there is neither.
-fn read_global<H: Host>(
+pub fn read_global<H: Host>(
     session: &Session<'_, H>,
     lib: &[Shared<Module<H>>],
     name: &Shared<Text>,
@@ -192,7 +199,7 @@ fn read_global<H: Host>(
 
 /// Reads what a variable means that is no entry of the scope, as it is. By itself it is a constant of the
 /// engine's modules or a function of the libraries, and behind a path a constant of the module that the path
-/// leads to.
+/// leads to. Asked: the index of the path leads to the newest import of its first name, or is not in use.
 ///
 /// # Errors
 /// `ErrorVariableNotFound` at the name where it stands by itself, and those of `search_path` at the path.
@@ -203,24 +210,19 @@ pub fn read_beside<H: Host>(
     namespace: &Namespace,
     pos: Position,
 ) -> Result<Dynamic<H>, EvalAltResult<H>>
+    requires { RootStands global.now namespace.now }
     ensures { Answers result (value_beside (globals_in session.now.offered) (surroundings_of global.now)
         (variable_named name.now namespace.now pos)) }
 {
     if is_plain(namespace) {
         return read_global(session, global.lib.as_slice(), name, pos);
     }
-    let path = namespace.path.as_slice();
-    search_path(
-        session,
-        global,
-        path,
-        name.get().as_str(),
-        namespace.position,
-    )
+    search_path(session, global, namespace, name.get().as_str())
 }
 
 /// Reads a variable: a copy, unless there is none or its cell is held. It is found as `entry_of_variable`
-/// says, which asks the same of its offset. What is no entry of the scope is read by `read_beside`.
+/// says, which asks the same of its offset. What is no entry of the scope is read by `read_beside`, which
+/// asks the same of the index of its path.
 pub fn read_variable<H: Host>(
     session: &Session<'_, H>,
     global: &GlobalRuntimeState<H>,

@@ -6,7 +6,7 @@ ghost use Rattle.rhai_tree.specs.declared.expr.Expr.{out-Expr};
 ghost use Rattle.rhai_values.specs.Cells.{IsNoHandle};
 ghost use Rattle.rhai_errors.specs.Errors.{is_out_of_memory};
 ghost use Rattle.rhai_state.specs.Scope.{entries_of, in_use, Fits};
-ghost use Rattle.rhai_steps.specs.Offsets.{offset_in};
+ghost use Rattle.rhai_steps.specs.Offsets.{index_in, offset_in};
 ghost use Rattle.rhai_eval.specs.Search.{is_variable, names_variable};
 ghost use Rattle.rhai_twins_places.specs.Ends.{SameTarget, SameError};
 ghost use Rattle.rhai_twins_eval.specs.Same.{SameEnd};
@@ -174,6 +174,8 @@ pub fn search_namespace<'s, H: Host, T: NativeTable<H>>(
     requires variable { names_variable (out-Expr expr.now) ≡ true }
     requires fits { Fits (offset_in global.old.always_search_scope (out-Expr expr.now)) (length
         (entries_of scope.old)) }
+    requires index { Fits (index_in global.old.always_search_scope (out-Expr expr.now))
+        (length global.old.imports) }
     ensures result { SameTarget result.0 result.1 }
     ensures global { global.new ≡ also_global.new }
     ensures table { T.state table.new ≡ T.state also_table.new }

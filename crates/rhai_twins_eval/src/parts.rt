@@ -9,7 +9,7 @@ ghost use Rattle.rhai_tree.specs.Frame.{resolves_stmt, tests_of};
 ghost use Rattle.rhai_machine.specs.language.Links.{first_in};
 ghost use Rattle.rhai_call_forms.specs.Leading.{all_args};
 ghost use Rattle.rhai_eval.specs.Chains.{AssignsNoHandle, chain_resolves};
-ghost use Rattle.rhai_steps.specs.Agreement.{AgreesAt, passes};
+ghost use Rattle.rhai_steps.specs.Agreement.{AgreesAt, call_leads, passes};
 ghost use Rattle.rhai_steps.specs.States.{holding, state_of};
 ghost use Rattle.rhai_twins_eval.specs.Same.{Same};
 
@@ -371,7 +371,7 @@ pub fn make_qualified_function_call<H: Host, T: NativeTable<H>>(
     requires table { T.state table.old ≡ T.state also_table.old }
     requires scope { scope.old ≡ also_scope.old }
     requires this { this.old ≡ also_this.old }
-    requires resolves { AgreesAt global.old scope.old (all_resolve_exprs (map tests_of args_expr.now)) }
+    requires resolves { AgreesAt global.old scope.old (call_leads namespace.now args_expr.now) }
     requires behind { is_unqualified namespace.now.path ≡ false }
     ensures run { Same result.0 result.1
         (state_of (T.state table.new) global.new scope.new (holding (Some this.new)))

@@ -55,7 +55,7 @@ fn refuses_held<H: Host>(
 
 /// Takes out what the walk of a chain begins on that a variable means. It is an entry's value, with the
 /// entry, which has `()` meanwhile, or a temporary. Asked: the offset leads to the newest variable of the
-/// name.
+/// name, and the index of its path to the newest import of its first name.
 ///
 /// # Errors
 /// `ErrorDataRace` at the name for an entry that is the handle of a cell that is held, and those of

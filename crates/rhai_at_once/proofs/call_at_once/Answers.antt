@@ -4,7 +4,7 @@ use Rattle.rhai_tree.specs.declared.expr.Expr.TheOpen as layer
 use Rattle.rhai_tree.specs.declared.expr.Expr.TheVariants as exprs
 use Rattle.rhai_machine.specs.language.Setting.{Rules}
 use Rattle.rhai_steps.specs.Sessions.{under}
-use Rattle.rhai_steps.proofs.Agreeing.{brings}
+use Rattle.rhai_steps.proofs.Agreeing.{brings, offset_agrees}
 use Rattle.rhai_operands.proofs.Names.{good_name}
 use Rattle.rhai_at_once.proofs.Steps.{argument_resolves, at_once}
 use Rattle.rhai_at_once.proofs.call_at_once.Goals as goal
@@ -13,8 +13,9 @@ pub entry_of_variable-requires : goal.entry_of_variable-requires
 entry_of_variable-requires g c =
     let form : out-Expr c.in-Some.arg.now ≡ layer.Variable c.in-Variable.offset c.in-Variable.name c.in-Variable.namespace
     c.in-Variable.pos = rw (c.in-Variable.is, exprs.outs-Variable) refl in
-    brings (λ frame h. good_name c.in-Some.arg.now c.in-Variable.offset c.in-Variable.name c.in-Variable.namespace c.in-Variable.pos
-    frame form (argument_resolves c.args.call.now c.in-Some.arg.now c.args.pos frame c.in-Some.ensures h)) c.requires.resolves
+    offset_agrees c.in-Variable.offset c.in-Variable.name c.in-Variable.namespace (brings (λ frame h. good_name c.in-Some.arg.now
+    c.in-Variable.offset c.in-Variable.name c.in-Variable.namespace c.in-Variable.pos
+    frame form (argument_resolves c.args.call.now c.in-Some.arg.now c.args.pos frame c.in-Some.ensures h)) c.requires.resolves)
 
 pub returns-clause-runs : goal.returns-clause-runs
 returns-clause-runs g c held =

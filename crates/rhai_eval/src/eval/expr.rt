@@ -10,26 +10,27 @@ ghost use Rattle.rhai_state.specs.Scope.{entries_of, in_use, names_in, Fits};
 ghost use Rattle.rhai_machine.specs.language.Frames.{Eval};
 ghost use Rattle.rhai_machine.specs.language.Setting.{globals_of};
 ghost use Rattle.rhai_steps.specs.Agreement.{AgreesAt};
-ghost use Rattle.rhai_steps.specs.Offsets.{offset_in, index_at_offset};
+ghost use Rattle.rhai_steps.specs.Offsets.{index_at_offset, index_in, offset_in};
+ghost use Rattle.rhai_steps.specs.Roots.{root_searched};
 ghost use Rattle.rhai_steps.specs.States.{holding, state_of, surroundings_of};
 ghost use Rattle.rhai_laws.specs.Kept.{Kept};
 ghost use Rattle.rhai_eval.specs.Ends.{EndsAs};
-ghost use Rattle.rhai_eval.specs.Search.{found_behind, is_variable, names_variable, root_searched, searched};
+ghost use Rattle.rhai_eval.specs.Search.{found_behind, is_variable, names_variable, searched};
 ghost use Rattle.rhai_eval.specs.States.{offer_of, under};
 
 use crate::engine::Engine;
-use crate::eval::search::{is_behind_path, seen_variable, value_named, variable_mut};
+use crate::eval::search::{is_behind_path, seen_variable, value_alone, value_behind, variable_mut};
 use crate::this::{give_back_with_this, take_with_this};
 use rhai_context::ends::finish;
 use rhai_context::{give_back, take};
 use rhai_errors::error::EvalAltResult;
 use rhai_errors::table::NativeTable;
-use rhai_functions::paths::find_root;
 use rhai_places::target::Target;
 use rhai_spots::part::Part;
 use rhai_state::caches::Caches;
 use rhai_state::scope::Scope;
 use rhai_state::state::GlobalRuntimeState;
+use rhai_steps::roots::root_of;
 use rhai_steps::variables::scope_index;
 use rhai_tree::expr::{Expr, Namespace};
 use rhai_values::base::value::{Dynamic, Host, Module};
@@ -95,7 +96,7 @@ impl<H: Host> Engine<H> {
                 part: Part::Whole,
             });
         }
-        let value = value_named(&self.session(alloc), global, expr)?;
+        let value = value_alone(&self.session(alloc), global, expr)?;
         Ok(Target {
             at: scope.spare_mut(),
             part: Part::Temporary(value),
@@ -104,8 +105,10 @@ impl<H: Host> Engine<H> {
 
     /// Finds the place of a variable, behind a path or not. Without a path it is found as `search_scope_only`
     /// says; behind one it means a constant of the module that the path leads to, of which a copy is found
-    /// that may not be written: a temporary, beside a place of the scope that no variable has. Ports
-    /// upstream's `search_namespace`; asked for a variable alone, whose offset is at most the length.
+    /// that may not be written: a temporary, beside a place of the scope that no variable has. The root of
+    /// the path is found as `search_imports` says. Ports upstream's `search_namespace`; asked for a variable
+    /// alone, whose offset is at most the length, and whose index, behind a path, is at most the number of
+    /// imports.
     ///
     /// # Errors
     /// Those of `search_scope_only`. At the path: `ErrorModuleNotFound` where nothing has its first name, and
@@ -123,6 +126,8 @@ impl<H: Host> Engine<H> {
         requires variable { names_variable (out-Expr expr.now) ≡ true }
         requires fits { Fits (offset_in global.old.always_search_scope (out-Expr expr.now))
             (length (entries_of scope.old)) }
+        requires index { Fits (index_in global.old.always_search_scope (out-Expr expr.now))
+            (length global.old.imports) }
         ensures found { IfOk result (λ target.
             found_behind global.old.always_search_scope (out-Expr expr.now) (globals_of (offer_of self.now))
             (surroundings_of global.old) (entries_of scope.old) ≡ Some (Ok (target.at.now, target.part))) }
@@ -134,7 +139,7 @@ impl<H: Host> Engine<H> {
         ensures table { T.state table.new ≡ T.state table.old }
     {
         if is_behind_path(expr) {
-            let value = value_named(&self.session(alloc), global, expr)?;
+            let value = value_behind(&self.session(alloc), global, expr)?;
             return Ok(Target {
                 at: scope.spare_mut(),
                 part: Part::Temporary(value),
@@ -158,12 +163,7 @@ impl<H: Host> Engine<H> {
             (in_use global.now.always_search_scope namespace.now.index) namespace.now.path global.now.imports
             self.now.global_sub_modules }
     {
-        let imports = global.imports.as_slice();
-        if let Some(offset) = global.offset_in_use(namespace.index) {
-            return Some(imports[imports.len() - offset.get()].module.get());
-        }
-        let root = namespace.path.as_slice().first()?;
-        find_root(imports, &self.global_sub_modules, root.get().as_str())
+        root_of(global, &self.global_sub_modules, namespace)
     }
 
     /// Evaluates an expression, charged first at its position. Ports upstream's `eval_expr`.

@@ -9,16 +9,18 @@ ghost use Rattle.rhai_errors.specs.Errors.{is_out_of_memory};
 ghost use Rattle.rhai_state.specs.Scope.{entries_of, Fits};
 ghost use Rattle.rhai_steps.specs.Lends.{lends_variable};
 ghost use Rattle.rhai_steps.specs.Offers.{globals_in};
-ghost use Rattle.rhai_steps.specs.Offsets.{offset_in};
+ghost use Rattle.rhai_steps.specs.Offsets.{index_in, offset_in};
 ghost use Rattle.rhai_steps.specs.States.{surroundings_of};
 ghost use Rattle.rhai_eval.specs.Lends.{with_variable};
-ghost use Rattle.rhai_eval.specs.Search.{is_variable, names_variable, value_there, variable_searched, IsBeside};
+ghost use Rattle.rhai_eval.specs.Search.{is_variable, names_variable, value_there, variable_searched};
+ghost use Rattle.rhai_eval.specs.Search.{IsBehind, IsBeside};
 
 use rhai_errors::error::EvalAltResult;
 use rhai_state::scope::Scope;
 use rhai_state::session::Session;
 use rhai_state::state::GlobalRuntimeState;
-use rhai_steps::variables::{find_variable, is_plain, read_beside};
+use rhai_steps::qualified::search_path;
+use rhai_steps::variables::{find_variable, is_plain, read_global};
 use rhai_tree::expr::Expr;
 use rhai_values::base::value::{Dynamic, Host};
 
@@ -99,26 +101,50 @@ pub(crate) fn is_behind_path(expr: &Expr) -> bool
     }
 }
 
-/// Reads what a name means that no variable of the scope has, as `rhai_steps::variables::read_beside` reads
-/// it.
+/// Reads what a name without a path means that no variable of the scope has, as
+/// `rhai_steps::variables::read_beside` reads it.
 ///
 /// # Errors
 /// `ErrorVariableNotFound` at the variable where there is no such thing.
-pub(crate) fn value_named<H: Host>(
+pub(crate) fn value_alone<H: Host>(
+    session: &Session<'_, H>,
+    global: &GlobalRuntimeState<H>,
+    expr: &Expr,
+) -> Result<Dynamic<H>, EvalAltResult<H>>
+    requires variable { is_variable (out-Expr expr.now) ≡ true }
+    ensures { IsBeside (globals_in session.now.offered) (surroundings_of global.now) (out-Expr expr.now) result }
+{
+    match expr {
+        Expr::Variable { name, pos, .. } => {
+            read_global(session, global.lib.as_slice(), name, *pos)
+        }
+        _ => unreachable!(),
+    }
+}
+
+/// Reads what a name behind a path means, as `rhai_steps::qualified::search_path` reads it, which asks the
+/// same of the path's index.
+///
+/// # Errors
+/// Those of `search_path`.
+pub(crate) fn value_behind<H: Host>(
     session: &Session<'_, H>,
     global: &GlobalRuntimeState<H>,
     expr: &Expr,
 ) -> Result<Dynamic<H>, EvalAltResult<H>>
     requires variable { names_variable (out-Expr expr.now) ≡ true }
-    ensures { IsBeside (globals_in session.now.offered) (surroundings_of global.now) (out-Expr expr.now) result }
+    requires behind { is_variable (out-Expr expr.now) ≡ false }
+    requires fits { Fits (index_in global.now.always_search_scope (out-Expr expr.now))
+        (length global.now.imports) }
+    ensures { IsBehind global.now.always_search_scope (globals_in session.now.offered)
+        (surroundings_of global.now) (out-Expr expr.now) result }
 {
     match expr {
         Expr::Variable {
             name,
             namespace,
-            pos,
             ..
-        } => read_beside(session, global, name, namespace, *pos),
+        } => search_path(session, global, namespace, name.get().as_str()),
         _ => unreachable!(),
     }
 }

@@ -10,7 +10,7 @@ ghost use Rattle.rhai_tree.specs.Positions.{start_of};
 ghost use Rattle.rhai_machine.specs.language.Frames.{Argument, OpenExpr};
 ghost use Rattle.rhai_errors.specs.Native.{left_by, lent_value};
 ghost use Rattle.rhai_state.specs.Scope.{names_in};
-ghost use Rattle.rhai_steps.specs.Agreement.{AgreesAt};
+ghost use Rattle.rhai_steps.specs.Agreement.{AgreesAt, call_leads};
 ghost use Rattle.rhai_steps.specs.States.{holding, state_of};
 ghost use Rattle.rhai_laws.specs.Kept.{Kept};
 ghost use Rattle.rhai_eval.specs.Ends.{EndsAs, EndsFrom};
@@ -226,8 +226,8 @@ impl<H: Host> Engine<H> {
     /// read last. A path without a module is `ErrorModuleNotFound` at the path, and one without the function
     /// `ErrorFunctionNotFound` at the call. Ports upstream's `make_qualified_function_call`.
     ///
-    /// The arguments are parts of a checked tree, above the variables that the scope has there.
-    /// `this` is taken out of its place meanwhile, and put back on every way out.
+    /// The path and the arguments are parts of a checked tree, above the variables and the imports that are
+    /// there. `this` is taken out of its place meanwhile, and put back on every way out.
     pub fn make_qualified_function_call<T: NativeTable<H>>(
         &self,
         alloc: Global,
@@ -241,7 +241,7 @@ impl<H: Host> Engine<H> {
         args_expr: &[Expr],
         pos: Position,
     ) -> Result<Dynamic<H>, EvalAltResult<H>>
-        requires resolves { AgreesAt global.old scope.old (all_resolve_exprs (map tests_of args_expr.now)) }
+        requires resolves { AgreesAt global.old scope.old (call_leads namespace.now args_expr.now) }
         requires behind { is_unqualified namespace.now.path ≡ false }
         ensures ends { EndsAs (under H.name_of self.now T.natives)
             (OpenExpr (layer.Expr::FnCall (in_parts namespace.now fn_name.now args_expr.now None false) pos))

@@ -1,14 +1,14 @@
 //! Calls behind a path. Ports upstream's `make_qualified_function_call`.
 
-ghost use Rattle.std.specs.Prelude.{◌≡◌, ◌≤◌, Bool, IsTrue, Option, false, map};
+ghost use Rattle.std.specs.Prelude.{◌≡◌, ◌≤◌, Bool, IsTrue, Option, false};
 ghost use Rattle.rhai_tree.specs.Forms.{is_unqualified};
-ghost use Rattle.rhai_tree.specs.Frame.{all_resolve_exprs, tests_of};
 ghost use Rattle.rhai_tree.specs.declared.expr.Expr.TheOpen as layer;
 ghost use Rattle.rhai_tree.specs.declared.token.Token.{Token};
 ghost use Rattle.rhai_machine.specs.language.Frames.{OpenExpr};
 ghost use Rattle.rhai_machine.specs.language.Runs.{Runs};
 ghost use Rattle.rhai_call_forms.specs.Forms.{IsForm};
 ghost use Rattle.rhai_call_forms.specs.declared.forms.CallForm.TheVariants as form;
+ghost use Rattle.rhai_steps.specs.Agreement.{call_leads};
 ghost use Rattle.rhai_context.specs.Ends.{came};
 ghost use Rattle.rhai_eval_core.specs.Agreement.{KeepsNames, SuitsNames};
 ghost use Rattle.rhai_eval_core.specs.Calls.{in_parts};
@@ -37,7 +37,7 @@ impl<'e, H: Host> Evaluator<'e, H> {
         args: &[Expr],
         pos: Position,
     ) -> bool
-        requires resolves { SuitsNames run.old (all_resolve_exprs (map tests_of args.now)) }
+        requires resolves { SuitsNames run.old (call_leads namespace.now args.now) }
         requires behind { is_unqualified namespace.now.path ≡ false }
         ensures counts { IsTrue result → run.old.global.num_operations ≤ run.new.global.num_operations }
         ensures names { IsTrue result → KeepsNames run.old run.new }

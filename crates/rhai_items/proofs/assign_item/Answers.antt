@@ -7,7 +7,7 @@ use Rattle.rhai_state.specs.Scope.{entries_of}
 use Rattle.rhai_spots.specs.declared.spot.Spot.TheVariants as spot
 use Rattle.rhai_spots.specs.Parts.{value_at, with_value}
 use Rattle.rhai_steps.specs.Sessions.{under}
-use Rattle.rhai_steps.proofs.Agreeing.{brings}
+use Rattle.rhai_steps.proofs.Agreeing.{brings, offset_agrees}
 use Rattle.rhai_operands.specs.Standing.{assigned_known, integer_of, standing}
 use Rattle.rhai_operands.proofs.Integers.{is_there}
 use Rattle.rhai_operands.proofs.Names.{good_name}
@@ -54,9 +54,10 @@ returns-clause-runs g c is held restoring fast =
 pub index_by_offset-requires : goal.index_by_offset-requires
 index_by_offset-requires g c =
     let parts : parts_in (out-Expr c.args.lhs.now) ≡ Some (c.in-Some.root.now, c.in-Some.index.now) = sym c.in-Some.ensures in
-    brings (λ frame h. good_name c.in-Some.root.now c.in-Variable.offset c.in-Variable.name c.in-Variable.namespace c.in-Variable.pos frame
+    offset_agrees c.in-Variable.offset c.in-Variable.name c.in-Variable.namespace (brings (λ frame h. good_name c.in-Some.root.now
+    c.in-Variable.offset c.in-Variable.name c.in-Variable.namespace c.in-Variable.pos frame
     (rw (c.in-Variable.is, exprs.outs-Variable) refl)
-    (item_resolves c.args.lhs.now c.in-Some.root.now c.in-Some.index.now frame parts h).0) c.requires.resolves_target
+    (item_resolves c.args.lhs.now c.in-Some.root.now c.in-Some.index.now frame parts h).0) c.requires.resolves_target)
 
 pub integer_in_place-position-requires : goal.integer_in_place-position-requires
 integer_in_place-position-requires g c =

@@ -1,12 +1,14 @@
 use Rattle.std.proofs.Common.{ap, sym}
 use Rattle.rhai_values.specs.Cells.{cells_of}
-use Rattle.rhai_state.specs.Scope.{entries_of}
+use Rattle.rhai_state.specs.Scope.{entries_of, names_in}
 use Rattle.rhai_machine.specs.language.Names.{value_beside}
 use Rattle.rhai_machine.specs.language.Places.{target_meant}
 use Rattle.rhai_machine.proofs.MeantLaws.{meant_beside}
+use Rattle.rhai_steps.specs.Agreement.{sight_of}
 use Rattle.rhai_steps.specs.Offers.{globals_in}
 use Rattle.rhai_steps.specs.States.{surroundings_of}
 use Rattle.rhai_steps.specs.Variables.{variable_told}
+use Rattle.rhai_steps.proofs.Agreeing.{offset_agrees, path_agrees}
 use Rattle.rhai_assign.proofs.Entries.{entry_meant, none_temporary}
 use Rattle.rhai_assign.proofs.place.find_target.Goals as goal
 
@@ -30,3 +32,13 @@ returns-in-None g c =
           (value_beside globals around variable),
       c.no_target.ensures,
     )
+
+pub entry_of_variable-requires : goal.entry_of_variable-requires
+entry_of_variable-requires g c =
+    let variable = c.args.variable.now in
+    offset_agrees variable.offset variable.name.now variable.namespace.now c.requires
+
+pub no_target-requires : goal.no_target-requires
+no_target-requires g c =
+    let variable = c.args.variable.now in
+    path_agrees (sight_of c.args.global.now) (names_in c.args.scope.now) variable.offset variable.name.now variable.namespace.now c.requires

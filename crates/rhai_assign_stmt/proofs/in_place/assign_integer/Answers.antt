@@ -5,7 +5,7 @@ use Rattle.rhai_tree.specs.declared.expr.Expr.TheOpen as layer
 use Rattle.rhai_values.specs.Cells.{cells_of}
 use Rattle.rhai_state.specs.Scope.{entries_of}
 use Rattle.rhai_steps.specs.Sessions.{under}
-use Rattle.rhai_steps.proofs.Agreeing.{brings}
+use Rattle.rhai_steps.proofs.Agreeing.{brings, offset_agrees}
 use Rattle.rhai_operands.specs.Standing.{assigned_known, integer_of, standing}
 use Rattle.rhai_operands.proofs.Integers.{is_there}
 use Rattle.rhai_operands.proofs.Names.{good_target}
@@ -59,6 +59,7 @@ returns-clause-charged g c is = c.charge_all.ensures.charged c.if-not-charge_all
 
 pub index_by_offset-requires : goal.index_by_offset-requires
 index_by_offset-requires g c =
-    brings (λ frame. good_target c.args.assignment.now.left.now c.in-Variable.offset c.in-Variable.name c.in-Variable.namespace
+    offset_agrees c.in-Variable.offset c.in-Variable.name c.in-Variable.namespace (brings (λ frame. good_target
+    c.args.assignment.now.left.now c.in-Variable.offset c.in-Variable.name c.in-Variable.namespace
     c.in-Variable.pos frame
-    (rw (c.in-Variable.is, exprs.outs-Variable) refl)) c.requires.resolves_target
+    (rw (c.in-Variable.is, exprs.outs-Variable) refl)) c.requires.resolves_target)

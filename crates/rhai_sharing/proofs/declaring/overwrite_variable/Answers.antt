@@ -7,18 +7,26 @@ use Rattle.rhai_machine.specs.language.Frames.{Back, core}
 use Rattle.rhai_machine.specs.language.Places.{InEntry, put}
 use Rattle.rhai_machine.specs.language.Statements.{constant_core, enters, mode_of}
 use Rattle.rhai_machine.specs.language.Values.{unit_value}
+use Rattle.rhai_steps.specs.Agreement.{sight_of}
 use Rattle.rhai_steps.specs.States.{local_of}
+use Rattle.rhai_steps.proofs.Agreeing.{index_agrees, place_fits}
 use Rattle.rhai_sharing.specs.Declares.{own_alias}
 use Rattle.rhai_sharing.proofs.Declared.{declares_at, entered_as_given, own_names, put_back, revalued_names, revalued_value, same_place}
 use Rattle.rhai_sharing.proofs.declaring.overwrite_variable.Goals as goal
 
+pub index_of_variable-requires : goal.index_of_variable-requires
+index_of_variable-requires g c = place_fits (sight_of c.args.global.now) (Some c.args.offset) c.args.declaration.now.ident.now.name
+    (entries_of c.args.scope.now) c.requires
+
 pub returns-in_default-clause-declares : goal.returns-in_default-clause-declares
 returns-in_default-clause-declares g c held = c.overwrite_none.ensures.declares c.args.offset c.args.scope.now held
-    (sym c.index_of_variable.ensures.exact ∙ c.in_default.is)
+    (sym (index_agrees (sight_of c.args.global.now) (Some c.args.offset) c.args.declaration.now.ident.now.name
+    (entries_of c.args.scope.now) c.requires c.index_of_variable.result c.index_of_variable.ensures.exact) ∙ c.in_default.is)
 
 pub returns-in_default-clause-misses : goal.returns-in_default-clause-misses
 returns-in_default-clause-misses g c held = c.overwrite_none.ensures.misses c.args.offset c.args.scope.now held
-    (sym c.index_of_variable.ensures.exact ∙ c.in_default.is)
+    (sym (index_agrees (sight_of c.args.global.now) (Some c.args.offset) c.args.declaration.now.ident.now.name
+    (entries_of c.args.scope.now) c.requires c.index_of_variable.result c.index_of_variable.ensures.exact) ∙ c.in_default.is)
 
 pub returns-in-Err-clause-misses : goal.returns-in-Err-clause-misses
 returns-in-Err-clause-misses g c held told k = let never : true ≡ false = sym c.in-Err.ensures.refused ∙ told in cc
@@ -46,7 +54,8 @@ returns-clause-declares g c held k =
     sym (entered_as_given (mode_of c.args.declaration.now.options)
     (enters c.args.declaration.now.options c.args.declaration.now.restoring before) name c.args.value before)
     ∙ sym (c.in_default-published.ensures.entered v c.args.scope.now held there) in
-    let here : index_of name old ≡ Some at = sym c.index_of_variable.ensures.exact ∙ c.in-Some.is in
+    let here : index_of name old ≡ Some at = sym (index_agrees (sight_of c.args.global.now) (Some c.args.offset) name old c.requires
+    c.index_of_variable.result c.index_of_variable.ensures.exact) ∙ c.in-Some.is in
     let found : index_of name more ≡ Some at = same_place name more old (revalued_names old at v) ∙ here in
     let aliased : own_alias (is_exported c.args.declaration.now.options) more at name ≡ entries_of c.publish-published.new.scope =
     sym (c.in_default-published.ensures.aliased

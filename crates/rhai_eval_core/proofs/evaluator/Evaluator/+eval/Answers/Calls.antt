@@ -11,7 +11,7 @@ use Rattle.rhai_steps.proofs.Agreeing.{brings, leads_then, same, stays, still}
 use Rattle.rhai_steps.proofs.Pieces.{step_by}
 use Rattle.rhai_eval_core.specs.Agreement.{ChangesNames, KeepsNames, RestoresNames, SuitsNames}
 use Rattle.rhai_eval_core.specs.States.{state_in, under}
-use Rattle.rhai_operands.proofs.Names.{operands_of_call, operands_resolve}
+use Rattle.rhai_operands.proofs.Names.{operands_of_call, operands_resolve, path_of_call}
 use Rattle.rhai_operands.proofs.InPlace.{opens_binary}
 use Rattle.rhai_eval_core.proofs.NameLemmas.{first_resolves}
 use Rattle.rhai_eval_core.proofs.CallSteps.{begins_call}
@@ -146,7 +146,7 @@ run_function-run_qualified_call-requires g t c =
         (
           lives.1,
           (
-            rw c.as_slice.ensures (brings (operands_of_call c.args.call.now c.args.pos) c.requires.resolves),
+            rw c.as_slice.ensures (brings (path_of_call c.args.call.now c.args.pos) c.requires.resolves),
             sym c.is_plain.ensures ∙ c.if-not-is_plain.true,
           ),
         ),

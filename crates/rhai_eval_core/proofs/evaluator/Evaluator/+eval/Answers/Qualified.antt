@@ -7,7 +7,7 @@ use Rattle.rhai_machine.specs.language.Variables.{path_of}
 use Rattle.rhai_operands.proofs.Names.{good_name}
 use Rattle.rhai_steps.specs.States.{holding}
 use Rattle.rhai_callees.specs.Behind.{last_of, purpose_of}
-use Rattle.rhai_callees.proofs.Behind.{before_resolves, behind_begins, behind_goes, behind_spent, good_last}
+use Rattle.rhai_callees.proofs.Behind.{before_leads, behind_begins, behind_goes, behind_spent, good_behind}
 use Rattle.rhai_calls.specs.Called.{with_args}
 use Rattle.rhai_context.specs.Ends.{error_in}
 use Rattle.rhai_eval_core.specs.Agreement.{ChangesNames, KeepsNames, RestoresNames, SuitsNames}
@@ -31,7 +31,7 @@ run_qualified_call-run_more_args-requires g t c =
           (
             omega arith,
             rw (c.split_last_read.ensures.others) (same c.charge_last.ensures.sight refl
-                (brings (λ frame. before_resolves frame c.args.args.now c.args.run.now.this) c.requires.1.1.1.1.0)),
+                (brings (λ frame. before_leads frame c.args.namespace.now c.args.args.now c.args.run.now.this) c.requires.1.1.1.1.0)),
           ),
         ),
       ),
@@ -43,8 +43,8 @@ run_qualified_call-call_behind-called-requires g t c = (
   omega arith,
   rw (c.split_last_read.ensures.last)
       (still (leads_then (stays c.charge_last.ensures.sight refl) (c.if-not-run_more_args.ensures.names refl))
-      (brings (λ frame. good_last frame (λ e offset name namespace pos. good_name e offset name namespace pos frame) c.args.args.now
-      c.args.run.now.this) c.requires.1.1.1.1.0)),
+      (brings (λ frame. good_behind frame (λ e offset name namespace pos. good_name e offset name namespace pos frame)
+      c.args.namespace.now c.args.args.now c.args.run.now.this) c.requires.1.1.1.1.0)),
 )
 
 pub run_qualified_call-returns-then-not-charge_last-clause-runs : goal.run_qualified_call-returns-then-not-charge_last-clause-runs
