@@ -16,7 +16,7 @@ use Rattle.rhai_constants.proofs.Calls.{function_keeps}
 use Rattle.rhai_constants.proofs.Keeping.{Keeps, calm}
 use Rattle.rhai_constants.proofs.Runs.{told, core_stays, constants_stay}
 use Rattle.rhai_constants.proofs.Settling.{same}
-use Rattle.rhai_eval_core.specs.Calls.{called}
+use Rattle.rhai_eval_steps.specs.Calls.{called}
 use Rattle.rhai_eval.specs.Ends.{EndsAs, EndsFrom}
 use Rattle.rhai_constants_eval.specs.Staying.{script, Stays, StaysAs, StaysFrom}
 use Rattle.rhai_constants_eval.specs.Laws.{PartsStay, ScriptsStay, CallsStay}

@@ -12,7 +12,7 @@ use Rattle.rhai_machine.specs.language.Memory.{UpToMemory}
 use Rattle.rhai_machine.specs.language.Script.{end_of_script, start_of_script}
 use Rattle.rhai_fits.specs.Sealed.{AreSealed, ControlSealed}
 use Rattle.rhai_constants.specs.Constants.{Spares}
-use Rattle.rhai_eval_core.specs.Calls.{called}
+use Rattle.rhai_eval_steps.specs.Calls.{called}
 use Rattle.rhai_eval.specs.Ends.{EndsAs, EndsChanged, EndsFrom}
 use Rattle.rhai_eval.specs.Places.{by_name, by_value, on_place}
 use Rattle.rhai_constants_eval.specs.Staying.{script, StaysAs, StaysChanged, StaysFrom}

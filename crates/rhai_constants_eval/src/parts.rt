@@ -14,7 +14,7 @@ ghost use Rattle.rhai_fits.specs.Sealed.{AreSealed};
 ghost use Rattle.rhai_call_forms.specs.Leading.{all_args};
 ghost use Rattle.rhai_steps.specs.Agreement.{AgreesAt, call_leads, passes};
 ghost use Rattle.rhai_steps.specs.States.{holding, state_of};
-ghost use Rattle.rhai_eval_core.specs.Calls.{called, in_parts};
+ghost use Rattle.rhai_eval_steps.specs.Calls.{called, in_parts};
 ghost use Rattle.rhai_eval.specs.ArgumentValues.{value_with};
 ghost use Rattle.rhai_eval.specs.Chains.{assigned_in, whole_chain, AssignsNoHandle, chain_resolves};
 ghost use Rattle.rhai_eval.specs.States.{under};

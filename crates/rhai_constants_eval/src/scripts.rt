@@ -7,7 +7,7 @@ ghost use Rattle.rhai_machine.specs.language.Activations.{OwnThis};
 ghost use Rattle.rhai_machine.specs.language.Frames.{EnterFunction};
 ghost use Rattle.rhai_fits.specs.Sealed.{AreSealed};
 ghost use Rattle.rhai_steps.specs.States.{holding, state_of};
-ghost use Rattle.rhai_eval_core.specs.Bodies.{entered};
+ghost use Rattle.rhai_eval_steps.specs.Bodies.{entered};
 ghost use Rattle.rhai_eval.specs.States.{under};
 ghost use Rattle.rhai_constants_eval.specs.Staying.{script, StaysAs, StaysFrom};
 

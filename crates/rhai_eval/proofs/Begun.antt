@@ -12,7 +12,7 @@ use Rattle.rhai_laws.specs.Kept.{Kept, names_of}
 use Rattle.rhai_laws.proofs.KeptCalls.{function_keeps}
 use Rattle.rhai_laws.proofs.KeptLaws.{kept_from, names_stay_from}
 use Rattle.rhai_laws.proofs.ScriptMemory.{runs_up_to_memory, steps_with_memory}
-use Rattle.rhai_eval_core.specs.Calls.{called}
+use Rattle.rhai_eval_steps.specs.Calls.{called}
 use Rattle.rhai_eval.specs.Ends.{EndsFrom}
 
 module _ {S H : Type 0} (rules : Rules S H) (operation : Operation) (args : List Expr) (captures : Bool) where

@@ -19,8 +19,8 @@ use Rattle.rhai_laws.proofs.AssignedLaws.{goes_on}
 use Rattle.rhai_laws.proofs.MemoryLaws.{straight}
 use Rattle.rhai_laws.proofs.RootLaws.{assigns_from_root}
 use Rattle.rhai_laws.proofs.ScriptMemory.{memory_unwinds, with_memory}
-use Rattle.rhai_eval_core.specs.Chains.{AsksFirst, MayWalk, StartsFrom, behind_resolves}
-use Rattle.rhai_eval_core.proofs.ChainLemmas.{may_walk, root_resolves, target_parts}
+use Rattle.rhai_eval_steps.specs.Chains.{AsksFirst, MayWalk, StartsFrom, behind_resolves}
+use Rattle.rhai_eval_steps.proofs.ChainLemmas.{may_walk, root_resolves, target_parts}
 use Rattle.rhai_eval.specs.Chains.{AssignsAlong, chain_of, chain_resolves, chain_with, whole_chain}
 
 -- what the run of a chain relies on

@@ -19,8 +19,9 @@ use Rattle.rhai_steps.specs.States.{holding, state_of}
 use Rattle.rhai_context.specs.declared.Context.{Context}
 use Rattle.rhai_context.specs.Ends.{unit}
 use Rattle.rhai_eval_core.specs.declared.evaluator.Evaluator.{Evaluator}
-use Rattle.rhai_eval_core.specs.States.{offer_of as offered, state_in, under as under_what_is_read}
-use Rattle.rhai_eval_core.proofs.Chain.{still_none}
+use Rattle.rhai_eval_steps.specs.States.{state_in}
+use Rattle.rhai_eval_core.specs.States.{offer_of as offered, under as under_what_is_read}
+use Rattle.rhai_eval_steps.proofs.Chain.{still_none}
 use Rattle.rhai_eval.specs.declared.engine.Engine.{Engine}
 use Rattle.rhai_eval.specs.Ends.{AgreesAbove, EndsAs}
 use Rattle.rhai_eval.specs.States.{limits_of, offer_of, under}

@@ -15,8 +15,8 @@ use Rattle.rhai_machine.specs.language.Bodies.{variables_after, variables_back}
 use Rattle.rhai_machine.specs.language.Frames.{EnterFunction}
 use Rattle.rhai_machine.specs.language.Runs.{Runs}
 use Rattle.rhai_context.specs.declared.Context.{Context}
-use Rattle.rhai_eval_core.specs.Bodies.{behind_call, entered}
-use Rattle.rhai_eval_core.specs.States.{state_in}
+use Rattle.rhai_eval_steps.specs.Bodies.{behind_call, entered}
+use Rattle.rhai_eval_steps.specs.States.{state_in}
 
 -- what is left of the variables is what the machine takes back
 pub left_variables : {H : Type 0} (restores : Bool) (scope : List (ScopeEntry H)) (n m : ℕ) (entries left : List (ScopeEntry H)) →

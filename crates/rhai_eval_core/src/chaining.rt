@@ -11,10 +11,11 @@ ghost use Rattle.rhai_machine.specs.language.Links.{first_in};
 ghost use Rattle.rhai_machine.specs.language.Runs.{Runs, Steps};
 ghost use Rattle.rhai_chains.specs.Chains.{Walks, chain_at, new_of};
 ghost use Rattle.rhai_context.specs.Ends.{came};
-ghost use Rattle.rhai_eval_core.specs.Agreement.{KeepsNames, SuitsNames};
-ghost use Rattle.rhai_eval_core.specs.Chains.{gathered, HasAsked, MayWalk, StartsFrom, AsksFirst};
-ghost use Rattle.rhai_eval_core.specs.Chains.{behind_resolves};
-ghost use Rattle.rhai_eval_core.specs.States.{state_in, under};
+ghost use Rattle.rhai_eval_steps.specs.Agreement.{KeepsNames, SuitsNames};
+ghost use Rattle.rhai_eval_steps.specs.Chains.{gathered, HasAsked, MayWalk, StartsFrom, AsksFirst};
+ghost use Rattle.rhai_eval_steps.specs.Chains.{behind_resolves};
+ghost use Rattle.rhai_eval_steps.specs.States.{state_in};
+ghost use Rattle.rhai_eval_core.specs.States.{under};
 
 mod roots;
 mod walk;

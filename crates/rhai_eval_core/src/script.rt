@@ -17,9 +17,10 @@ ghost use Rattle.rhai_calls.specs.Called.{came_out, with_args};
 ghost use Rattle.rhai_context.specs.Ends.{came, came_changed};
 ghost use Rattle.rhai_steps.specs.OnFocus.{lending};
 ghost use Rattle.rhai_functions.specs.Entering.{TakesSome};
-ghost use Rattle.rhai_eval_core.specs.Agreement.{KeepsNames};
-ghost use Rattle.rhai_eval_core.specs.Bodies.{args_left, behind_call, entered, is_entered};
-ghost use Rattle.rhai_eval_core.specs.States.{state_in, under};
+ghost use Rattle.rhai_eval_steps.specs.Agreement.{KeepsNames};
+ghost use Rattle.rhai_eval_steps.specs.Bodies.{args_left, behind_call, entered, is_entered};
+ghost use Rattle.rhai_eval_steps.specs.States.{state_in};
+ghost use Rattle.rhai_eval_core.specs.States.{under};
 
 use crate::evaluator::Evaluator;
 use rhai_bodies::callers::{body_of, capture, end_fresh, release};

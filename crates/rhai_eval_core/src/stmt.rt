@@ -11,9 +11,10 @@ ghost use Rattle.rhai_machine.specs.language.Frames.{Exec, OpenStmt, Enter, Run}
 ghost use Rattle.rhai_machine.specs.language.Runs.{Runs};
 ghost use Rattle.rhai_steps.specs.Agreement.{changes, passes};
 ghost use Rattle.rhai_context.specs.Ends.{came};
-ghost use Rattle.rhai_eval_core.specs.Agreement.{ChangesNames, Declared, KeepsNames, RestoresNames, SuitsNames};
-ghost use Rattle.rhai_eval_core.specs.Memory.{asks_if, asks_stmt, may_ask};
-ghost use Rattle.rhai_eval_core.specs.States.{names, state_in, under};
+ghost use Rattle.rhai_eval_steps.specs.Agreement.{ChangesNames, Declared, KeepsNames, RestoresNames, SuitsNames};
+ghost use Rattle.rhai_eval_steps.specs.Memory.{asks_if, asks_stmt, may_ask};
+ghost use Rattle.rhai_eval_steps.specs.States.{names, state_in};
+ghost use Rattle.rhai_eval_core.specs.States.{under};
 ghost use Rattle.rhai_tree.specs.Names.{naming, with_import};
 ghost use Rattle.rhai_tree.specs.Forms.{name_asked};
 ghost use Rattle.rhai_machine.specs.language.Values.{unit_value as unit};

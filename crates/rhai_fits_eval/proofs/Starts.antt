@@ -19,8 +19,8 @@ use Rattle.rhai_laws.specs.Kept.{Around}
 use Rattle.rhai_fits.specs.Sealed.{AreSealed, NewSealed}
 use Rattle.rhai_fits.proofs.Values.{fit_unit}
 use Rattle.rhai_fits.proofs.Fitting.{AllFit, FitBelow, FitCore, to, push, values_dropped, values_joined}
-use Rattle.rhai_eval_core.specs.Bodies.{args_left}
-use Rattle.rhai_eval_core.specs.Calls.{called}
+use Rattle.rhai_eval_steps.specs.Bodies.{args_left}
+use Rattle.rhai_eval_steps.specs.Calls.{called}
 use Rattle.rhai_eval.specs.Chains.{assigned_in, AssignsNoHandle, whole_chain}
 use Rattle.rhai_eval.specs.Ends.{EndsAs, EndsFrom}
 use Rattle.rhai_fits_eval.specs.InHand.{at_work, FitsAgain, cells_in}

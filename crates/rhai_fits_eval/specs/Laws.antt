@@ -16,8 +16,8 @@ use Rattle.rhai_machine.specs.language.Values.{unit_value}
 use Rattle.rhai_fits.specs.Contents.{Both, Nothing, of_control, of_maybe, of_result, of_values}
 use Rattle.rhai_fits.specs.Sealed.{AreSealed, ControlSealed}
 use Rattle.rhai_laws.specs.Kept.{Around}
-use Rattle.rhai_eval_core.specs.Bodies.{args_left}
-use Rattle.rhai_eval_core.specs.Calls.{called}
+use Rattle.rhai_eval_steps.specs.Bodies.{args_left}
+use Rattle.rhai_eval_steps.specs.Calls.{called}
 use Rattle.rhai_eval.specs.Ends.{EndsAs, EndsChanged, EndsFrom}
 use Rattle.rhai_eval.specs.Places.{by_name, by_value, on_place}
 use Rattle.rhai_fits_eval.specs.InHand.{at_work, of_changed, FitsAgain}

@@ -33,7 +33,7 @@ pub cut_one : {A : Type 0} (P Q : A → Type 0) (xs : List A) (i : ℕ) (v : A) 
 cut_one P Q xs i v within before rest cuts = (
   AllWithin-more_set xs i v within Q before (cuts (rest i v (omega arith) within)),
   λ k d low high. subst P (sym (get_or-set_other xs i k v d (omega arith)))
-    (rest k d (omega arith) (omega (arith, length-set xs i v, high))),
+      (rest k d (omega arith) (omega (arith, length-set xs i v, high))),
 )
 
 -- the first so many of some and one more, where these are no more than some

@@ -9,7 +9,7 @@ ghost use Rattle.rhai_machine.specs.language.Script.{EndsAsMachine, AgreesWithHi
 ghost use Rattle.rhai_machine.specs.language.Script.{end_of_script};
 ghost use Rattle.rhai_steps.specs.States.{holding, state_of};
 ghost use Rattle.rhai_laws.specs.Kept.{Grown};
-ghost use Rattle.rhai_eval_core.specs.Memory.{may_ask};
+ghost use Rattle.rhai_eval_steps.specs.Memory.{may_ask};
 ghost use Rattle.rhai_eval.specs.States.{under};
 
 use crate::engine::Engine;

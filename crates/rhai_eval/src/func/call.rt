@@ -15,7 +15,7 @@ ghost use Rattle.rhai_steps.specs.States.{holding, state_of};
 ghost use Rattle.rhai_laws.specs.Kept.{Kept};
 ghost use Rattle.rhai_eval.specs.Ends.{EndsAs, EndsFrom};
 ghost use Rattle.rhai_call_forms.specs.Leading.{all_args};
-ghost use Rattle.rhai_eval_core.specs.Calls.{called, in_parts};
+ghost use Rattle.rhai_eval_steps.specs.Calls.{called, in_parts};
 ghost use Rattle.rhai_eval.specs.ArgumentValues.{value_with};
 ghost use Rattle.rhai_eval.specs.States.{under};
 

@@ -8,9 +8,10 @@ ghost use Rattle.rhai_machine.specs.language.Frames.{Argument};
 ghost use Rattle.rhai_machine.specs.language.Runs.{Runs};
 ghost use Rattle.rhai_call_forms.specs.Leading.{all_args};
 ghost use Rattle.rhai_context.specs.Ends.{came};
-ghost use Rattle.rhai_eval_core.specs.Agreement.{KeepsNames, SuitsNames};
-ghost use Rattle.rhai_eval_core.specs.States.{state_in, under};
-ghost use Rattle.rhai_eval_core.specs.Calls.{Collects};
+ghost use Rattle.rhai_eval_steps.specs.Agreement.{KeepsNames, SuitsNames};
+ghost use Rattle.rhai_eval_steps.specs.States.{state_in};
+ghost use Rattle.rhai_eval_core.specs.States.{under};
+ghost use Rattle.rhai_eval_steps.specs.Calls.{Collects};
 
 use crate::evaluator::Evaluator;
 use rhai_callees::arguments::push_argument;

@@ -11,9 +11,10 @@ ghost use Rattle.rhai_machine.specs.language.Frames.{ToCall, core, ended};
 ghost use Rattle.rhai_machine.specs.language.Runs.{Goes};
 ghost use Rattle.rhai_context.specs.Ends.{came};
 ghost use Rattle.rhai_plain.specs.Callees.{IsPlain};
-ghost use Rattle.rhai_eval_core.specs.Agreement.{KeepsNames, SuitsNames};
-ghost use Rattle.rhai_eval_core.specs.Calls.{Collects};
-ghost use Rattle.rhai_eval_core.specs.States.{state_in, under};
+ghost use Rattle.rhai_eval_steps.specs.Agreement.{KeepsNames, SuitsNames};
+ghost use Rattle.rhai_eval_steps.specs.Calls.{Collects};
+ghost use Rattle.rhai_eval_steps.specs.States.{state_in};
+ghost use Rattle.rhai_eval_core.specs.States.{under};
 
 use crate::evaluator::Evaluator;
 use rhai_bodies::callers::definition_of;

@@ -10,9 +10,10 @@ ghost use Rattle.rhai_call_forms.specs.Forms.{IsForm};
 ghost use Rattle.rhai_call_forms.specs.declared.forms.CallForm.TheVariants as form;
 ghost use Rattle.rhai_steps.specs.Agreement.{call_leads};
 ghost use Rattle.rhai_context.specs.Ends.{came};
-ghost use Rattle.rhai_eval_core.specs.Agreement.{KeepsNames, SuitsNames};
-ghost use Rattle.rhai_eval_core.specs.Calls.{in_parts};
-ghost use Rattle.rhai_eval_core.specs.States.{state_in, under};
+ghost use Rattle.rhai_eval_steps.specs.Agreement.{KeepsNames, SuitsNames};
+ghost use Rattle.rhai_eval_steps.specs.Calls.{in_parts};
+ghost use Rattle.rhai_eval_steps.specs.States.{state_in};
+ghost use Rattle.rhai_eval_core.specs.States.{under};
 
 use crate::evaluator::Evaluator;
 use rhai_callees::path::{call_behind, charge_last, split_last_read};

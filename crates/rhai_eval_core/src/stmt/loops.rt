@@ -9,8 +9,9 @@ ghost use Rattle.rhai_machine.specs.language.Frames.{OpenStmt, WhileTurn, DoTurn
 ghost use Rattle.rhai_machine.specs.language.Runs.{Steps, Runs};
 ghost use Rattle.rhai_steps.specs.Loops.{after_turn};
 ghost use Rattle.rhai_context.specs.Ends.{came, came_turn, error_in};
-ghost use Rattle.rhai_eval_core.specs.Agreement.{KeepsNames, SuitsNames};
-ghost use Rattle.rhai_eval_core.specs.States.{state_in, under};
+ghost use Rattle.rhai_eval_steps.specs.Agreement.{KeepsNames, SuitsNames};
+ghost use Rattle.rhai_eval_steps.specs.States.{state_in};
+ghost use Rattle.rhai_eval_core.specs.States.{under};
 
 use crate::evaluator::Evaluator;
 use rhai_catches::leaving::{break_with, leave_with};

@@ -6,8 +6,9 @@ ghost use Rattle.rhai_tree.specs.declared.expr.Expr.TheOpen as layer;
 ghost use Rattle.rhai_machine.specs.language.Frames.{OpenStmt};
 ghost use Rattle.rhai_machine.specs.language.Runs.{Runs};
 ghost use Rattle.rhai_context.specs.Ends.{came};
-ghost use Rattle.rhai_eval_core.specs.Agreement.{KeepsNames, SuitsNames};
-ghost use Rattle.rhai_eval_core.specs.States.{state_in, under};
+ghost use Rattle.rhai_eval_steps.specs.Agreement.{KeepsNames, SuitsNames};
+ghost use Rattle.rhai_eval_steps.specs.States.{state_in};
+ghost use Rattle.rhai_eval_core.specs.States.{under};
 
 use crate::evaluator::Evaluator;
 use rhai_choices::{candidates_for, default_result, written_truth};

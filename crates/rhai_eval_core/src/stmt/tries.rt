@@ -10,8 +10,9 @@ ghost use Rattle.rhai_machine.specs.language.Runs.{Goes, Runs};
 ghost use Rattle.rhai_machine.specs.language.Tries.{branch_core, catch_variable};
 ghost use Rattle.rhai_steps.specs.Agreement.{above};
 ghost use Rattle.rhai_context.specs.Ends.{came};
-ghost use Rattle.rhai_eval_core.specs.Agreement.{KeepsNames, SuitsNames};
-ghost use Rattle.rhai_eval_core.specs.States.{state_in, under};
+ghost use Rattle.rhai_eval_steps.specs.Agreement.{KeepsNames, SuitsNames};
+ghost use Rattle.rhai_eval_steps.specs.States.{state_in};
+ghost use Rattle.rhai_eval_core.specs.States.{under};
 ghost use Rattle.rhai_tree.specs.Names.{naming};
 
 use crate::evaluator::Evaluator;

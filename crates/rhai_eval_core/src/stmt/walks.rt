@@ -11,8 +11,9 @@ ghost use Rattle.rhai_steps.specs.Loops.{after_turn};
 ghost use Rattle.rhai_walks.specs.TurnsLeft.{turns_in};
 ghost use Rattle.rhai_walks.specs.Loops.{loop_in};
 ghost use Rattle.rhai_context.specs.Ends.{came, came_turn};
-ghost use Rattle.rhai_eval_core.specs.Agreement.{KeepsNames, RestoresNames, SuitsNames};
-ghost use Rattle.rhai_eval_core.specs.States.{names, state_in, under};
+ghost use Rattle.rhai_eval_steps.specs.Agreement.{KeepsNames, RestoresNames, SuitsNames};
+ghost use Rattle.rhai_eval_steps.specs.States.{names, state_in};
+ghost use Rattle.rhai_eval_core.specs.States.{under};
 ghost use Rattle.rhai_tree.specs.Names.{naming};
 
 use crate::evaluator::Evaluator;

@@ -17,7 +17,8 @@ each_variable-init g c = record { rest = refl; sight = refl; names = refl; steps
 pub index_of_variable-requires : goal.index_of_variable-requires
 index_of_variable-requires g c =
     place_fits (sight_of c.each_variable.global) _ _ (entries_of c.each_variable.scope)
-    (shared_agrees _ _ _ c.each_variable.invariant.sight c.each_variable.invariant.names c.each_variable-test.true c.variable-item.is c.requires)
+    (shared_agrees _ _ _ c.each_variable.invariant.sight c.each_variable.invariant.names c.each_variable-test.true
+    c.variable-item.is c.requires)
 
 pub returns-in_default-clause-runs : goal.returns-in_default-clause-runs
 unfolding Goes

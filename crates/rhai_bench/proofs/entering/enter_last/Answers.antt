@@ -1,4 +1,4 @@
-use Rattle.rhai_eval_core.proofs.NameLemmas.{suits_now}
+use Rattle.rhai_eval_steps.proofs.NameLemmas.{suits_now}
 use Rattle.rhai_bench.proofs.entering.enter_last.Goals as goal
 
 pub enter_list-answer-requires : goal.enter_list-answer-requires

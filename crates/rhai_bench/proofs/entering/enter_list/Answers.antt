@@ -1,4 +1,4 @@
-use Rattle.rhai_eval_core.proofs.NameLemmas.{first_suits}
+use Rattle.rhai_eval_steps.proofs.NameLemmas.{first_suits}
 use Rattle.rhai_bench.proofs.entering.enter_list.Goals as goal
 
 pub enter_part-requires : goal.enter_part-requires

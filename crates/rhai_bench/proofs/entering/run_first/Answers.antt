@@ -1,5 +1,5 @@
 use Rattle.std.proofs.Common.{sym, ◌∙◌, arith}
-use Rattle.rhai_eval_core.proofs.NameLemmas.{first_suits, rest_suits}
+use Rattle.rhai_eval_steps.proofs.NameLemmas.{first_suits, rest_suits}
 use Rattle.rhai_bench.proofs.entering.run_first.Goals as goal
 
 pub run-requires : goal.run-requires

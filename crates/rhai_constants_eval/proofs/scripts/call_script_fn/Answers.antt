@@ -2,7 +2,7 @@ use Rattle.std.proofs.Common.{false}
 use Rattle.std.specs.Option.{option_copied}
 use Rattle.rhai_machine.specs.language.Activations.{OwnThis}
 use Rattle.rhai_machine.specs.language.Frames.{EnterFunction}
-use Rattle.rhai_eval_core.specs.Bodies.{entered}
+use Rattle.rhai_eval_steps.specs.Bodies.{entered}
 use Rattle.rhai_eval.specs.States.{under}
 use Rattle.rhai_constants_eval.proofs.Staying.{control_stays}
 use Rattle.rhai_constants_eval.proofs.scripts.call_script_fn.Goals as goal

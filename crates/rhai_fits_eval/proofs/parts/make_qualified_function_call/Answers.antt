@@ -1,7 +1,7 @@
 use Rattle.std.proofs.Common.{None, false}
 use Rattle.rhai_tree.specs.declared.expr.Expr.TheOpen as layer
 use Rattle.rhai_machine.specs.language.Frames.{OpenExpr}
-use Rattle.rhai_eval_core.specs.Calls.{in_parts}
+use Rattle.rhai_eval_steps.specs.Calls.{in_parts}
 use Rattle.rhai_eval.specs.States.{under}
 use Rattle.rhai_fits_eval.proofs.Ends.{control_again}
 use Rattle.rhai_fits_eval.proofs.parts.make_qualified_function_call.Goals as goal

@@ -1,7 +1,7 @@
 use Rattle.std.proofs.Common.{false, true}
 use Rattle.std.specs.Option.{option_copied}
 use Rattle.rhai_machine.specs.language.Activations.{OwnThis}
-use Rattle.rhai_eval_core.specs.Bodies.{entered}
+use Rattle.rhai_eval_steps.specs.Bodies.{entered}
 use Rattle.rhai_eval.specs.States.{under}
 use Rattle.rhai_fits_eval.proofs.Starts.{arguments_again, entered_again}
 use Rattle.rhai_fits_eval.proofs.scripts.call_script_fn.Goals as goal

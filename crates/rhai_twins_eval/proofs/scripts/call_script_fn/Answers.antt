@@ -3,7 +3,7 @@ use Rattle.std.specs.Option.{option_copied}
 use Rattle.rhai_machine.specs.language.Activations.{OwnThis}
 use Rattle.rhai_machine.specs.language.Frames.{EnterFunction, core}
 use Rattle.rhai_state.specs.Scope.{entries_of}
-use Rattle.rhai_eval_core.specs.Bodies.{args_left, entered, is_entered}
+use Rattle.rhai_eval_steps.specs.Bodies.{args_left, entered, is_entered}
 use Rattle.rhai_steps.specs.States.{holding}
 use Rattle.rhai_eval.specs.States.{limits_of, under}
 use Rattle.rhai_twins_eval.proofs.Once.{call_once}

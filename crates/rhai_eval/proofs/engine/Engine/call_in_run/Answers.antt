@@ -4,7 +4,7 @@ use Rattle.rhai_tree.specs.declared.function.ScriptFuncDef.{ScriptFuncDef}
 use Rattle.rhai_state.specs.Scope.{entries_of}
 use Rattle.rhai_machine.specs.language.Activations.{OwnThis}
 use Rattle.rhai_steps.specs.States.{holding}
-use Rattle.rhai_eval_core.proofs.Chain.{on_done}
+use Rattle.rhai_eval_steps.proofs.Chain.{on_done}
 use Rattle.rhai_eval.specs.States.{under}
 use Rattle.rhai_eval.proofs.Public.{same_rules}
 use Rattle.rhai_eval.proofs.Variables.{left_variables, runs_left}

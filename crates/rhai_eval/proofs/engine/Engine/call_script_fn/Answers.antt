@@ -9,7 +9,7 @@ use Rattle.rhai_eval.proofs.Public.{agrees_above, ends_as, five, handed_free, ha
 use Rattle.rhai_machine.specs.language.Frames.{ended, EnterFunction}
 use Rattle.std.specs.Option.{option_copied}
 use Rattle.rhai_machine.specs.language.Activations.{OwnThis}
-use Rattle.rhai_eval_core.specs.Bodies.{entered}
+use Rattle.rhai_eval_steps.specs.Bodies.{entered}
 use Rattle.rhai_eval.proofs.Variables.{adds_none}
 use Rattle.rhai_eval.proofs.engine.Engine.call_script_fn.Given.{Over}
 use Rattle.rhai_eval.proofs.engine.Engine.call_script_fn.Lts.{ps, r, xs}

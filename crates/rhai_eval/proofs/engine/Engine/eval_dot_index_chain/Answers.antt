@@ -2,14 +2,14 @@ use Rattle.std.proofs.Common.{◌≡◌, ◌∙◌, Bool, true, false, is_some, 
 use Rattle.rhai_values.specs.declared.base.value.Dynamic.{Dynamic}
 use Rattle.rhai_errors.specs.Native.{left_by, lent_value}
 use Rattle.rhai_steps.specs.States.{holding, state_of}
-use Rattle.rhai_eval_core.specs.Agreement.{SuitsNames}
+use Rattle.rhai_eval_steps.specs.Agreement.{SuitsNames}
 use Rattle.rhai_eval.specs.States.{under}
 use Rattle.std.specs.Option.{option_copied}
 use Rattle.rhai_tree.specs.declared.expr.Expr.{out-Expr}
 use Rattle.rhai_machine.specs.language.Links.{first_in}
 use Rattle.rhai_chains.specs.Chains.{new_of}
-use Rattle.rhai_eval_core.proofs.Chain.{on_done}
-use Rattle.rhai_eval_core.specs.Chains.{AsksFirst, MayWalk, StartsFrom}
+use Rattle.rhai_eval_steps.proofs.Chain.{on_done}
+use Rattle.rhai_eval_steps.specs.Chains.{AsksFirst, MayWalk, StartsFrom}
 use Rattle.std.specs.Prelude.{OnOk}
 use Rattle.rhai_eval.specs.Chains.{assigned_in, chain_of, whole_chain}
 use Rattle.rhai_eval.proofs.Chained.{asks_over_root, chain_assigns, chain_may_run, over_root}
@@ -23,7 +23,7 @@ use denote.Triple.Clauses.{at_exit}
 use denote.Triple.Entry.{Args}
 use borrow.Fn.Enter.{lasts_p}
 use borrow.Fn.Kinds.{ended_of}
-use Rattle.rhai_eval_core.proofs.NameLemmas.{at_known}
+use Rattle.rhai_eval_steps.proofs.NameLemmas.{at_known}
 use Rattle.rhai_eval.proofs.engine.Engine.eval_dot_index_chain.Goals as goal
 use Rattle.rhai_eval_core.specs.States.{under as under_what_is_read}
 

@@ -9,8 +9,8 @@ use Rattle.rhai_machine.specs.language.Setting.{cut}
 use Rattle.rhai_laws.proofs.KeptLaws.{grown, names_begin, variables_stay}
 use Rattle.rhai_laws.proofs.ScriptMemory.{runs_up_to_memory}
 use Rattle.rhai_steps.specs.States.{holding, state_of}
-use Rattle.rhai_eval_core.specs.Agreement.{SuitsNames}
-use Rattle.rhai_eval_core.proofs.NameLemmas.{suits_now}
+use Rattle.rhai_eval_steps.specs.Agreement.{SuitsNames}
+use Rattle.rhai_eval_steps.proofs.NameLemmas.{suits_now}
 use Rattle.rhai_eval.specs.States.{under}
 use Rattle.rhai_eval.proofs.Public.{handed_free, same_rules}
 use Rattle.rhai_eval.proofs.Scripts.{script_agrees, script_ends, script_goes, script_memory}

@@ -4,9 +4,9 @@ use Rattle.rhai_values.specs.declared.base.value.Dynamic.{Dynamic}
 use Rattle.rhai_errors.specs.Native.{left_by, lent_value}
 use Rattle.rhai_state.specs.Scope.{names_in}
 use Rattle.rhai_steps.specs.States.{holding, state_of}
-use Rattle.rhai_eval_core.specs.Agreement.{SuitsNames}
-use Rattle.rhai_eval_core.proofs.Chain.{on_done}
-use Rattle.rhai_eval_core.proofs.NameLemmas.{stmt_names}
+use Rattle.rhai_eval_steps.specs.Agreement.{SuitsNames}
+use Rattle.rhai_eval_steps.proofs.Chain.{on_done}
+use Rattle.rhai_eval_steps.proofs.NameLemmas.{stmt_names}
 use Rattle.rhai_eval.specs.States.{under}
 use Rattle.rhai_machine.specs.language.Runs.{Runs}
 use Rattle.rhai_laws.proofs.KeptLaws.{grown, kept, names_begin, names_stay, variables_stay}

@@ -15,7 +15,7 @@ use denote.Triple.Entry.{Args}
 use borrow.Fn.Enter.{lasts_p}
 use borrow.Fn.Kinds.{ended_of}
 use Rattle.rhai_eval.proofs.engine.Engine.get_arg_value.Goals as goal
-use Rattle.rhai_eval_core.specs.Agreement.{SuitsNames}
+use Rattle.rhai_eval_steps.specs.Agreement.{SuitsNames}
 use Rattle.rhai_eval_core.specs.States.{under as under_what_is_read}
 
 -- what stands in the place of `this` as its loan ends, were this the place

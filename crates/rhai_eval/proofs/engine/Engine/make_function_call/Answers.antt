@@ -2,13 +2,13 @@ use Rattle.std.proofs.Common.{◌≡◌, Option, Some, None, MutBor, ap, refl, s
 use Rattle.rhai_values.specs.declared.base.value.Dynamic.{Dynamic}
 use Rattle.rhai_errors.specs.Native.{left_by, lent_value}
 use Rattle.rhai_steps.specs.States.{holding, state_of}
-use Rattle.rhai_eval_core.specs.Agreement.{SuitsNames}
+use Rattle.rhai_eval_steps.specs.Agreement.{SuitsNames}
 use Rattle.rhai_eval.specs.States.{under}
 use Rattle.std.specs.Option.{option_copied}
 use Rattle.rhai_machine.specs.language.Runs.{Goes}
 use Rattle.rhai_machine.specs.language.Frames.{core, ended}
 use Rattle.rhai_call_forms.specs.Leading.{all_args}
-use Rattle.rhai_eval_core.specs.Calls.{called}
+use Rattle.rhai_eval_steps.specs.Calls.{called}
 use Rattle.rhai_eval.proofs.Begun.{call_kept, call_names, ends_from}
 use Rattle.rhai_eval.proofs.Public.{five, handed_free, handed_on, same_rules}
 use Rattle.rhai_eval.proofs.engine.Engine.make_function_call.Given.{Over}

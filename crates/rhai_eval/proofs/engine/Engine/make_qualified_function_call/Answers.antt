@@ -12,7 +12,7 @@ use Rattle.rhai_tree.specs.declared.expr.Expr.TheOpen as layer
 use Rattle.rhai_tree.specs.declared.expr.Namespace.{Namespace}
 use Rattle.rhai_tree.specs.declared.position.Position.{Position}
 use Rattle.rhai_call_forms.specs.Forms.{is_operator_form}
-use Rattle.rhai_eval_core.specs.Calls.{in_parts}
+use Rattle.rhai_eval_steps.specs.Calls.{in_parts}
 use Rattle.rhai_eval.proofs.engine.Engine.make_qualified_function_call.Given.{Over}
 use Rattle.rhai_eval.proofs.engine.Engine.make_qualified_function_call.Lts.{ps, r, xs}
 use denote.Triple.Clauses.{at_exit}
@@ -20,7 +20,7 @@ use denote.Triple.Entry.{Args}
 use borrow.Fn.Enter.{lasts_p}
 use borrow.Fn.Kinds.{ended_of}
 use Rattle.rhai_eval.proofs.engine.Engine.make_qualified_function_call.Goals as goal
-use Rattle.rhai_eval_core.specs.Agreement.{SuitsNames}
+use Rattle.rhai_eval_steps.specs.Agreement.{SuitsNames}
 use Rattle.rhai_eval_core.specs.States.{under as under_what_is_read}
 
 -- a call behind a path

@@ -8,7 +8,7 @@ use Rattle.rhai_steps.specs.OnFocus.{lending}
 use Rattle.rhai_steps.specs.States.{local_of}
 use Rattle.rhai_laws.proofs.KeptLaws.{kept}
 use Rattle.rhai_eval_core.specs.States.{under}
-use Rattle.rhai_eval_core.proofs.BodyLemmas.{captured_ends}
+use Rattle.rhai_eval_steps.proofs.BodyLemmas.{captured_ends}
 use Rattle.rhai_eval.proofs.func.captured.enter_with_this.Goals as goal
 
 pub returns : goal.returns

@@ -29,10 +29,11 @@ use Rattle.rhai_data.specs.Maps.{IsCounted}
 use Rattle.rhai_context.specs.declared.Context.{Context}
 use Rattle.rhai_eval_core.specs.declared.evaluator.Evaluator.{Evaluator}
 use Rattle.rhai_steps.specs.Agreement.{passes}
-use Rattle.rhai_eval_core.specs.Agreement.{ChangesNames, KeepsNames, SuitsNames}
-use Rattle.rhai_eval_core.specs.States.{names, state_in, under}
-use Rattle.rhai_eval_core.proofs.ChoiceSteps.{until_core}
-use Rattle.rhai_eval_core.proofs.PlainLemmas.{Filling}
+use Rattle.rhai_eval_steps.specs.Agreement.{ChangesNames, KeepsNames, SuitsNames}
+use Rattle.rhai_eval_steps.specs.States.{names, state_in}
+use Rattle.rhai_eval_core.specs.States.{under}
+use Rattle.rhai_eval_steps.proofs.ChoiceSteps.{until_core}
+use Rattle.rhai_eval_steps.proofs.PlainLemmas.{Filling}
 use Rattle.rhai_eval_core.proofs.evaluator.Evaluator.+eval.Given as goal
 use Rattle.rhai_tree.specs.Names.{naming}
 

@@ -14,19 +14,19 @@ use Rattle.rhai_bodies.specs.declared.callers.Captured.{Captured}
 use Rattle.rhai_context.specs.declared.Context.{Context}
 use Rattle.rhai_laws.proofs.KeptLaws.{counted, kept, names_stay}
 use Rattle.rhai_steps.specs.OnFocus.{lending}
-use Rattle.rhai_eval_core.specs.Agreement.{ChangesNames, KeepsNames, RestoresNames, SuitsNames, sight_in}
-use Rattle.rhai_eval_core.specs.Bodies.{entered}
+use Rattle.rhai_eval_steps.specs.Agreement.{ChangesNames, KeepsNames, RestoresNames, SuitsNames, sight_in}
+use Rattle.rhai_eval_steps.specs.Bodies.{entered}
 use Rattle.rhai_eval_core.specs.States.{under}
-use Rattle.rhai_eval_core.proofs.BodyLemmas.{body_resolves, brings_no_charge, captured_ends, failed_ends, fresh_ends, passed_ends}
-use Rattle.rhai_eval_core.proofs.BodyLemmas.{refused_ends, whole_ends}
+use Rattle.rhai_eval_steps.proofs.BodyLemmas.{body_resolves, brings_no_charge, captured_ends, failed_ends, fresh_ends, passed_ends}
+use Rattle.rhai_eval_steps.proofs.BodyLemmas.{refused_ends, whole_ends}
 use Rattle.rhai_steps.proofs.Agreeing.{stays}
-use Rattle.rhai_eval_core.proofs.NameLemmas.{suits_now}
-use Rattle.rhai_eval_core.proofs.ArgsLeft.{entered_never, entered_not, entered_nothing, entered_so}
+use Rattle.rhai_eval_steps.proofs.NameLemmas.{suits_now}
+use Rattle.rhai_eval_steps.proofs.ArgsLeft.{entered_never, entered_not, entered_nothing, entered_so}
 use Rattle.rhai_eval_core.proofs.Untold.{unchanged_walk_ends}
 use Rattle.rhai_eval_core.proofs.evaluator.Evaluator.+eval.Goals as goal
 use Rattle.rhai_context.specs.Ends.{came}
 use Rattle.rhai_steps.specs.Agreement.{imports_in, sight_of}
-use Rattle.rhai_eval_core.proofs.SightLemmas.{sight_closed}
+use Rattle.rhai_eval_steps.proofs.SightLemmas.{sight_closed}
 use Rattle.rhai_bodies.specs.declared.opening.CallExit.{CallExit}
 
 pub run_body-returns-then-not-charge-clause-runs : goal.run_body-returns-then-not-charge-clause-runs

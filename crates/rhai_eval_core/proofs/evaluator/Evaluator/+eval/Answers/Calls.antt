@@ -9,14 +9,15 @@ use Rattle.rhai_machine.specs.language.Frames.{core, Eval, UnaryOperand, LeftOpe
 use Rattle.rhai_machine.specs.language.Runs.{Goes}
 use Rattle.rhai_steps.proofs.Agreeing.{brings, leads_then, same, stays, still}
 use Rattle.rhai_steps.proofs.Pieces.{step_by}
-use Rattle.rhai_eval_core.specs.Agreement.{ChangesNames, KeepsNames, RestoresNames, SuitsNames}
-use Rattle.rhai_eval_core.specs.States.{state_in, under}
+use Rattle.rhai_eval_steps.specs.Agreement.{ChangesNames, KeepsNames, RestoresNames, SuitsNames}
+use Rattle.rhai_eval_core.specs.States.{under}
+use Rattle.rhai_eval_steps.specs.States.{state_in}
 use Rattle.rhai_operands.proofs.Names.{operands_of_call, operands_resolve, path_of_call}
 use Rattle.rhai_operands.proofs.InPlace.{opens_binary}
-use Rattle.rhai_eval_core.proofs.NameLemmas.{first_resolves}
-use Rattle.rhai_eval_core.proofs.CallSteps.{begins_call}
-use Rattle.rhai_eval_core.proofs.Chain.{flat_fails, opens_unary, still_none}
-use Rattle.rhai_eval_core.proofs.PlainLemmas.{known_goes, plain_begins}
+use Rattle.rhai_eval_steps.proofs.NameLemmas.{first_resolves}
+use Rattle.rhai_eval_steps.proofs.CallSteps.{begins_call}
+use Rattle.rhai_eval_steps.proofs.Chain.{flat_fails, opens_unary, still_none}
+use Rattle.rhai_eval_steps.proofs.PlainLemmas.{known_goes, plain_begins}
 use Rattle.rhai_eval_core.proofs.evaluator.Evaluator.+eval.Goals as goal
 
 pub run_fn_call_expr-run_function-requires : goal.run_fn_call_expr-run_function-requires

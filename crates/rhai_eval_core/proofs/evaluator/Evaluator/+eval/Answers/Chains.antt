@@ -21,19 +21,20 @@ use Rattle.rhai_steps.proofs.Pieces.{charged, refused}
 use Rattle.rhai_operands.proofs.Names.{good_name}
 use Rattle.rhai_chains.specs.Chains.{chain_at, link_seen, new_of}
 use Rattle.rhai_context.specs.Ends.{error_in}
-use Rattle.rhai_eval_core.specs.Agreement.{ChangesNames, KeepsNames, RestoresNames, SuitsNames}
-use Rattle.rhai_eval_core.specs.Calls.{Collects}
-use Rattle.rhai_eval_core.specs.States.{state_in, under}
+use Rattle.rhai_eval_steps.specs.Agreement.{ChangesNames, KeepsNames, RestoresNames, SuitsNames}
+use Rattle.rhai_eval_steps.specs.Calls.{Collects}
+use Rattle.rhai_eval_steps.specs.States.{state_in}
+use Rattle.rhai_eval_core.specs.States.{under}
 use Rattle.rhai_tree.proofs.Links.{few_links}
-use Rattle.rhai_eval_core.proofs.Chain.{begins, flat_fails}
-use Rattle.rhai_eval_core.proofs.CallSteps.{charged_on, refused_on}
-use Rattle.rhai_eval_core.proofs.ChainLemmas.{has_link, left_chain, link_resolves, may_walk, no_name, RestResolves, root_resolves}
-use Rattle.rhai_eval_core.proofs.ChainLemmas.{target_parts}
-use Rattle.rhai_eval_core.proofs.ChainSteps.{arrives_last, arrives_on, asks_further, asks_last, asks_link, begins_chain, evaluates_root}
-use Rattle.rhai_eval_core.proofs.ChainSteps.{asked_at_once, not_assigned, nothing_there, opens_asking, opens_at_once, opens_running_out}
-use Rattle.rhai_eval_core.proofs.ChainSteps.{this_root}
-use Rattle.rhai_eval_core.proofs.ChainSteps.{variable_root, walks_given}
-use Rattle.rhai_eval_core.proofs.NameLemmas.{at_known}
+use Rattle.rhai_eval_steps.proofs.Chain.{begins, flat_fails}
+use Rattle.rhai_eval_steps.proofs.CallSteps.{charged_on, refused_on}
+use Rattle.rhai_eval_steps.proofs.ChainLemmas.{has_link, left_chain, link_resolves, may_walk, no_name, RestResolves, root_resolves}
+use Rattle.rhai_eval_steps.proofs.ChainLemmas.{target_parts}
+use Rattle.rhai_eval_steps.proofs.ChainSteps.{arrives_last, arrives_on, asks_further, asks_last, asks_link, begins_chain, evaluates_root}
+use Rattle.rhai_eval_steps.proofs.ChainSteps.{asked_at_once, not_assigned, nothing_there, opens_asking, opens_at_once, opens_running_out}
+use Rattle.rhai_eval_steps.proofs.ChainSteps.{this_root}
+use Rattle.rhai_eval_steps.proofs.ChainSteps.{variable_root, walks_given}
+use Rattle.rhai_eval_steps.proofs.NameLemmas.{at_known}
 use Rattle.rhai_eval_core.proofs.evaluator.Evaluator.+eval.Goals as goal
 
 -- a chain, its arguments and its root

@@ -4,12 +4,12 @@ use Rattle.rhai_machine.specs.machine.Memory.{here, next, ◌⨾◌}
 use Rattle.rhai_machine.specs.language.Frames.{CoalescePart}
 use Rattle.rhai_machine.specs.language.Runs.{Goes}
 use Rattle.rhai_steps.proofs.Agreeing.{brings, leads_then, stays, still}
-use Rattle.rhai_eval_core.specs.Agreement.{ChangesNames, KeepsNames, RestoresNames, SuitsNames}
+use Rattle.rhai_eval_steps.specs.Agreement.{ChangesNames, KeepsNames, RestoresNames, SuitsNames}
 use Rattle.rhai_eval_core.specs.States.{under}
-use Rattle.rhai_eval_core.proofs.NameLemmas.{part_resolves}
-use Rattle.rhai_eval_core.proofs.ChoiceSteps.{coalesce_on, coalesce_ends, coalesce_fails, until_on, until_stops, until_fails, until_ends}
-use Rattle.rhai_eval_core.proofs.ChoiceSteps.{until_opens}
-use Rattle.rhai_eval_core.proofs.Chain.{drop_item, drop_all}
+use Rattle.rhai_eval_steps.proofs.NameLemmas.{part_resolves}
+use Rattle.rhai_eval_steps.proofs.ChoiceSteps.{coalesce_on, coalesce_ends, coalesce_fails, until_on, until_stops, until_fails, until_ends}
+use Rattle.rhai_eval_steps.proofs.ChoiceSteps.{until_opens}
+use Rattle.rhai_eval_steps.proofs.Chain.{drop_item, drop_all}
 use Rattle.rhai_eval_core.proofs.evaluator.Evaluator.+eval.Goals as goal
 use Rattle.rhai_context.specs.Ends.{error_in}
 

@@ -8,11 +8,11 @@ use Rattle.rhai_machine.specs.language.Runs.{Goes}
 use Rattle.rhai_steps.proofs.Agreeing.{brings, leads_then, stays, still}
 use Rattle.rhai_steps.proofs.Pieces.{told}
 use Rattle.rhai_context.specs.Ends.{error_in}
-use Rattle.rhai_eval_core.specs.Agreement.{ChangesNames, KeepsNames, RestoresNames, SuitsNames}
+use Rattle.rhai_eval_steps.specs.Agreement.{ChangesNames, KeepsNames, RestoresNames, SuitsNames}
 use Rattle.rhai_eval_core.specs.States.{under}
-use Rattle.rhai_eval_core.proofs.NameLemmas.{part_resolves, value_resolves}
-use Rattle.rhai_eval_core.proofs.DataSteps.{item_on, item_fails, value_on, value_fails}
-use Rattle.rhai_eval_core.proofs.Chain.{drop_item, drop_all}
+use Rattle.rhai_eval_steps.proofs.NameLemmas.{part_resolves, value_resolves}
+use Rattle.rhai_eval_steps.proofs.DataSteps.{item_on, item_fails, value_on, value_fails}
+use Rattle.rhai_eval_steps.proofs.Chain.{drop_item, drop_all}
 use Rattle.rhai_eval_core.proofs.evaluator.Evaluator.+eval.Goals as goal
 
 pub run_array-run_expr-requires : goal.run_array-run_expr-requires

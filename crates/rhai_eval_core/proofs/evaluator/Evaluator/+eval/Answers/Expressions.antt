@@ -3,21 +3,21 @@ use Rattle.rhai_state.specs.declared.state.GlobalRuntimeState.{GlobalRuntimeStat
 use Rattle.rhai_steps.specs.States.{holding}
 use Rattle.rhai_steps.proofs.Agreeing.{brings, leads_then, put_back, same, stays}
 use Rattle.rhai_operands.proofs.Names.{both}
-use Rattle.rhai_eval_core.specs.Agreement.{ChangesNames, KeepsNames, RestoresNames, SuitsNames}
-use Rattle.rhai_eval_core.proofs.FormNames.{block_suits}
-use Rattle.rhai_eval_core.proofs.NameLemmas.{expr_suits, holds_of_all}
+use Rattle.rhai_eval_steps.specs.Agreement.{ChangesNames, KeepsNames, RestoresNames, SuitsNames}
+use Rattle.rhai_eval_steps.proofs.FormNames.{block_suits}
+use Rattle.rhai_eval_steps.proofs.NameLemmas.{expr_suits, holds_of_all}
 use Rattle.rhai_tree.specs.declared.expr.Expr.TheOpen as layer
 use Rattle.rhai_tree.specs.declared.expr.Expr.TheVariants as exprs
 use Rattle.rhai_machine.specs.machine.Point.{after}
 use Rattle.rhai_machine.specs.machine.Memory.{next, ◌⨾◌}
 use Rattle.rhai_machine.specs.language.Runs.{Goes}
 use Rattle.rhai_eval_core.specs.States.{under}
-use Rattle.rhai_eval_core.proofs.Chain.{begins, opens, refuses}
-use Rattle.rhai_eval_core.proofs.Conditions.{tests_by, tests_fail}
+use Rattle.rhai_eval_steps.proofs.Chain.{begins, opens, refuses}
+use Rattle.rhai_eval_steps.proofs.Conditions.{tests_by, tests_fail}
 use Rattle.rhai_eval_core.proofs.evaluator.Evaluator.+eval.Goals as goal
 use Rattle.rhai_tree.specs.declared.expr.Expr.{out-Expr}
 use Rattle.rhai_operands.proofs.Forms.{read_runs}
-use Rattle.rhai_eval_core.proofs.AskedReads.{asks_as_read, asks_more}
+use Rattle.rhai_eval_steps.proofs.AskedReads.{asks_as_read, asks_more}
 
 pub run_expr-returns-then-not-charge_expr-clause-runs : goal.run_expr-returns-then-not-charge_expr-clause-runs
 run_expr-returns-then-not-charge_expr-clause-runs g t c =

@@ -17,15 +17,15 @@ use Rattle.rhai_operands.proofs.Names.{good_name}
 use Rattle.rhai_call_forms.specs.Keywords.{word_of}
 use Rattle.rhai_call_forms.specs.Leading.{all_args, leading_seen, variable_read}
 use Rattle.rhai_call_forms.proofs.LeadingLemmas.{lent_leads, this_goes, values_go, variable_goes}
-use Rattle.rhai_eval_core.specs.Agreement.{ChangesNames, KeepsNames, RestoresNames, SuitsNames}
+use Rattle.rhai_eval_steps.specs.Agreement.{ChangesNames, KeepsNames, RestoresNames, SuitsNames}
 use Rattle.rhai_callees.specs.Pointers.{purpose_of}
-use Rattle.rhai_eval_core.specs.Calls.{Collects}
+use Rattle.rhai_eval_steps.specs.Calls.{Collects}
 use Rattle.rhai_eval_core.specs.States.{under}
-use Rattle.rhai_eval_core.proofs.NameLemmas.{first_resolves, part_resolves, this_resolves}
-use Rattle.rhai_eval_core.proofs.Chain.{drop_item, drop_all}
-use Rattle.rhai_eval_core.proofs.CallSteps.{calls_itself, calls_linked, by_name, by_number, charged_on, counted, named_alone}
-use Rattle.rhai_eval_core.proofs.CallSteps.{kept_as_they_are, named_so, refused_on, taken_fails, taken_on, worded, calls_fails, calls_goes}
-use Rattle.rhai_eval_core.proofs.CallSteps.{curries_fails, curries_goes, defined_fails, defined_goes, made_fails, made_goes, kept_longer}
+use Rattle.rhai_eval_steps.proofs.NameLemmas.{first_resolves, part_resolves, this_resolves}
+use Rattle.rhai_eval_steps.proofs.Chain.{drop_item, drop_all}
+use Rattle.rhai_eval_steps.proofs.CallSteps.{calls_itself, calls_linked, by_name, by_number, charged_on, counted, named_alone}
+use Rattle.rhai_eval_steps.proofs.CallSteps.{kept_as_they_are, named_so, refused_on, taken_fails, taken_on, worded, calls_fails, calls_goes}
+use Rattle.rhai_eval_steps.proofs.CallSteps.{curries_fails, curries_goes, defined_fails, defined_goes, made_fails, made_goes, kept_longer}
 use Rattle.rhai_eval_core.proofs.evaluator.Evaluator.+eval.Goals as goal
 use Rattle.rhai_context.specs.Ends.{error_in}
 

@@ -6,9 +6,9 @@ use Rattle.rhai_machine.specs.language.Runs.{Goes}
 use Rattle.rhai_machine.specs.language.Statements.{has_option}
 use Rattle.rhai_steps.proofs.Pieces.{faulted}
 use Rattle.rhai_eval_core.specs.States.{under}
-use Rattle.rhai_eval_core.proofs.LoopSteps.{breaks_unit, breaks_value, leaves, leaving, leaving_flattens, leaving_passes, returns_unit}
-use Rattle.rhai_eval_core.proofs.LoopSteps.{returns_value}
-use Rattle.rhai_eval_core.proofs.Chain.{flat_fails}
+use Rattle.rhai_eval_steps.proofs.LoopSteps.{breaks_unit, breaks_value, leaves, leaving, leaving_flattens, leaving_passes, returns_unit}
+use Rattle.rhai_eval_steps.proofs.LoopSteps.{returns_value}
+use Rattle.rhai_eval_steps.proofs.Chain.{flat_fails}
 use Rattle.rhai_eval_core.proofs.evaluator.Evaluator.+eval.Goals as goal
 
 pub run_break-returns-in-None-clause-runs : goal.run_break-returns-in-None-clause-runs

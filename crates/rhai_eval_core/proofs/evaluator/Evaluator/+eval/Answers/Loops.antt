@@ -8,16 +8,16 @@ use Rattle.rhai_machine.specs.language.Statements.{has_option}
 use Rattle.rhai_laws.proofs.KeptLaws.{counted}
 use Rattle.rhai_context.specs.Ends.{came}
 use Rattle.rhai_steps.proofs.Agreeing.{brings, leads_then, put_back, stays, still}
-use Rattle.rhai_eval_core.specs.Agreement.{ChangesNames, KeepsNames, RestoresNames, SuitsNames}
-use Rattle.rhai_eval_core.proofs.FormNames.{block_suits}
+use Rattle.rhai_eval_steps.specs.Agreement.{ChangesNames, KeepsNames, RestoresNames, SuitsNames}
+use Rattle.rhai_eval_steps.proofs.FormNames.{block_suits}
 use Rattle.rhai_eval_core.specs.States.{under}
 use Rattle.rhai_steps.specs.declared.loops.BodyEnd.TheVariants.{Continue, Break}
 use Rattle.rhai_operands.specs.Tests.{Tests}
-use Rattle.rhai_eval_core.proofs.Conditions.{do_tested}
-use Rattle.rhai_eval_core.proofs.LoopSteps.{while_ends, do_leads, while_asks, endless_enters, endless_charged, endless_refused, on_end}
-use Rattle.rhai_eval_core.proofs.LoopSteps.{stays_full, turn_ended}
-use Rattle.rhai_eval_core.proofs.Turns.{body_charges, left_charges}
-use Rattle.rhai_eval_core.proofs.Chain.{on_ok}
+use Rattle.rhai_eval_steps.proofs.Conditions.{do_tested}
+use Rattle.rhai_eval_steps.proofs.LoopSteps.{while_ends, do_leads, while_asks, endless_enters, endless_charged, endless_refused, on_end}
+use Rattle.rhai_eval_steps.proofs.LoopSteps.{stays_full, turn_ended}
+use Rattle.rhai_eval_steps.proofs.Turns.{body_charges, left_charges}
+use Rattle.rhai_eval_steps.proofs.Chain.{on_ok}
 use Rattle.rhai_eval_core.proofs.evaluator.Evaluator.+eval.Goals as goal
 
 pub run_while-turns-init : goal.run_while-turns-init

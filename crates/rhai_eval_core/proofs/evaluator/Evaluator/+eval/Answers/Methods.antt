@@ -1,7 +1,7 @@
 use Rattle.std.proofs.Common.{ap, false, arith}
 use Rattle.std.specs.Option.{option_copied, option_map}
 use Rattle.rhai_tree.specs.declared.expr.Expr.{out-Expr}
-use Rattle.rhai_eval_core.specs.Agreement.{ChangesNames, KeepsNames, RestoresNames, SuitsNames}
+use Rattle.rhai_eval_steps.specs.Agreement.{ChangesNames, KeepsNames, RestoresNames, SuitsNames}
 use Rattle.rhai_eval_core.specs.States.{under}
 use Rattle.rhai_steps.specs.States.{state_of}
 use Rattle.rhai_chains.specs.Chains.{chain_at, link_seen}

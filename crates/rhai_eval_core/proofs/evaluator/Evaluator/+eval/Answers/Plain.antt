@@ -10,18 +10,19 @@ use Rattle.rhai_bodies.specs.Opening.{entered_global}
 use Rattle.rhai_context.specs.declared.Context.{Context}
 use Rattle.rhai_context.specs.Ends.{came, error_in}
 use Rattle.rhai_laws.proofs.KeptLaws.{counted}
-use Rattle.rhai_eval_core.specs.Agreement.{ChangesNames, KeepsNames, RestoresNames, SuitsNames, sight_in}
-use Rattle.rhai_eval_core.specs.Bodies.{entered}
-use Rattle.rhai_eval_core.specs.States.{names, under}
-use Rattle.rhai_eval_core.proofs.BodyLemmas.{early_ends, passed_charged, was_charged, whole_ends}
-use Rattle.rhai_eval_core.proofs.Chain.{drop_all, drop_item}
-use Rattle.rhai_eval_core.proofs.NameLemmas.{part_resolves, suits_now}
+use Rattle.rhai_eval_steps.specs.Agreement.{ChangesNames, KeepsNames, RestoresNames, SuitsNames, sight_in}
+use Rattle.rhai_eval_steps.specs.Bodies.{entered}
+use Rattle.rhai_eval_steps.specs.States.{names}
+use Rattle.rhai_eval_core.specs.States.{under}
+use Rattle.rhai_eval_steps.proofs.BodyLemmas.{early_ends, passed_charged, was_charged, whole_ends}
+use Rattle.rhai_eval_steps.proofs.Chain.{drop_all, drop_item}
+use Rattle.rhai_eval_steps.proofs.NameLemmas.{part_resolves, suits_now}
 use Rattle.rhai_steps.proofs.Agreeing.{brings, leads_then, stays, still}
-use Rattle.rhai_eval_core.proofs.PlainLemmas.{filling_begins, filling_ends, filling_fails, filling_grows, filling_stops, has_room}
-use Rattle.rhai_eval_core.proofs.PlainLemmas.{entered_resolves, plain_ends, plain_fails, plain_stops}
+use Rattle.rhai_eval_steps.proofs.PlainLemmas.{filling_begins, filling_ends, filling_fails, filling_grows, filling_stops, has_room}
+use Rattle.rhai_eval_steps.proofs.PlainLemmas.{entered_resolves, plain_ends, plain_fails, plain_stops}
 use Rattle.rhai_eval_core.proofs.evaluator.Evaluator.+eval.Goals as goal
 use Rattle.rhai_steps.specs.Agreement.{imports_in}
-use Rattle.rhai_eval_core.proofs.SightLemmas.{sight_closed}
+use Rattle.rhai_eval_steps.proofs.SightLemmas.{sight_closed}
 use Rattle.rhai_bodies.specs.declared.opening.CallExit.{CallExit}
 
 -- a call whose function is known

@@ -10,11 +10,12 @@ use Rattle.rhai_callees.specs.Behind.{last_of, purpose_of}
 use Rattle.rhai_callees.proofs.Behind.{before_leads, behind_begins, behind_goes, behind_spent, good_behind}
 use Rattle.rhai_calls.specs.Called.{with_args}
 use Rattle.rhai_context.specs.Ends.{error_in}
-use Rattle.rhai_eval_core.specs.Agreement.{ChangesNames, KeepsNames, RestoresNames, SuitsNames}
-use Rattle.rhai_eval_core.specs.Calls.{Collects, in_parts}
+use Rattle.rhai_eval_steps.specs.Agreement.{ChangesNames, KeepsNames, RestoresNames, SuitsNames}
+use Rattle.rhai_eval_steps.specs.Calls.{Collects, in_parts}
 use Rattle.rhai_steps.proofs.Agreeing.{brings, leads_then, same, stays, still}
-use Rattle.rhai_eval_core.specs.States.{state_in, under}
-use Rattle.rhai_eval_core.proofs.QualifiedLemmas.{flattened_behind}
+use Rattle.rhai_eval_steps.specs.States.{state_in}
+use Rattle.rhai_eval_core.specs.States.{under}
+use Rattle.rhai_eval_steps.proofs.QualifiedLemmas.{flattened_behind}
 use Rattle.rhai_eval_core.proofs.evaluator.Evaluator.+eval.Goals as goal
 
 -- a call behind a path

@@ -10,7 +10,7 @@ use Rattle.rhai_steps.proofs.Agreeing.{stays}
 use Rattle.rhai_chains.specs.Chains.{chain_at}
 use Rattle.rhai_steps.specs.OnFocus.{lending}
 use Rattle.rhai_context.specs.Ends.{came, came_changed, error_in}
-use Rattle.rhai_eval_core.specs.Agreement.{ChangesNames, KeepsNames, RestoresNames, SuitsNames}
+use Rattle.rhai_eval_steps.specs.Agreement.{ChangesNames, KeepsNames, RestoresNames, SuitsNames}
 use Rattle.rhai_eval_core.proofs.Untold.{without_came}
 use Rattle.rhai_eval_core.specs.States.{under}
 use Rattle.rhai_eval_core.proofs.RootLemmas.{begins, lent_back, variable_refused, variable_runs, this_begins, this_enters, this_refused}

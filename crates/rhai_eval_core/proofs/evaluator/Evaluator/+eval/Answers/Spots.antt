@@ -8,7 +8,7 @@ use Rattle.rhai_machine.specs.language.Chains.{method_of, part_core, way_back}
 use Rattle.rhai_machine.specs.language.Frames.{PartMethod}
 use Rattle.rhai_machine.specs.language.Links.{first_position, link_of}
 use Rattle.rhai_machine.specs.language.Members.{focused_on}
-use Rattle.rhai_eval_core.specs.Agreement.{ChangesNames, KeepsNames, RestoresNames, SuitsNames}
+use Rattle.rhai_eval_steps.specs.Agreement.{ChangesNames, KeepsNames, RestoresNames, SuitsNames}
 use Rattle.rhai_eval_core.specs.States.{under}
 use Rattle.rhai_machine.specs.language.Values.{unit_value}
 use Rattle.rhai_steps.specs.States.{state_of}

@@ -17,30 +17,31 @@ use Rattle.rhai_machine.specs.language.Runs.{Goes}
 use Rattle.rhai_laws.proofs.KeptLaws.{names_begin, names_stay}
 use Rattle.rhai_steps.proofs.Pieces.{told}
 use Rattle.rhai_context.specs.Ends.{came, error_in}
-use Rattle.rhai_eval_core.specs.Agreement.{ChangesNames, KeepsNames, RestoresNames, SuitsNames}
-use Rattle.rhai_eval_core.specs.Memory.{asks_stmt}
-use Rattle.rhai_eval_core.specs.States.{names, state_in, under}
+use Rattle.rhai_eval_steps.specs.Agreement.{ChangesNames, KeepsNames, RestoresNames, SuitsNames}
+use Rattle.rhai_eval_steps.specs.Memory.{asks_stmt}
+use Rattle.rhai_eval_steps.specs.States.{names, state_in}
+use Rattle.rhai_eval_core.specs.States.{under}
 use Rattle.rhai_operands.specs.Tests.{Tests}
 use Rattle.rhai_operands.proofs.Names.{both, good_target}
 use Rattle.rhai_assign_stmt.proofs.Alone.{sides_resolve}
 use Rattle.rhai_assign_stmt.proofs.Prepared.{begins_assignment}
 use Rattle.rhai_tree.proofs.Links.{few_in_target}
-use Rattle.rhai_eval_core.proofs.Conditions.{chooses}
-use Rattle.rhai_eval_core.proofs.ImportSteps.{begins_path, imports, not_imported}
-use Rattle.rhai_eval_core.proofs.NameLemmas.{any_item, at_known, broken_suits, declared_resolves, first_suits, names_restored, rest_suits}
-use Rattle.rhai_eval_core.proofs.NameLemmas.{returned_suits, stmt_declares}
-use Rattle.rhai_eval_core.proofs.NameLemmas.{stmt_keeps, stmt_suits, var_good, var_value, stmt_imports}
-use Rattle.rhai_eval_core.proofs.FormNames.{block_suits, catches, chosen_suits}
+use Rattle.rhai_eval_steps.proofs.Conditions.{chooses}
+use Rattle.rhai_eval_steps.proofs.ImportSteps.{begins_path, imports, not_imported}
+use Rattle.rhai_eval_steps.proofs.NameLemmas.{any_item, at_known, broken_suits, declared_resolves, first_suits, names_restored, rest_suits}
+use Rattle.rhai_eval_steps.proofs.NameLemmas.{returned_suits, stmt_declares}
+use Rattle.rhai_eval_steps.proofs.NameLemmas.{stmt_keeps, stmt_suits, var_good, var_value, stmt_imports}
+use Rattle.rhai_eval_steps.proofs.FormNames.{block_suits, catches, chosen_suits}
 use Rattle.rhai_steps.proofs.Agreeing.{brings, leads_by, leads_then, put_back, same, stays, still, changed, imported}
-use Rattle.rhai_eval_core.proofs.Chain.{flat_fails, drop_item, drop_all, begins_stmt, opens_stmt, refuses_stmt, restores, enters_empty}
-use Rattle.rhai_eval_core.proofs.Chain.{enters_plain, enters_restoring, has_some, is_empty_list, is_not_empty, left_state, not_declared}
-use Rattle.rhai_eval_core.proofs.Chain.{begins_value}
-use Rattle.rhai_eval_core.proofs.ThisSteps.{this_begins, this_unbound}
-use Rattle.rhai_eval_core.proofs.VariableSteps.{declared}
+use Rattle.rhai_eval_steps.proofs.Chain.{flat_fails, drop_item, drop_all, begins_stmt, opens_stmt, refuses_stmt, restores, enters_empty}
+use Rattle.rhai_eval_steps.proofs.Chain.{enters_plain, enters_restoring, has_some, is_empty_list, is_not_empty, left_state, not_declared}
+use Rattle.rhai_eval_steps.proofs.Chain.{begins_value}
+use Rattle.rhai_eval_steps.proofs.ThisSteps.{this_begins, this_unbound}
+use Rattle.rhai_eval_steps.proofs.VariableSteps.{declared}
 use Rattle.rhai_eval_core.proofs.evaluator.Evaluator.+eval.Invariants.{last_of}
 use Rattle.rhai_eval_core.proofs.evaluator.Evaluator.+eval.Goals as goal
 use Rattle.rhai_tree.specs.Names.{naming, with_import}
-use Rattle.rhai_eval_core.proofs.SightLemmas.{imports_begin, sight_left}
+use Rattle.rhai_eval_steps.proofs.SightLemmas.{imports_begin, sight_left}
 
 pub run_stmt-returns-then-not-charge_stmt-clause-runs : goal.run_stmt-returns-then-not-charge_stmt-clause-runs
 run_stmt-returns-then-not-charge_stmt-clause-runs g t c =

@@ -9,14 +9,15 @@ use Rattle.rhai_machine.specs.language.Runs.{at, with_core, Goes}
 use Rattle.rhai_machine.specs.language.Language.{machine}
 use Rattle.rhai_machine.specs.language.Setting.{cut}
 use Rattle.rhai_steps.proofs.Agreeing.{brings, leads_then, still}
-use Rattle.rhai_eval_core.specs.Agreement.{ChangesNames, KeepsNames, RestoresNames, SuitsNames}
-use Rattle.rhai_eval_core.specs.States.{state_in, under}
-use Rattle.rhai_eval_core.proofs.CandidateLemmas.{candidate_runs, default_runs}
-use Rattle.rhai_eval_core.proofs.SwitchSteps.{default_not, default_on, tested_not, tested_on, value_on, written_on}
+use Rattle.rhai_eval_steps.specs.Agreement.{ChangesNames, KeepsNames, RestoresNames, SuitsNames}
+use Rattle.rhai_eval_steps.specs.States.{state_in}
+use Rattle.rhai_eval_core.specs.States.{under}
+use Rattle.rhai_eval_steps.proofs.CandidateLemmas.{candidate_runs, default_runs}
+use Rattle.rhai_eval_steps.proofs.SwitchSteps.{default_not, default_on, tested_not, tested_on, value_on, written_on}
 use Rattle.rhai_eval_core.proofs.evaluator.Evaluator.+eval.Goals as goal
 use Rattle.rhai_eval_core.proofs.evaluator.Evaluator.+eval.Goals.{run_switch-in-Some-written_truth}
 use Rattle.rhai_eval_core.proofs.evaluator.Evaluator.+eval.Goals.{run_switch-in-None+in-Some-run_condition}
-use Rattle.rhai_eval_core.proofs.Chain.{flat_fails}
+use Rattle.rhai_eval_steps.proofs.Chain.{flat_fails}
 
 is_none : {A : Type 0} (o : Option A) → ((x : A) → o ≡ Some x → ⊥) → o ≡ None
 is_none None not = refl

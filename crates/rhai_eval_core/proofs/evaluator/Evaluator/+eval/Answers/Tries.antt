@@ -11,11 +11,11 @@ use Rattle.rhai_laws.proofs.KeptLaws.{counted, names_stay}
 use Rattle.rhai_steps.specs.States.{holding}
 use Rattle.rhai_context.specs.Ends.{came}
 use Rattle.rhai_steps.proofs.Agreeing.{leads_then, put_back, stays, still}
-use Rattle.rhai_eval_core.specs.Agreement.{ChangesNames, KeepsNames, RestoresNames, SuitsNames, sight_in}
+use Rattle.rhai_eval_steps.specs.Agreement.{ChangesNames, KeepsNames, RestoresNames, SuitsNames, sight_in}
 use Rattle.rhai_eval_core.specs.States.{under}
-use Rattle.rhai_eval_core.proofs.NameLemmas.{names_restored}
-use Rattle.rhai_eval_core.proofs.FormNames.{block_suits, branch_begins, branch_suits, catches, nothing_bound}
-use Rattle.rhai_eval_core.proofs.TrySteps.{below, branch_left, branch_not, branch_on, scope_back, try_catches, try_done, try_passes}
+use Rattle.rhai_eval_steps.proofs.NameLemmas.{names_restored}
+use Rattle.rhai_eval_steps.proofs.FormNames.{block_suits, branch_begins, branch_suits, catches, nothing_bound}
+use Rattle.rhai_eval_steps.proofs.TrySteps.{below, branch_left, branch_not, branch_on, scope_back, try_catches, try_done, try_passes}
 use Rattle.rhai_eval_core.proofs.evaluator.Evaluator.+eval.Goals as goal
 
 pub run_try-returns-then-run_stmt_block-clause-runs : goal.run_try-returns-then-run_stmt_block-clause-runs

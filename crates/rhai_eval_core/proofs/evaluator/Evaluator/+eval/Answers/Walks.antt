@@ -15,16 +15,16 @@ use Rattle.rhai_walks.specs.Loops.{loop_in}
 use Rattle.rhai_walks.specs.declared.parts.ForParts.{ForParts}
 use Rattle.rhai_context.specs.Ends.{came}
 use Rattle.rhai_steps.proofs.Agreeing.{behind, leads_by, leads_then, put_back, same, changed}
-use Rattle.rhai_eval_core.specs.Agreement.{ChangesNames, KeepsNames, RestoresNames, SuitsNames}
+use Rattle.rhai_eval_steps.specs.Agreement.{ChangesNames, KeepsNames, RestoresNames, SuitsNames}
 use Rattle.rhai_eval_core.specs.States.{under}
-use Rattle.rhai_eval_core.proofs.Turns.{body_charges}
-use Rattle.rhai_eval_core.proofs.LoopSteps.{stays_full, turn_ended}
-use Rattle.rhai_eval_core.proofs.NameLemmas.{back_over}
-use Rattle.rhai_eval_core.proofs.FormNames.{block_suits, loop_left, loop_names, turn_count}
-use Rattle.rhai_eval_core.proofs.ForSteps.{body_ends, empty_charged, empty_refused, has_none, has_room, leaves_scope, starts}
-use Rattle.rhai_eval_core.proofs.ForSteps.{if_well, on_turn, starts_not, turns_end}
+use Rattle.rhai_eval_steps.proofs.Turns.{body_charges}
+use Rattle.rhai_eval_steps.proofs.LoopSteps.{stays_full, turn_ended}
+use Rattle.rhai_eval_steps.proofs.NameLemmas.{back_over}
+use Rattle.rhai_eval_steps.proofs.FormNames.{block_suits, loop_left, loop_names, turn_count}
+use Rattle.rhai_eval_steps.proofs.ForSteps.{body_ends, empty_charged, empty_refused, has_none, has_room, leaves_scope, starts}
+use Rattle.rhai_eval_steps.proofs.ForSteps.{if_well, on_turn, starts_not, turns_end}
 use Rattle.rhai_eval_core.proofs.evaluator.Evaluator.+eval.Goals as goal
-use Rattle.rhai_eval_core.proofs.Chain.{flat_fails}
+use Rattle.rhai_eval_steps.proofs.Chain.{flat_fails}
 use Rattle.rhai_tree.specs.Names.{naming}
 
 pub run_for-returns-then-not-has_room-clause-runs : goal.run_for-returns-then-not-has_room-clause-runs

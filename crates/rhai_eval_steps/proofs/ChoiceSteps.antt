@@ -21,7 +21,7 @@ use Rattle.rhai_machine.specs.language.Language.{machine}
 use Rattle.rhai_operands.specs.Tests.{Tests}
 use Rattle.rhai_steps.specs.Values.{is_unit_union, unit_seen}
 use Rattle.rhai_errors.specs.Errors.{is_out_of_memory}
-use Rattle.rhai_eval_core.proofs.Chain.{fails_on}
+use Rattle.rhai_eval_steps.proofs.Chain.{fails_on}
 use Rattle.rhai_steps.proofs.Pieces.{step_by}
 
 module _ {H : Type 0} (v : Dynamic H) (parts : List Expr) (k : List (Frame H)) (l : Local H) where

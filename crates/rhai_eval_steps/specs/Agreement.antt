@@ -6,7 +6,7 @@ use Rattle.rhai_tree.specs.Layers.{StmtLayer}
 use Rattle.rhai_tree.specs.Names.{Frame, Name}
 use Rattle.rhai_steps.specs.Agreement.{AgreesAt, Leads, Restores, Sight, Test, framed, sight_of}
 use Rattle.rhai_context.specs.declared.Context.{Context}
-use Rattle.rhai_eval_core.specs.States.{names}
+use Rattle.rhai_eval_steps.specs.States.{names}
 
 -- behind a statement that declares a variable its name is there, where its value added none
 abbrev pub Declared : StmtLayer → (old new : List Name) → Type 0

@@ -23,7 +23,7 @@ use Rattle.rhai_steps.proofs.Pieces.{step_by}
 use Rattle.rhai_steps.specs.Loops.{after_test, after_turn}
 use Rattle.rhai_operands.specs.Tests.{Tests, asks_truth, told_truth}
 use Rattle.rhai_operands.proofs.Conditions.{passes_on, truth_passes}
-use Rattle.rhai_eval_core.proofs.Chain.{fails_on}
+use Rattle.rhai_eval_steps.proofs.Chain.{fails_on}
 
 module _ {S H : Type 0} (rules : Rules S H) where
   module _ (v : Dynamic H) (pos : Position) (k : List (Frame H)) (l : State S H) where

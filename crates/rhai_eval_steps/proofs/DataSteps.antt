@@ -16,7 +16,7 @@ use Rattle.rhai_machine.specs.language.Data.{items_core, entries_core, with_item
 use Rattle.rhai_machine.specs.language.Runs.{at, with_core}
 use Rattle.rhai_machine.specs.language.Language.{machine}
 use Rattle.rhai_steps.proofs.Pieces.{step_by}
-use Rattle.rhai_eval_core.proofs.Chain.{fails_on}
+use Rattle.rhai_eval_steps.proofs.Chain.{fails_on}
 
 module _ {S H : Type 0} (rules : Rules S H) (made : List (Dynamic H)) (v : Dynamic H) (pos : Position) (rest : List Expr)
     (k : List (Frame H)) (l : State S H) where

@@ -9,7 +9,7 @@ use Rattle.rhai_state.specs.declared.limits.Limits.{Limits}
 use Rattle.rhai_machine.specs.machine.Machine.{below}
 use Rattle.rhai_machine.specs.language.Bodies.{statements_of}
 use Rattle.rhai_bodies.specs.Opening.{enterable, entry, is_deep, is_full}
-use Rattle.rhai_eval_core.specs.Bodies.{has_statements, is_entered}
+use Rattle.rhai_eval_steps.specs.Bodies.{has_statements, is_entered}
 
 by_fault : {H : Type 0} (room deep full some : Bool) (pos : Position) (e : EvalAltResult H) → enterable deep full pos ≡ Err e →
     (room && (not deep && (not full && some))) ≡ false

@@ -12,7 +12,7 @@ use Rattle.rhai_tree.specs.Forms.{any_of}
 use Rattle.rhai_tree.specs.Layers.{ExprLayer}
 use Rattle.rhai_machine.specs.language.Runs.{at}
 use Rattle.rhai_operands.specs.Reading.{asks_read}
-use Rattle.rhai_eval_core.specs.Memory.{Need, asks_expr, asks_stmt, expr_step, stmt_step}
+use Rattle.rhai_eval_steps.specs.Memory.{Need, asks_expr, asks_stmt, expr_step, stmt_step}
 
 asks_level : (a : Expr → Need) (b : Stmt → Bool) (c : ConditionalExpr → Unit {0}) (d : FnCallExpr → Unit {0}) (f : MapEntry → Unit {0})
     (g : StmtBlock → Bool) (o : ExprLayer) →

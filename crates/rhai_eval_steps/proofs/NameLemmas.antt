@@ -31,9 +31,9 @@ use Rattle.rhai_call_forms.specs.Leading.{all_args, this_lent}
 use Rattle.rhai_tree.specs.declared.expr.Ident.{Ident}
 use Rattle.rhai_operands.proofs.Names.{both}
 use Rattle.rhai_laws.specs.Kept.{declares}
-use Rattle.rhai_eval_core.specs.Agreement.{Declared}
-use Rattle.rhai_eval_core.proofs.Chain.{drop_item}
-use Rattle.rhai_eval_core.proofs.SightLemmas.{names_back}
+use Rattle.rhai_eval_steps.specs.Agreement.{Declared}
+use Rattle.rhai_eval_steps.proofs.Chain.{drop_item}
+use Rattle.rhai_eval_steps.proofs.SightLemmas.{names_back}
 
 module _ {H : Type 0} where
   -- a list that is left has the names that it began with

@@ -27,7 +27,7 @@ use Rattle.rhai_machine.specs.language.Links.{dot_link_with, first_in, index_lin
 use Rattle.rhai_chains.specs.Chains.{at_end, goes_on, MayEnd}
 use Rattle.rhai_tree.specs.Links.{left_by, links}
 use Rattle.rhai_chains.proofs.LinkLemmas.{fewer_behind}
-use Rattle.rhai_eval_core.specs.Chains.{MayWalk, StartsFrom, behind_resolves}
+use Rattle.rhai_eval_steps.specs.Chains.{MayWalk, StartsFrom, behind_resolves}
 
 -- what is seen of one level
 abbrev level : ExprLayer → walk.Seen sound

@@ -24,7 +24,7 @@ use Rattle.rhai_steps.proofs.Agreeing.{brings}
 use Rattle.rhai_machine.specs.language.Turns.{ForLoop}
 use Rattle.rhai_machine.specs.language.Walks.{counters, loop_entries}
 use Rattle.rhai_catches.specs.Branches.{bound}
-use Rattle.rhai_eval_core.proofs.NameLemmas.{names_restored}
+use Rattle.rhai_eval_steps.proofs.NameLemmas.{names_restored}
 
 -- a block may run where its statements may
 pub block_value : (block : StmtBlock) (frame : Frame) →

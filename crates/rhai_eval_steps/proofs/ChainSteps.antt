@@ -38,8 +38,8 @@ use Rattle.rhai_steps.proofs.Pieces.{or_runs_out, step_by}
 use Rattle.rhai_chains.specs.Chains.{BehindWalks, Walks}
 use Rattle.rhai_chains.specs.Ready.{alone, at_once}
 use Rattle.rhai_chains.proofs.LinkLemmas.{walks_behind}
-use Rattle.rhai_eval_core.specs.Chains.{HasAsked, MayWalk, StartsFrom}
-use Rattle.rhai_eval_core.proofs.ChainLemmas.{IsNoName}
+use Rattle.rhai_eval_steps.specs.Chains.{HasAsked, MayWalk, StartsFrom}
+use Rattle.rhai_eval_steps.proofs.ChainLemmas.{IsNoName}
 
 -- what is none of the things that might stand there is nothing
 pub nothing_there : {A : Type 0} (o : Option A) → ((x : A) → o ≡ Some x → ⊥) → o ≡ None

@@ -46,8 +46,8 @@ use Rattle.rhai_call_forms.specs.Pointers.{native_number_of}
 use Rattle.rhai_callees.specs.declared.pointers.PointerUse.{PointerUse}
 use Rattle.rhai_callees.specs.declared.pointers.PointerUse.TheVariants as code
 use Rattle.rhai_callees.specs.Pointers.{purpose_of}
-use Rattle.rhai_eval_core.specs.Calls.{called, pointer_called}
-use Rattle.rhai_eval_core.proofs.Chain.{fails_on}
+use Rattle.rhai_eval_steps.specs.Calls.{called, pointer_called}
+use Rattle.rhai_eval_steps.proofs.Chain.{fails_on}
 use Rattle.rhai_machine.specs.language.Arguments.{pointer_of as pointer_named_by}
 
 -- a first argument is one more than the others

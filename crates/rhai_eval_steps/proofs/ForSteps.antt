@@ -30,7 +30,7 @@ use Rattle.rhai_steps.specs.Loops.{after_body, after_turn, turn_in}
 use Rattle.rhai_steps.specs.States.{state_of}
 use Rattle.rhai_steps.proofs.Pieces.{step_by}
 use Rattle.rhai_context.specs.Ends.{came_turn}
-use Rattle.rhai_eval_core.proofs.Chain.{fails_on}
+use Rattle.rhai_eval_steps.proofs.Chain.{fails_on}
 
 module _ {S H : Type 0} (rules : Rules S H) (loop : ForLoop) (k : List (Frame H)) where
   -- ---- the start

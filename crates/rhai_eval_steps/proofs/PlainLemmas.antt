@@ -51,11 +51,11 @@ use Rattle.rhai_plain.specs.Callees.{IsPlain}
 use Rattle.rhai_plain.specs.Filling.{HasFilled, filled}
 use Rattle.rhai_plain.proofs.PlainSteps.{filled_by_none, filled_count, filled_whole, has_filled, parameters_race}
 use Rattle.rhai_plain.proofs.PlainSteps.{plain_enters, plain_moves, plain_named, plain_races}
-use Rattle.rhai_eval_core.specs.Bodies.{behind_call, entered}
-use Rattle.rhai_eval_core.specs.Calls.{Collects}
-use Rattle.rhai_eval_core.specs.States.{state_in}
-use Rattle.rhai_eval_core.proofs.BodyLemmas.{body_resolves, fresh_ends}
-use Rattle.rhai_eval_core.proofs.CallSteps.{begins_call, taken_fails, taken_on}
+use Rattle.rhai_eval_steps.specs.Bodies.{behind_call, entered}
+use Rattle.rhai_eval_steps.specs.Calls.{Collects}
+use Rattle.rhai_eval_steps.specs.States.{state_in}
+use Rattle.rhai_eval_steps.proofs.BodyLemmas.{body_resolves, fresh_ends}
+use Rattle.rhai_eval_steps.proofs.CallSteps.{begins_call, taken_fails, taken_on}
 use Rattle.rhai_tree.specs.Names.{Name}
 
 module _ {S H : Type 0} (rules : Rules S H) where

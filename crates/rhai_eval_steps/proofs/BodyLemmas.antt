@@ -44,13 +44,13 @@ use Rattle.rhai_bodies.proofs.Calls.{enters, passes, refuses}
 use Rattle.rhai_context.specs.declared.Context.{Context}
 use Rattle.rhai_context.specs.Ends.{came, error_in}
 use Rattle.rhai_laws.proofs.Keeping.{few_parameters}
-use Rattle.rhai_eval_core.specs.Bodies.{behind_call, entered, this_and_focus_again}
+use Rattle.rhai_eval_steps.specs.Bodies.{behind_call, entered, this_and_focus_again}
 use Rattle.rhai_functions.specs.declared.function.Function.{Function}
 use Rattle.rhai_machine.specs.language.Calls.{entry_of}
 use Rattle.rhai_machine.specs.language.Language.{machine}
-use Rattle.rhai_eval_core.specs.States.{state_in}
-use Rattle.rhai_eval_core.proofs.CallSteps.{charged_on, refused_on}
-use Rattle.rhai_eval_core.proofs.FormNames.{block_value}
+use Rattle.rhai_eval_steps.specs.States.{state_in}
+use Rattle.rhai_eval_steps.proofs.CallSteps.{charged_on, refused_on}
+use Rattle.rhai_eval_steps.proofs.FormNames.{block_value}
 
 -- where a body may be entered neither calls are too deep nor is the scope too full
 pub not_deep : {H : Type 0} (deep full : Bool) (pos : Position) → enterable {H = H} deep full pos ≡ Ok tt → deep ≡ false

@@ -1,0 +1,6 @@
+pub mod Agreement
+pub mod Bodies
+pub mod Calls
+pub mod Chains
+pub mod Memory
+pub mod States
