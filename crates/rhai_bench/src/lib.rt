@@ -9,5 +9,5 @@ pub mod script;
 pub mod searches;
 pub mod timing;
 
-/// The evaluator over the natives of `Counting`, for what is proved beside it.
+/// The evaluator over the bench's tables, for what is proved beside it.
 pub struct Bench;

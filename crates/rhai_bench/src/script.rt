@@ -17,7 +17,6 @@ use rhai_eval::cells::CellStore;
 use rhai_eval::check::{CheckedTree, check_tree};
 use rhai_eval::engine::Engine;
 use rhai_eval::state::{Caches, GlobalRuntimeState, ModuleTable};
-use rhai_natives::Natives;
 use rhai_rows::entry::{Entry, Listener};
 use rhai_rows::modules::{add_library, global_modules, global_sub_modules, modules_to_import};
 use rhai_rows::outcome::{Ending, Outcome};
@@ -25,7 +24,7 @@ use rhai_rows::runner::Runner;
 use rhai_rows::sample::Script;
 use rhai_rows::settings::{Settings, Way};
 use rhai_tables::host::Pair;
-use rhai_tables::tables::counting::Counting;
+use rhai_tables::tables::bench::BenchTable;
 use std::alloc::{AllocError, Global};
 use std::mem::replace;
 
@@ -100,7 +99,7 @@ impl Runner for Bench {
         settings: &Settings,
         global: &mut GlobalRuntimeState<Pair>,
         caches: &mut Caches<Pair>,
-        table: &mut Natives<Counting>,
+        table: &mut BenchTable,
         scope: &mut Scope<Pair>,
         tree: &CheckedTree,
     ) -> Result<Result<Dynamic<Pair>, EvalAltResult<Pair>>, AllocError> {
@@ -117,35 +116,38 @@ impl Runner for Bench {
     }
 }
 
-/// Checks a script and runs it in one of the ways, in an empty scope. It has the natives of `Counting`,
+/// Checks a script and runs it in one of the ways, in an empty scope. It has the natives that its settings say,
 /// and its functions are one library of the state.
 pub fn run(alloc: Global, script: Script, way: Way) -> Result<Outcome, AllocError>
-    ensures limit { IfOk result (λ o. o.num_operations ≤ limit_of script.settings.limits.max_operations) }
+    ensures limit { script.settings.start.num_operations ≤ limit_of script.settings.limits.max_operations →
+        IfOk result (λ o. o.num_operations ≤ limit_of script.settings.limits.max_operations) }
     ensures variables { IfOk result (λ o. length (names_in o.scope)
         ≤ script.settings.limits.max_variables) }
     ensures refused { IfOk result (λ o. IfRefused o.ending
         (λ f. f ≢ NoMemory → ¬ IsFormedTree script.statements script.functions)) }
     ensures not_run { IfOk result (λ o. IfRefused o.ending
-        (λ _. (o.num_operations ≡ 0) × (entries_of o.scope ≡ []))) }
+        (λ _. (o.num_operations ≡ script.settings.start.num_operations) × (entries_of o.scope ≡ []))) }
 {
     run_above(alloc, script, way, Scope::new(alloc))
 }
 
-/// Checks a script and runs it in one of the ways, above the variables of a scope. It has the natives
-/// of `Counting`.
+/// Checks a script and runs it in one of the ways, above the variables of a scope. It has the natives that its
+/// settings say.
 pub fn run_above(
     alloc: Global,
     script: Script,
     way: Way,
     scope: Scope<Pair>,
 ) -> Result<Outcome, AllocError>
-    ensures limit { IfOk result (λ o. o.num_operations ≤ limit_of script.settings.limits.max_operations) }
+    ensures limit { script.settings.start.num_operations ≤ limit_of script.settings.limits.max_operations →
+        IfOk result (λ o. o.num_operations ≤ limit_of script.settings.limits.max_operations) }
     ensures variables { IfOk result (λ o. length (names_in scope) ≤ script.settings.limits.max_variables →
         length (names_in o.scope) ≤ script.settings.limits.max_variables) }
     ensures refused { IfOk result (λ o. IfRefused o.ending
         (λ f. f ≢ NoMemory → ¬ IsFormedTree script.statements script.functions)) }
     ensures not_run { IfOk result (λ o. IfRefused o.ending
-        (λ _. (o.num_operations ≡ 0) × (entries_of o.scope ≡ entries_of scope))) }
+        (λ _. (o.num_operations ≡ script.settings.start.num_operations)
+        × (entries_of o.scope ≡ entries_of scope))) }
 {
     let Script {
         statements,
@@ -155,7 +157,8 @@ pub fn run_above(
     let mut global = GlobalRuntimeState::new(alloc)?;
     global.always_search_scope = way.always_search_scope;
     let mut caches = way.caches(alloc);
-    let mut table = Counting::table(alloc);
+    settings.start.set(&mut global)?;
+    let mut table = BenchTable::new(alloc, settings.has_odd_natives);
     let mut scope = scope;
     let ending = match check_tree(alloc, statements, functions) {
         Err(fault) => Ending::Refused(fault),

@@ -8,10 +8,9 @@ use rhai_eval_base::base::{CellId, Dynamic, Items, Scope, Union};
 use rhai_eval_base::cells::CellStore;
 use rhai_eval_base::check::CheckedFn;
 use rhai_eval_base::state::{Caches, GlobalRuntimeState};
-use rhai_natives::Natives;
 use rhai_rows::maker::Maker;
 use rhai_tables::host::Pair;
-use rhai_tables::tables::counting::Counting;
+use rhai_tables::tables::bench::BenchTable;
 use std::alloc::{AllocError, Global};
 use std::mem::replace;
 
@@ -19,7 +18,7 @@ use std::mem::replace;
 pub struct Caller {
     pub global: GlobalRuntimeState<Pair>,
     pub caches: Caches<Pair>,
-    pub table: Natives<Counting>,
+    pub table: BenchTable,
     /// The variable `x` with 1.
     pub scope: Scope<Pair>,
     /// An object, or a first argument: 1.
@@ -88,7 +87,7 @@ impl Caller {
         maker.finish(Caller {
             global,
             caches: Caches::new(alloc),
-            table: Counting::table(alloc),
+            table: BenchTable::new(alloc, false),
             scope,
             object: int(1),
             args,

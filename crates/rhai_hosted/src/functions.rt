@@ -1,6 +1,7 @@
 //! What a host's own calls of functions answer, and what they leave.
 
 use crate::caller::{Answer, Caller, Calls, Manner};
+use rhai_eval_base::base::CellId;
 use rhai_eval_base::check::{CheckedFn, CheckedTree, check_tree};
 use rhai_rows::maker::Maker;
 use rhai_rows::modules::add_library;
@@ -34,6 +35,9 @@ enum Form {
     MissingOnHandles(&'static str),
     /// The same of the name of a native.
     NativeOnHandles(&'static str),
+    /// A name, where object and arguments are handles of a cell that is held. What the error says is written, how many
+    /// operations are counted, and what the cell has.
+    OnHeldHandles(&'static str),
     /// A method on a `Target`.
     OnTarget(&'static str),
     /// Whether a function of a name without arguments is there.
@@ -126,6 +130,12 @@ const CALLS: &[Call] = &[
         Form::NativeOnHandles("none"),
     ),
     Call(
+        "a held argument",
+        Parts(EMPTY_FUNCTION),
+        1,
+        Form::OnHeldHandles("e"),
+    ),
+    Call(
         "on a target",
         Parts(METHOD_THAT_CHANGES_AN_ITEM),
         1,
@@ -207,6 +217,13 @@ fn tell_answer<C: Calls>(form: Form, caller: &mut Caller, def: &CheckedFn, sheet
                 sheet.write("; ");
                 sheet.show(&caller.global.num_operations);
             }
+            Form::OnHeldHandles(_) => {
+                tell_text(answer, sheet);
+                sheet.write("; ");
+                sheet.show(&caller.global.num_operations);
+                sheet.write("; ");
+                sheet.content(&caller.global.cells, 0);
+            }
             _ => {
                 tell_end(answer, sheet);
                 tell_left(caller, sheet);
@@ -232,6 +249,11 @@ fn answer_of<C: Calls>(
         Form::NativeOnHandles(name) => {
             caller.share(maker);
             Ok(C::call_native(alloc, caller, name))
+        }
+        Form::OnHeldHandles(name) => {
+            caller.share(maker);
+            drop(caller.global.cells.take(CellId { number: 0 }));
+            Ok(C::call_named(alloc, caller, name, Manner::VALUE))
         }
         Form::OnTarget(name) => Ok(C::call_method(alloc, caller, name)),
         Form::Seeks(name) => Ok(C::has_function(alloc, caller, name)),

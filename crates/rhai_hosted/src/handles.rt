@@ -16,7 +16,7 @@ use rhai_samples::parts::Part::{
 };
 use rhai_samples::parts::{Part, tree_of};
 use rhai_tables::host::Pair;
-use rhai_tables::tables::counting::Counting;
+use rhai_tables::tables::bench::BenchTable;
 use std::alloc::Global;
 use std::io;
 
@@ -264,7 +264,7 @@ fn tell_run<R: Runner>(
     let alloc = sheet.maker.allocator();
     let mut scope = scope_of(&mut sheet.maker, chain);
     let mut caches = way.caches(alloc);
-    let mut table = Counting::table(alloc);
+    let mut table = BenchTable::new(alloc, false);
     let answer = R::eval_tree(
         alloc,
         &Settings::USUAL,

@@ -17,4 +17,5 @@ pub mod sample;
 pub mod settings;
 pub mod sheet;
 pub mod signatures;
+pub mod start;
 pub mod values;

@@ -1,7 +1,9 @@
-//! The variables above which rows run, one of them a pointer whose function finds others than the script's.
+//! The variables above which rows and lists run, one of them a pointer whose function finds others than the script's, and
+//! one the handle of a cell.
 
 use crate::maker::Maker;
 use crate::modules::checked;
+use crate::start::first_handle;
 use rhai_eval_base::base::{Dynamic, FnPtrKind, Items, Scope, Shared};
 use rhai_eval_base::check::CheckedFn;
 use rhai_eval_base::script::EncapsulatedEnviron;
@@ -9,13 +11,16 @@ use rhai_samples::functions::{FUNCTION_G, FUNCTION_H};
 use rhai_tables::host::Pair;
 use std::alloc::{AllocError, Global};
 
-/// Makes the variables above which the scripts of a row run: of most rows none.
+/// Makes the variables above which the scripts of a row or a list run: of most none.
 pub fn scope_for(alloc: Global, row: &str) -> Result<Scope<Pair>, AllocError> {
     let mut maker = Maker::new(alloc);
     let mut scope = Scope::new(alloc);
     if row == "15" {
         let pointer = maker.pointer_with_a_library();
         maker.declare(&mut scope, "p", pointer);
+    }
+    if row == "held" {
+        maker.declare(&mut scope, "h", first_handle());
     }
     maker.finish(scope)
 }

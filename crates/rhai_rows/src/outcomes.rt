@@ -50,6 +50,7 @@ impl Sheet {
     /// Appends how a call ended, its charges, the variables, the cells if there are some, and `this`.
     fn all(&mut self, outcome: &Outcome) {
         self.end(&outcome.ending);
+        self.raced(&outcome.ending);
         self.write(", ");
         self.show(&outcome.num_operations);
         self.write(" charges; ");
@@ -60,6 +61,15 @@ impl Sheet {
         }
         self.write(" this = ");
         self.value(&outcome.this);
+    }
+
+    /// Appends the name that a data race has, where a call ended by one.
+    fn raced(&mut self, ending: &Ending) {
+        if let Ending::Error(EvalAltResult::ErrorDataRace(name, _)) = ending {
+            self.write(" of '");
+            self.write(name.get().as_str());
+            self.write("'");
+        }
     }
 
     /// Appends `nothing` where a list ended before a separator was due.

@@ -10,8 +10,10 @@ mod checked;
 mod choices;
 mod data;
 mod functions;
+mod limits;
 mod loops;
 mod modules;
+mod odd;
 mod operators;
 mod pairs;
 mod slices;
@@ -35,8 +37,10 @@ pub fn scripts_of(row: &str) -> Option<&'static [Sample]> {
         choices::scripts_of(row),
         data::scripts_of(row),
         functions::scripts_of(row),
+        limits::scripts_of(row),
         loops::scripts_of(row),
         modules::scripts_of(row),
+        odd::scripts_of(row),
         operators::scripts_of(row),
         pairs::scripts_of(row),
         slices::scripts_of(row),

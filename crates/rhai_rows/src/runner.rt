@@ -7,12 +7,11 @@ use crate::settings::{Settings, Way};
 use rhai_eval_base::base::{Dynamic, EvalAltResult, Scope};
 use rhai_eval_base::check::CheckedTree;
 use rhai_eval_base::state::{Caches, GlobalRuntimeState};
-use rhai_natives::Natives;
 use rhai_tables::host::Pair;
-use rhai_tables::tables::counting::Counting;
+use rhai_tables::tables::bench::BenchTable;
 use std::alloc::{AllocError, Global};
 
-/// Runs scripts over the natives of `Counting`.
+/// Runs scripts over the bench's tables.
 pub trait Runner {
     /// Checks a script and runs it in one of the ways, above the variables of a scope.
     fn run_above(
@@ -39,7 +38,7 @@ pub trait Runner {
         settings: &Settings,
         global: &mut GlobalRuntimeState<Pair>,
         caches: &mut Caches<Pair>,
-        table: &mut Natives<Counting>,
+        table: &mut BenchTable,
         scope: &mut Scope<Pair>,
         tree: &CheckedTree,
     ) -> Result<Result<Dynamic<Pair>, EvalAltResult<Pair>>, AllocError>;

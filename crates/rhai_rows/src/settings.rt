@@ -2,10 +2,11 @@
 
 ghost use Rattle.std.specs.Prelude.{◌≡◌};
 ghost use Rattle.rhai_state.specs.Caches.{depth_of, is_on};
-ghost use Rattle.rhai_rows.specs.Settings.{settings_of, usual, usual_limits, with_modules};
+ghost use Rattle.rhai_rows.specs.Settings.{settings_of, usual, usual_limits, with_modules, with_odd_natives};
 
+use crate::start::Start;
 use rhai_state::caches::Caches;
-use rhai_state::limits::Limits;
+use rhai_state::limits::{Limits, operation_limit};
 use rhai_tables::host::Pair;
 use std::alloc::Global;
 
@@ -21,6 +22,10 @@ pub struct Settings {
     pub has_modules: bool,
     /// Whether the engine has modules of its own.
     pub has_global_modules: bool,
+    /// Whether the natives are those of `Odd`.
+    pub has_odd_natives: bool,
+    /// What the state has before the run.
+    pub start: Start,
 }
 
 impl Settings {
@@ -41,6 +46,8 @@ impl Settings {
         map_exit_to_return_value: false,
         has_modules: false,
         has_global_modules: false,
+        has_odd_natives: false,
+        start: Start::NOTHING,
     };
 
     /// Makes the usual settings, but for their limits.
@@ -63,6 +70,57 @@ impl Settings {
             ..Settings::USUAL
         }
     }
+
+    /// Makes the usual settings with the natives of `Odd`.
+    fn with_odd_natives() -> Settings
+        ensures { result ≡ with_odd_natives }
+    {
+        Settings {
+            has_odd_natives: true,
+            ..Settings::USUAL
+        }
+    }
+
+    /// Makes the usual settings, but for what the state has before the run.
+    fn starting(start: Start) -> Settings
+        ensures { result ≡ record usual { start = start } }
+    {
+        Settings {
+            start,
+            ..Settings::USUAL
+        }
+    }
+
+    /// Sets each limit that is as usual to the greatest that there is.
+    pub fn widened(self) -> Settings {
+        let Limits {
+            max_operations,
+            max_variables,
+            max_modules,
+            max_call_levels,
+            max_array_size,
+            max_map_size,
+            max_string_size,
+        } = self.limits;
+        let usual = Settings::USUAL.limits;
+        Settings {
+            limits: Limits {
+                max_operations: operation_limit(max_operations),
+                max_variables: widest(max_variables, usual.max_variables),
+                max_modules: widest(max_modules, usual.max_modules),
+                max_call_levels: widest(max_call_levels, usual.max_call_levels),
+                max_array_size: widest(max_array_size, usual.max_array_size),
+                max_map_size: widest(max_map_size, usual.max_map_size),
+                max_string_size: widest(max_string_size, usual.max_string_size),
+            },
+            ..self
+        }
+    }
+}
+
+/// Returns the greatest limit where one is as usual.
+fn widest(limit: usize, usual: usize) -> usize {
+    if limit == usual { usize::MAX } else { limit }
 }
 
 /// Makes the usual limits, but for that of operations.
@@ -95,6 +153,26 @@ fn limit_arrays(max_array_size: usize) -> Limits
     }
 }
 
+/// Makes the usual limits, but for that of a map's entries.
+fn limit_maps(max_map_size: usize) -> Limits
+    ensures { result ≡ record usual_limits { max_map_size = max_map_size } }
+{
+    Limits {
+        max_map_size,
+        ..Settings::USUAL.limits
+    }
+}
+
+/// Makes the usual limits, but for that of a text's bytes.
+fn limit_texts(max_string_size: usize) -> Limits
+    ensures { result ≡ record usual_limits { max_string_size = max_string_size } }
+{
+    Limits {
+        max_string_size,
+        ..Settings::USUAL.limits
+    }
+}
+
 /// Makes the usual limits, but for that of how deep calls are.
 fn limit_levels(max_call_levels: usize) -> Limits
     ensures { result ≡ record usual_limits { max_call_levels = max_call_levels } }
@@ -115,6 +193,10 @@ pub enum Setting {
     MaxVariables(usize),
     /// A limit of an array's items.
     MaxArraySize(usize),
+    /// A limit of a map's entries.
+    MaxMapSize(usize),
+    /// A limit of a text's bytes.
+    MaxStringSize(usize),
     /// A limit of how deep calls are.
     MaxCallLevels(usize),
     WithoutFastOperators,
@@ -132,6 +214,16 @@ pub enum Setting {
     MaxCallLevelsWithModules(usize),
     /// There are modules to import, and the engine has some of its own.
     WithGlobalModules,
+    /// The natives are those of `Odd`.
+    WithOddNatives,
+    /// The natives are those of `Odd`, and an exit gives the script's value.
+    WithOddNativesAndExits,
+    /// The natives are those of `Odd`, and operators are natives first.
+    WithOddOperators,
+    /// The state has something before the run.
+    Starting(Start),
+    /// The state has something before the run, and there are modules to import.
+    StartingWithModules(Start),
 }
 
 impl Setting {
@@ -144,6 +236,8 @@ impl Setting {
             Setting::MaxOperations(count) => Settings::with_limits(limit_operations(count)),
             Setting::MaxVariables(count) => Settings::with_limits(limit_variables(count)),
             Setting::MaxArraySize(size) => Settings::with_limits(limit_arrays(size)),
+            Setting::MaxMapSize(size) => Settings::with_limits(limit_maps(size)),
+            Setting::MaxStringSize(size) => Settings::with_limits(limit_texts(size)),
             Setting::MaxCallLevels(levels) => Settings::with_limits(limit_levels(levels)),
             Setting::WithoutFastOperators => Settings {
                 fast_operators: false,
@@ -172,6 +266,20 @@ impl Setting {
                 has_modules: true,
                 has_global_modules: true,
                 ..Settings::USUAL
+            },
+            Setting::WithOddNatives => Settings::with_odd_natives(),
+            Setting::WithOddNativesAndExits => Settings {
+                map_exit_to_return_value: true,
+                ..Settings::with_odd_natives()
+            },
+            Setting::WithOddOperators => Settings {
+                fast_operators: false,
+                ..Settings::with_odd_natives()
+            },
+            Setting::Starting(start) => Settings::starting(start),
+            Setting::StartingWithModules(start) => Settings {
+                has_modules: true,
+                ..Settings::starting(start)
             },
         }
     }

@@ -3,8 +3,8 @@
 
 use crate::parts::Part;
 use crate::parts::Part::{
-    AssignBy, Block, BlockValue, Call, Dot, Function, Int, Let, Method, Pointer, Share, Value,
-    Variable,
+    Array, Assign, AssignBy, Block, BlockValue, Call, Dot, Function, Index, IndexOn, Int, Let,
+    Method, Pointer, Share, Try, Value, Variable,
 };
 use rhai_tree::token::Token;
 
@@ -36,5 +36,46 @@ pub const CLOSURE_CALLED_TWICE: &[Part<'_>] = &[
     Dot(49),
     Value,
     Variable("x", 2, 58),
+    Value,
+];
+
+/// `let a = [1]; let f = || { a[0] = 9; }; try { a[0].call(f); } catch {} a[0] += 4; a[0]`
+pub const ITEM_ASSIGNED_IN_A_CLOSURE: &[Part<'_>] = &[
+    Variable("a", 1, 27),
+    Int(0, 29),
+    Index(28),
+    Int(9, 34),
+    Assign(32),
+    Block(1, 25, 37),
+    Function("anon$1", &["a"]),
+    Int(1, 10),
+    Array(1, 9),
+    Let("a", 5, 1),
+    Share(&[("a", 1, 27)]),
+    Pointer("anon$1", 1, 22),
+    Variable("a", 1, 27),
+    Call("curry", 2, 22),
+    Value,
+    Block(2, 22, 37),
+    BlockValue,
+    Let("f", 18, 14),
+    Variable("a", 2, 46),
+    Int(0, 48),
+    Variable("f", 1, 56),
+    Method("call", 1, 51),
+    Dot(50),
+    IndexOn(47),
+    Value,
+    Block(1, 44, 60),
+    Block(0, 68, 69),
+    Try(40),
+    Variable("a", 2, 71),
+    Int(0, 73),
+    Index(72),
+    Int(4, 79),
+    AssignBy(Token::Plus, 76),
+    Variable("a", 2, 82),
+    Int(0, 84),
+    Index(83),
     Value,
 ];

@@ -32,6 +32,8 @@ pub enum Part<'a> {
     Array(usize, u16),
     /// A map with a value for each of its names.
     Map(&'a [&'a str], u16),
+    /// A map with a value for each of its names, and a template with another one alone.
+    MapLike(&'a str, &'a [&'a str], u16),
     And(u16),
     Coalesce(u16),
     /// An operator between two operands.
@@ -43,6 +45,8 @@ pub enum Part<'a> {
     Method(&'a str, usize, u16),
     /// A dot between an expression and what stands behind it.
     Dot(u16),
+    /// A dot where its chain ends.
+    DotAtEnd(u16),
     DotUnlessUnit(u16),
     /// An expression at an index, where its chain ends.
     Index(u16),

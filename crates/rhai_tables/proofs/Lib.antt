@@ -1,1 +1,2 @@
 mod PairLemmas
+mod OddLemmas

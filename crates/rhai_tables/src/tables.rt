@@ -3,7 +3,9 @@
 ghost use Rattle.std.specs.Prelude.{◌≡◌, Some};
 ghost use Rattle.rhai_errors.specs.Native.{Missing, reply_of};
 
+pub mod bench;
 pub mod counting;
+pub mod odd;
 
 use crate::host::Pair;
 use rhai_errors::table::{Answer, NativeTable};
@@ -16,7 +18,7 @@ use rhai_values::cells::CellStore;
 #[derive(Clone, Copy, Debug, PartialEq, Eq)]
 pub struct NoNatives;
 
-fn answer_no_native(_first: &mut Dynamic<Pair>) -> Answer<Pair>
+pub(crate) fn answer_no_native(_first: &mut Dynamic<Pair>) -> Answer<Pair>
     ensures reply { reply_of result ≡ Some Missing }
     ensures first { _first.new ≡ _first.old }
 {

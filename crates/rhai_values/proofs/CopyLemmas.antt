@@ -48,11 +48,11 @@ module _ {H : Type 0} where
       λ i. Map' tt (block.more_of-Union-Map-0-1 (copied_entries entries.0 entries.1 i).0 (copied_entries entries.0 entries.1 i).1
       block.end_of-Union-Map-0-1)
 
-  rolled : (name : List ℕ) (xs : List (Dynamic H)) (kind : FnPtrKind H) →
+  pub copied_rolled : (name : List ℕ) (xs : List (Dynamic H)) (kind : FnPtrKind H) →
       copy_pointer (roll-FnPtr H (record { name = name; curry = xs; kind = kind })) ≡ roll-FnPtr H
       (record { name = name; curry = map copy_of xs; kind = kind })
   unfolding roll-FnPtr roll
-  rolled name xs kind = λ i. Pointer' name (copied_row xs i).0 (copied_row xs i).1 kind
+  copied_rolled name xs kind = λ i. Pointer' name (copied_row xs i).0 (copied_row xs i).1 kind
 
   pub copy-pointer : (p : FnPtr H) →
       copy_pointer p ≡ roll-FnPtr H (record {
@@ -60,7 +60,8 @@ module _ {H : Type 0} where
         curry = map copy_of (out-FnPtr H p).curry;
         kind = (out-FnPtr H p).kind;
       })
-  copy-pointer p = ap copy_pointer (sym (roll-out-FnPtr H p)) ∙ rolled (out-FnPtr H p).name (out-FnPtr H p).curry (out-FnPtr H p).kind
+  copy-pointer p =
+      ap copy_pointer (sym (roll-out-FnPtr H p)) ∙ copied_rolled (out-FnPtr H p).name (out-FnPtr H p).curry (out-FnPtr H p).kind
 
   pub copy-FnPtr : (p : FnPtr H) → copy_union (value.FnPtr p) ≡ value.FnPtr (copy_pointer p)
   unfolding block.shape-the_row-FnPtr-5 block.hidden-the_row-FnPtr-5 hidden

@@ -2,3 +2,4 @@ pub mod EachLemmas
 pub mod SizeLemmas
 pub mod CopyLemmas
 pub mod ModeLemmas
+pub mod CopyContents

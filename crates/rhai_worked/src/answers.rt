@@ -18,6 +18,7 @@ use std::io::Write;
 /// - `eval_expr LIST N` and so on: what that public call comes to, entered with the script's last statement
 ///   behind the others (`rhai_rows::entry`), with its operations, and the variables and the `this` that it leaves
 /// - `above ends LIST N` and so on: what is answered above a scope of 300 other variables
+/// - `wide ends LIST N` and so on: what is answered under the greatest limits where the script sets none
 pub fn write_answer<R: Runner>(
     alloc: Global,
     lists: &[Listed<'_>],
@@ -29,9 +30,13 @@ pub fn write_answer<R: Runner>(
         "scripts" => write_number(count_of(lists, rest), out),
         "above" => {
             let (form, rest) = rest.split_once(' ').unwrap_or((rest, ""));
-            write_one::<R>(alloc, lists, 300, form, rest, out)
+            write_one::<R>(alloc, lists, 300, false, form, rest, out)
         }
-        _ => write_one::<R>(alloc, lists, 0, form, rest, out),
+        "wide" => {
+            let (form, rest) = rest.split_once(' ').unwrap_or((rest, ""));
+            write_one::<R>(alloc, lists, 0, true, form, rest, out)
+        }
+        _ => write_one::<R>(alloc, lists, 0, false, form, rest, out),
     }
 }
 
@@ -43,18 +48,22 @@ fn write_number(count: Option<usize>, out: &mut Vec<u8>) -> io::Result<()> {
     }
 }
 
-/// Writes what a script, as `26 1`, comes to above so many other variables.
+/// Writes what a script, as `26 1`, comes to above so many other variables, or under the greatest limits.
 fn write_one<R: Runner>(
     alloc: Global,
     lists: &[Listed<'_>],
     others: usize,
+    is_wide: bool,
     form: &str,
     name: &str,
     out: &mut Vec<u8>,
 ) -> io::Result<()> {
     let (list, number) = name.split_once(' ').unwrap_or((name, ""));
     match script_named(lists, list, number) {
-        Some(source) => write_ways::<R>(alloc, others, form, list, source, out),
+        Some(source) => {
+            let source = if is_wide { source.widened() } else { source };
+            write_ways::<R>(alloc, others, form, list, source, out)
+        }
         None => write!(out, "no script"),
     }
 }

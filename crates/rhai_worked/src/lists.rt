@@ -65,7 +65,7 @@ impl<'a> Listed<'a> {
 
     /// Tells whether its requests for memory are refused: not where it is there for the checker alone.
     pub fn is_refused(self) -> bool {
-        self.list != "checked" && self.list != "outside"
+        self.list != "checked" && self.list != "faulty" && self.list != "outside"
     }
 }
 

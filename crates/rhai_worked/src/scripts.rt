@@ -18,17 +18,44 @@ use std::io::Write;
 #[derive(Clone, Copy)]
 pub enum Source<'a> {
     Row(Sample),
+    /// One of a row, under the greatest limits where it sets none.
+    WideRow(Sample),
     List(Listed<'a>),
+    /// One of a list, under the greatest limits where it sets none.
+    WideList(Listed<'a>),
 }
 
-impl Source<'_> {
+impl<'a> Source<'a> {
+    /// Returns the same script under the greatest limits where it sets none.
+    pub fn widened(self) -> Source<'a> {
+        match self {
+            Source::Row(sample) => Source::WideRow(sample),
+            Source::List(listed) => Source::WideList(listed),
+            Source::WideRow(_) | Source::WideList(_) => self,
+        }
+    }
+
+    /// Tells whether it is the script of a row with the row's own limits.
+    fn is_of_row(self) -> bool {
+        matches!(self, Source::Row(_))
+    }
+
     /// Makes the script, or says that memory ran out.
     pub fn script(self, alloc: Global) -> Result<Script, AllocError> {
         match self {
             Source::Row(sample) => sample.script(alloc),
             Source::List(listed) => listed.script(alloc),
+            Source::WideRow(sample) => Ok(widened(sample.script(alloc)?)),
+            Source::WideList(listed) => Ok(widened(listed.script(alloc)?)),
         }
     }
+}
+
+/// Returns a script under the greatest limits where it sets none.
+fn widened(script: Script) -> Script {
+    let mut script = script;
+    script.settings = script.settings.widened();
+    script
 }
 
 /// Finds the script with a number in a row or a list, counted from 1.
@@ -56,8 +83,8 @@ pub fn count_of(lists: &[Listed<'_>], list: &str) -> Option<usize> {
     }
 }
 
-/// Writes what a script of a list comes to in every way of running, above so many other variables.
-/// Where two ways differ both are written.
+/// Writes what a script of a list comes to in every way of running, above so many other variables, and one of a row
+/// under the greatest limits too. Where two of them differ both are written.
 pub fn write_ways<R: Runner>(
     alloc: Global,
     others: usize,
@@ -68,12 +95,29 @@ pub fn write_ways<R: Runner>(
 ) -> io::Result<()> {
     write_way::<R>(alloc, others, form, list, source, Way::USUAL, out)?;
     for way in Way::ALL {
-        let mut other = Vec::new(alloc);
-        write_way::<R>(alloc, others, form, list, source, way, &mut other)?;
-        if other.as_slice() != out.as_slice() {
-            write!(out, " or ")?;
-            out.write_all(other.as_slice())?;
+        write_other::<R>(alloc, others, form, list, source, way, out)?;
+        if source.is_of_row() {
+            write_other::<R>(alloc, others, form, list, source.widened(), way, out)?;
         }
+    }
+    Ok(())
+}
+
+/// Writes what a script comes to in one of the ways, where that is not what is written already.
+fn write_other<R: Runner>(
+    alloc: Global,
+    others: usize,
+    form: &str,
+    list: &str,
+    source: Source<'_>,
+    way: Way,
+    out: &mut Vec<u8>,
+) -> io::Result<()> {
+    let mut other = Vec::new(alloc);
+    write_way::<R>(alloc, others, form, list, source, way, &mut other)?;
+    if other.as_slice() != out.as_slice() {
+        write!(out, " or ")?;
+        out.write_all(other.as_slice())?;
     }
     Ok(())
 }

@@ -20,13 +20,13 @@ use rhai_eval::engine::Engine;
 use rhai_eval::eval::search::variable_mut;
 use rhai_eval::state::{Caches, GlobalRuntimeState, Module};
 use rhai_eval::target::{Part, Target};
-use rhai_natives::Natives;
 use rhai_rows::entry::Entry;
 use rhai_rows::outcome::{Ending, Outcome};
 use rhai_rows::settings::{Settings, Way};
+use rhai_rows::start::first_handle;
 use rhai_steps::variables::is_plain;
 use rhai_tables::host::Pair;
-use rhai_tables::tables::counting::Counting;
+use rhai_tables::tables::bench::BenchTable;
 use std::alloc::{AllocError, Global};
 use std::mem::replace;
 use std::num::NonZeroUsize;
@@ -36,9 +36,9 @@ pub(crate) struct Host {
     pub(crate) engine: Engine<Pair>,
     pub(crate) global: GlobalRuntimeState<Pair>,
     pub(crate) caches: Caches<Pair>,
-    pub(crate) table: Natives<Counting>,
+    pub(crate) table: BenchTable,
     pub(crate) scope: Scope<Pair>,
-    /// What a call has as its `this`, or what it works on: 1 at first.
+    /// What a call has as its `this`, or what it works on: 1 at first, or the handle of the cell that is held.
     pub(crate) this: Dynamic<Pair>,
 }
 
@@ -125,13 +125,19 @@ impl Host {
         let engine = engine_of(alloc, settings)?;
         let mut global = GlobalRuntimeState::new(alloc)?;
         global.always_search_scope = way.always_search_scope;
+        settings.start.set(&mut global)?;
+        let this = if settings.start.has_held_cell {
+            first_handle()
+        } else {
+            Dynamic::new(Union::Int(1))
+        };
         Ok(Host {
             engine,
             global,
             caches: way.caches(alloc),
-            table: Counting::table(alloc),
+            table: BenchTable::new(alloc, settings.has_odd_natives),
             scope,
-            this: Dynamic::new(Union::Int(1)),
+            this,
         })
     }
 

@@ -21,7 +21,8 @@ impl Making {
                 let items = self.ones(count, at_item);
                 self.push_expr(Expr::Array(items, at_column(column)));
             }
-            Part::Map(names, column) => self.add_map(names, column),
+            Part::Map(names, column) => self.add_map(names, names, column),
+            Part::MapLike(key, names, column) => self.add_map(names, &[key], column),
             Part::And(column) => {
                 let operands = self.exprs(2);
                 self.push_expr(Expr::And(operands, at_column(column)));
@@ -43,6 +44,7 @@ impl Making {
     fn add_chain(&mut self, part: Part<'_>) {
         match part {
             Part::Dot(column) => self.add_dot(ASTFlags::empty(), column),
+            Part::DotAtEnd(column) => self.add_dot(ASTFlags::BREAK, column),
             Part::DotUnlessUnit(column) => self.add_dot(ASTFlags::NEGATED, column),
             Part::Index(column) => self.add_index(ASTFlags::BREAK, column),
             Part::IndexOn(column) => self.add_index(ASTFlags::empty(), column),
@@ -95,14 +97,16 @@ impl Making {
         }
     }
 
-    /// Adds a map with a value for each of its names.
-    fn add_map(&mut self, names: &[&str], column: u16) {
-        let mut entries = self.memory.no_items();
+    /// Adds a map with a value for each of its names, and a template with these keys.
+    fn add_map(&mut self, names: &[&str], keys: &[&str], column: u16) {
         let mut template = Table::new(self.memory.allocator());
-        for name in names.iter().rev() {
-            if let Some(name) = self.memory.shared(name) {
-                self.memory.remember(template.insert(name, Literal::Unit));
+        for key in keys {
+            if let Some(key) = self.memory.shared(key) {
+                self.memory.remember(template.insert(key, Literal::Unit));
             }
+        }
+        let mut entries = self.memory.no_items();
+        for name in names.iter().rev() {
             if let Some(key) = self.memory.shared(name) {
                 let value = self.expr();
                 self.memory.put_first(&mut entries, MapEntry { key, value });

@@ -34,6 +34,7 @@ fn add_operation(word: &str, words: &mut Words<'_>, making: &mut Making) {
         "call" => Part::Call(words.name(), words.count(), words.column()),
         "method" => Part::Method(words.name(), words.count(), words.column()),
         "dot" => Part::Dot(words.column()),
+        "dot-at-end" => Part::DotAtEnd(words.column()),
         "index" => Part::Index(words.column()),
         "index-on" => Part::IndexOn(words.column()),
         "block-value" => Part::BlockValue,

@@ -10,6 +10,7 @@ pub(super) fn add_list(word: &str, words: &mut Words<'_>, making: &mut Making) {
     match word {
         "path" => add_path(words, making),
         "map" => add_map(words, making),
+        "map-like" => add_map_like(words, making),
         "function" => add_function(words, making),
         "share" => add_share(words, making),
         "overwrite" => add_overwrite(words, making),
@@ -29,6 +30,14 @@ fn add_map(words: &mut Words<'_>, making: &mut Making) {
     let column = words.column();
     let names = names(words);
     making.add(Part::Map(names.as_slice(), column));
+}
+
+/// Adds a map whose template has the first name alone.
+fn add_map_like(words: &mut Words<'_>, making: &mut Making) {
+    let key = words.name();
+    let column = words.column();
+    let names = names(words);
+    making.add(Part::MapLike(key, names.as_slice(), column));
 }
 
 fn add_function(words: &mut Words<'_>, making: &mut Making) {

@@ -29,6 +29,7 @@ fn add_branch(word: &str, words: &mut Words<'_>, making: &mut Making) {
     let part = match word {
         "if" => Part::If(words.column()),
         "if-else" => Part::IfElse(words.column()),
+        "while" => Part::While(words.column()),
         "loop" => Part::Loop(words.column()),
         "break" => Part::Break(words.column()),
         "break-with" => Part::BreakWith(words.column()),

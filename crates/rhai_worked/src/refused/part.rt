@@ -7,7 +7,6 @@ use rhai_eval_base::cells::CellStore;
 use rhai_eval_base::check::{CheckFault, CheckedTree, check_tree};
 use rhai_eval_base::state::{Caches, GlobalRuntimeState};
 use rhai_eval_base::table::NativeTable;
-use rhai_natives::Natives;
 use rhai_rows::linked_pointer::scope_for;
 use rhai_rows::modules::add_library;
 use rhai_rows::outcome::Ending;
@@ -18,7 +17,7 @@ use rhai_rows::settings::{Settings, Way};
 use rhai_samples::operators::SUM;
 use rhai_samples::parts::statements_of;
 use rhai_tables::host::Pair;
-use rhai_tables::tables::counting::Counting;
+use rhai_tables::tables::bench::BenchTable;
 use std::alloc::Global;
 use std::io;
 use std::io::Write;
@@ -76,10 +75,13 @@ impl Part<'_> {
         let mut run = Run {
             global,
             caches: self.way.caches(alloc),
-            table: Counting::table(alloc),
+            table: BenchTable::new(alloc, script.settings.has_odd_natives),
             scope,
         };
         run.global.always_search_scope = self.way.always_search_scope;
+        if script.settings.start.set(&mut run.global).is_err() {
+            return Ok(None);
+        }
         run.report::<R>(alloc, script)
     }
 }
@@ -88,7 +90,7 @@ impl Part<'_> {
 struct Run {
     global: GlobalRuntimeState<Pair>,
     caches: Caches<Pair>,
-    table: Natives<Counting>,
+    table: BenchTable,
     scope: Scope<Pair>,
 }
 
@@ -133,7 +135,7 @@ impl Run {
         let has_run_out = found_no_memory(&ending);
         drop(ending);
         let num_operations = self.global.num_operations;
-        let counter = self.table.natives.counter;
+        let counter = self.table.count();
         let names = names_of(alloc, &self.scope)?;
         let imports = imports_of(alloc, &self.global)?;
         let wrong = if is_restored {
@@ -195,12 +197,17 @@ impl Run {
             Some("variables are gone that were there")
         } else if self.scope.len() > settings.limits.max_variables {
             Some("there are more variables than may be")
-        } else if self.global.num_modules_loaded > settings.limits.max_modules {
+        } else if self.global.num_modules_loaded
+            > settings
+                .limits
+                .max_modules
+                .max(settings.start.num_modules_loaded)
+        {
             Some("more modules are loaded than may be")
         } else if self.global.imports.len() > self.global.num_modules_loaded {
             Some("there are more imports than were loaded")
-        } else if is_any_held(&self.global.cells) {
-            Some("a cell is held")
+        } else if is_any_held(&self.global.cells) != settings.start.has_held_cell {
+            Some("a cell is held, or one is held no more")
         } else if self.sum::<R>(alloc) != Some(42) {
             Some("40 + 2 is not 42 any more")
         } else {
@@ -210,9 +217,7 @@ impl Run {
 
     /// Tells whether a run that began with so many variables left a trace of what is charged.
     fn has_done_something(&self, variables: usize) -> bool {
-        self.scope.len() > variables
-            || self.table.natives.counter > 0
-            || !self.global.imports.is_empty()
+        self.scope.len() > variables || self.table.count() > 0 || !self.global.imports.is_empty()
     }
 
     /// Evaluates `40 + 2` over what the run left.
