@@ -2,7 +2,7 @@
 
 ghost use Rattle.std.specs.Prelude.{◌≡◌};
 ghost use Rattle.rhai_operators.specs.Answers.{IsAnswer, unary_of};
-ghost use Rattle.rhai_twins_places.specs.Ends.{option_ran_out};
+ghost use Rattle.rhai_twins.specs.Ends.{option_ran_out};
 
 use rhai_errors::error::EvalAltResult;
 use rhai_tree::token::Token;

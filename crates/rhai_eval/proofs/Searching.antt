@@ -1,5 +1,6 @@
 -- What a variable's name finds: a variable of the scope, or what the name means beside those.
-use Rattle.std.proofs.Common.{◌≡◌, ℕ, Bool, true, false, List, [], ◌∷◌, Option, Some, None, Result, Ok, Err, refl, sym, ap, ◌∙◌, is_some}
+use Rattle.std.proofs.Common.{◌≡◌, ℕ, Bool, true, false, List, [], ◌∷◌, Option, Some, None, Result, Ok, Err, refl, sym, ap, ◌∙◌}
+use Rattle.std.proofs.Common.{is_some, subst}
 use Rattle.std.specs.Borrow.{Bor}
 use Rattle.std.specs.Prelude.{IfErr, if◌then◌else◌}
 use Rattle.std.specs.Option.{option_copied}
@@ -16,10 +17,10 @@ use Rattle.rhai_errors.specs.Errors.{is_out_of_memory}
 use Rattle.rhai_state.specs.Scope.{variable_value, in_use, Fits}
 use Rattle.rhai_spots.specs.declared.part.Part.TheVariants as part
 use Rattle.rhai_machine.specs.language.Setting.{Globals}
-use Rattle.rhai_machine.specs.language.State.{Surroundings}
+use Rattle.rhai_machine.specs.language.State.{Answers, Surroundings}
 use Rattle.rhai_machine.specs.language.Values.{unit_value}
 use Rattle.rhai_machine.specs.language.Variables.{Variable, variable_named}
-use Rattle.rhai_machine.specs.language.Names.{variable_of}
+use Rattle.rhai_machine.specs.language.Names.{there_or_unknown, value_behind, variable_of, without_entry}
 use Rattle.rhai_steps.specs.Offsets.{index_in}
 use Rattle.rhai_steps.specs.Roots.{path_searched}
 use Rattle.rhai_eval.specs.Search.{beside, found_behind, in_place, is_variable, named, searched, value_there, variable_searched}
@@ -125,6 +126,20 @@ module _ {H : Type 0} (searches : Bool) (globals : Globals H) (around : Surround
   missed_in_module form (Ok v) e behind is by = tt
   missed_in_module form (Err f) e behind is by = λ told.
       let same : f ≡ e = cc in rw same (none_in_module form e behind by (rw same at told))
+
+-- what a name without a path means beside the variables, it means by itself
+module _ {H : Type 0} (globals : Globals H) (around : Surroundings H) where
+  named_alone : (path : List (List ℕ)) (variable : Variable) → is_unqualified path ≡ true → value_behind globals around path variable
+      ≡ there_or_unknown (without_entry globals around.lib variable.name) variable.name variable.at
+  named_alone [] variable is = refl
+  named_alone (root ∷ path) variable is = cc
+
+  pub alone_beside : (form : ExprLayer) (offset : Option NonZeroUsize) (name : List ℕ) (namespace : Namespace) (pos : Position)
+      (result : Result (Dynamic H) (EvalAltResult H)) → form ≡ layer.Variable offset name namespace pos → is_variable form ≡ true →
+      Answers result (there_or_unknown (without_entry globals around.lib name) name pos) → IsBeside globals around form result
+  alone_beside form offset name namespace pos result is alone told =
+      subst (λ f. IsBeside globals around f result) (sym is) (λ memory. told memory
+      ∙ sym (named_alone namespace.path (variable_named name namespace pos) (rw is at alone)))
 
 by_path : (is_unqualified : Bool) (index : Option NonZeroUsize) (count : ℕ) → is_unqualified ≡ false →
     Fits (if is_unqualified then None else index) count → Fits index count

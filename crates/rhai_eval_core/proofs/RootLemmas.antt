@@ -39,7 +39,7 @@ use Rattle.rhai_steps.proofs.Pieces.{faulted, step_by}
 use Rattle.rhai_assign.proofs.Places.{revalued_twice}
 use Rattle.rhai_calls.specs.ToldChanges.{without_changed}
 use Rattle.rhai_steps.specs.OnFocus.{lending}
-use Rattle.rhai_walk.specs.Roots.{GoesBack, LendsVariable, RefusesThis, RefusesVariable}
+use Rattle.rhai_chains.specs.Roots.{GoesBack, LendsVariable, RefusesThis, RefusesVariable}
 use Rattle.rhai_context.specs.Ends.{unit}
 use Rattle.rhai_callees.proofs.Lending.{lent_names}
 

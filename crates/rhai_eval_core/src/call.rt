@@ -28,7 +28,6 @@ mod plain;
 mod qualified;
 
 use crate::evaluator::Evaluator;
-use rhai_at_once::call_at_once;
 use rhai_call_forms::arguments::{captures_some, first_variable, this_first};
 use rhai_call_forms::forms::may_operate;
 use rhai_call_forms::keywords::keyword_of;
@@ -37,8 +36,9 @@ use rhai_callees::runs::{call_with, call_with_this, call_with_variable};
 use rhai_context::Context;
 use rhai_context::outcomes::charge;
 use rhai_errors::table::NativeTable;
+use rhai_fast_calls::at_once::call_at_once;
+use rhai_fast_calls::callee::plain_callee;
 use rhai_few::Few;
-use rhai_plain::callee::plain_callee;
 use rhai_steps::operation::Operation;
 use rhai_steps::variables::is_plain;
 use rhai_tree::Items;

@@ -23,7 +23,9 @@ mod walk;
 use crate::evaluator::Evaluator;
 use rhai_chains::arguments::asked;
 use rhai_chains::chain::NewValue;
+use rhai_chains::given::take_ready_args;
 use rhai_chains::links::{first_of, link_of};
+use rhai_chains::roots::take_flat;
 use rhai_context::Context;
 use rhai_context::ends::put_unit;
 use rhai_context::outcomes::charge;
@@ -32,8 +34,6 @@ use rhai_few::Few;
 use rhai_steps::variables::Variable;
 use rhai_tree::expr::{Expr, OpAssignment};
 use rhai_values::base::value::{Dynamic, Host};
-use rhai_walk::given::take_ready_args;
-use rhai_walk::roots::take_flat;
 
 impl<'e, H: Host> Evaluator<'e, H> {
     /// Evaluates a chain that is read or assigned to. What all its links ask for comes first, then its root,

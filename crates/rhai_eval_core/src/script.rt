@@ -27,6 +27,7 @@ use rhai_bodies::callers::{body_of, capture, end_fresh, release};
 use rhai_bodies::closing::close_body;
 use rhai_bodies::opening::{open_function, statements_of};
 use rhai_calls::dispatch::Called;
+use rhai_chains::focus::{leave_focus, lend_focus};
 use rhai_context::ends::{put_unit, settle, settle_changed, stop, unchanged};
 use rhai_context::outcomes::charge;
 use rhai_context::{Context, put_aside};
@@ -39,7 +40,6 @@ use rhai_steps::operation::Operation;
 use rhai_tree::checked::CheckedFn;
 use rhai_tree::position::Position;
 use rhai_values::base::value::{Dynamic, EncapsulatedEnviron, Host};
-use rhai_walk::focus::{leave_focus, lend_focus};
 
 impl<'e, H: Host> Evaluator<'e, H> {
     /// Enters a function at a level, on the variables and with the `this` that the run has. Its call is

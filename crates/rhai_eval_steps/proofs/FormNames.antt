@@ -23,7 +23,7 @@ use Rattle.rhai_steps.specs.Agreement.{Agrees, Leads, Restores, Sight, above, fr
 use Rattle.rhai_steps.proofs.Agreeing.{brings}
 use Rattle.rhai_machine.specs.language.Turns.{ForLoop}
 use Rattle.rhai_machine.specs.language.Walks.{counters, loop_entries}
-use Rattle.rhai_catches.specs.Branches.{bound}
+use Rattle.rhai_stmt.specs.Branches.{bound}
 use Rattle.rhai_eval_steps.proofs.NameLemmas.{names_restored}
 
 -- a block may run where its statements may

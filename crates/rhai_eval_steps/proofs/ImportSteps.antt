@@ -25,7 +25,7 @@ use Rattle.rhai_machine.specs.language.Language.{machine}
 use Rattle.rhai_steps.specs.States.{local_of, state_of}
 use Rattle.rhai_steps.proofs.Pieces.{or_runs_out, step_by}
 use Rattle.rhai_context.specs.Ends.{came, error_in}
-use Rattle.rhai_modules.specs.Imports.{Imports, importable}
+use Rattle.rhai_stmt.specs.Imports.{Imports, importable}
 use Rattle.rhai_eval_steps.proofs.Chain.{fails_on}
 
 module _ {S H : Type 0} (rules : Rules S H) (path : Expr) (alias : Option Ident) (pos : Position) (restoring : Bool) (k : List (Frame H))

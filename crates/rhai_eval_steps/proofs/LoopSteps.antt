@@ -34,7 +34,7 @@ use Rattle.rhai_steps.specs.Loops.{turn_in, after_body, after_turn}
 use Rattle.rhai_steps.specs.States.{state_of}
 use Rattle.rhai_steps.proofs.Pieces.{or_runs_out, step_by}
 use Rattle.rhai_context.specs.Ends.{came, came_turn}
-use Rattle.rhai_catches.specs.Leaving.{left_with}
+use Rattle.rhai_stmt.specs.Leaving.{left_with}
 use Rattle.rhai_eval_steps.proofs.Chain.{flattens}
 
 module _ {S H C : Type 0} (M : Machine S H C) (limit : ℕ) where

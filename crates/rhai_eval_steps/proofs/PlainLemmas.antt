@@ -47,10 +47,10 @@ use Rattle.rhai_callees.specs.Kept.{HasKept}
 use Rattle.rhai_context.specs.declared.Context.{Context}
 use Rattle.rhai_context.specs.Ends.{came, error_in}
 use Rattle.rhai_laws.proofs.KeptLaws.{kept}
-use Rattle.rhai_plain.specs.Callees.{IsPlain}
-use Rattle.rhai_plain.specs.Filling.{HasFilled, filled}
-use Rattle.rhai_plain.proofs.PlainSteps.{filled_by_none, filled_count, filled_whole, has_filled, parameters_race}
-use Rattle.rhai_plain.proofs.PlainSteps.{plain_enters, plain_moves, plain_named, plain_races}
+use Rattle.rhai_fast_calls.specs.Callees.{IsPlain}
+use Rattle.rhai_fast_calls.specs.Filling.{HasFilled, filled}
+use Rattle.rhai_fast_calls.proofs.PlainSteps.{filled_by_none, filled_count, filled_whole, has_filled, parameters_race}
+use Rattle.rhai_fast_calls.proofs.PlainSteps.{plain_enters, plain_moves, plain_named, plain_races}
 use Rattle.rhai_eval_steps.specs.Bodies.{behind_call, entered}
 use Rattle.rhai_eval_steps.specs.Calls.{Collects}
 use Rattle.rhai_eval_steps.specs.States.{state_in}

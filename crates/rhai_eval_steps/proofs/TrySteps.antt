@@ -25,7 +25,7 @@ use Rattle.rhai_machine.specs.language.Tries.{branch_core, branch_with, catch_va
 use Rattle.rhai_machine.specs.language.Language.{machine}
 use Rattle.rhai_steps.specs.States.{local_of, state_of}
 use Rattle.rhai_steps.proofs.Pieces.{faulted, step_by}
-use Rattle.rhai_catches.specs.Branches.{bound, left_by, room_for_caught}
+use Rattle.rhai_stmt.specs.Branches.{bound, left_by, room_for_caught}
 
 err_same : {A E : Type 0} (r : Result A E) (x y : E) → r ≡ Err x → r ≡ Err y → x ≡ y
 err_same r x y this that = cc

@@ -24,7 +24,7 @@ use Rattle.rhai_machine.specs.language.Language.{machine}
 use Rattle.rhai_steps.specs.States.{local_of, state_of}
 use Rattle.rhai_steps.proofs.Pieces.{step_by}
 use Rattle.rhai_context.specs.Ends.{came, error_in}
-use Rattle.rhai_sharing.specs.Declares.{Declares, Misses}
+use Rattle.rhai_stmt.specs.Declares.{Declares, Misses}
 use Rattle.rhai_eval_steps.proofs.Chain.{fails_on}
 
 module _ {S H : Type 0} (rules : Rules S H) (t : S) (g entered : GlobalRuntimeState H) (old new : Scope H) (held : Held H) (ident : Ident)

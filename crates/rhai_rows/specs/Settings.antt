@@ -1,5 +1,5 @@
 -- What a script runs with.
-use Rattle.std.specs.Prelude.{ℕ, true, false}
+use Rattle.std.specs.Prelude.{ℕ, Bool, true, false}
 use Rattle.rhai_state.specs.declared.limits.Limits.{Limits}
 use Rattle.rhai_rows.specs.declared.settings.Settings.{Settings}
 use Rattle.rhai_rows.specs.declared.settings.Setting.{Setting}
@@ -69,9 +69,9 @@ under_call_levels levels = record usual { limits = record usual_limits { max_cal
 abbrev pub with_modules : Limits → Settings
 with_modules limits = record usual { limits = limits; has_modules = true }
 
--- the usual settings, but with the natives of `Odd`
-abbrev pub with_odd_natives : Settings
-with_odd_natives = record usual { has_odd_natives = true }
+-- the usual settings, but with the natives of `Odd`, and with these two switches
+abbrev pub with_odd_natives : (fast exits : Bool) → Settings
+with_odd_natives fast exits = record usual { fast_operators = fast; map_exit_to_return_value = exits; has_odd_natives = true }
 
 -- the settings in which this is set, and all else is as usual
 abbrev pub settings_of : Setting → Settings
@@ -90,8 +90,8 @@ settings_of (MaxModules count) = with_modules (record usual_limits { max_modules
 settings_of (MaxOperationsWithModules count) = with_modules (record usual_limits { max_operations = count })
 settings_of (MaxCallLevelsWithModules levels) = with_modules (record usual_limits { max_call_levels = levels })
 settings_of WithGlobalModules = record usual { has_modules = true; has_global_modules = true }
-settings_of WithOddNatives = with_odd_natives
-settings_of WithOddNativesAndExits = record with_odd_natives { map_exit_to_return_value = true }
-settings_of WithOddOperators = record with_odd_natives { fast_operators = false }
+settings_of WithOddNatives = with_odd_natives true false
+settings_of WithOddNativesAndExits = with_odd_natives true true
+settings_of WithOddOperators = with_odd_natives false false
 settings_of (Starting start) = record usual { start = start }
 settings_of (StartingWithModules start) = record usual { start = start; has_modules = true }

@@ -72,20 +72,23 @@ impl Settings {
     }
 
     /// Makes the usual settings with the natives of `Odd`.
-    fn with_odd_natives() -> Settings
-        ensures { result ≡ with_odd_natives }
+    fn with_odd_natives(fast_operators: bool, map_exit_to_return_value: bool) -> Settings
+        ensures { result ≡ with_odd_natives fast_operators map_exit_to_return_value }
     {
         Settings {
+            fast_operators,
+            map_exit_to_return_value,
             has_odd_natives: true,
             ..Settings::USUAL
         }
     }
 
     /// Makes the usual settings, but for what the state has before the run.
-    fn starting(start: Start) -> Settings
-        ensures { result ≡ record usual { start = start } }
+    fn starting(start: Start, has_modules: bool) -> Settings
+        ensures { result ≡ record usual { start = start; has_modules = has_modules } }
     {
         Settings {
+            has_modules,
             start,
             ..Settings::USUAL
         }
@@ -267,20 +270,11 @@ impl Setting {
                 has_global_modules: true,
                 ..Settings::USUAL
             },
-            Setting::WithOddNatives => Settings::with_odd_natives(),
-            Setting::WithOddNativesAndExits => Settings {
-                map_exit_to_return_value: true,
-                ..Settings::with_odd_natives()
-            },
-            Setting::WithOddOperators => Settings {
-                fast_operators: false,
-                ..Settings::with_odd_natives()
-            },
-            Setting::Starting(start) => Settings::starting(start),
-            Setting::StartingWithModules(start) => Settings {
-                has_modules: true,
-                ..Settings::starting(start)
-            },
+            Setting::WithOddNatives => Settings::with_odd_natives(true, false),
+            Setting::WithOddNativesAndExits => Settings::with_odd_natives(true, true),
+            Setting::WithOddOperators => Settings::with_odd_natives(false, false),
+            Setting::Starting(start) => Settings::starting(start, false),
+            Setting::StartingWithModules(start) => Settings::starting(start, true),
         }
     }
 }

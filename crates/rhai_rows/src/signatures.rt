@@ -7,8 +7,16 @@ use rhai_eval_base::state::{GlobalRuntimeState, Module};
 use rhai_samples::built::private_function;
 use rhai_tables::host::Pair;
 use rhai_tree::function::ScriptFuncDef;
-use std::alloc::Global;
+use std::alloc::{AllocError, Global};
 use std::io;
+
+/// Makes a state that has imported an empty module as `m`, or says that memory ran out.
+pub fn state_with_surroundings(alloc: Global) -> Result<GlobalRuntimeState<Pair>, AllocError> {
+    let mut maker = Maker::new(alloc);
+    let mut global = GlobalRuntimeState::new(alloc)?;
+    maker.import(&mut global, "m");
+    maker.finish(global)
+}
 
 /// Writes what the metadata of a function say, what is around one, or for any other word its signature.
 pub fn write_told(alloc: Global, word: &str, out: &mut Vec<u8>) -> io::Result<()> {
@@ -53,9 +61,8 @@ impl Sheet {
 
     /// Appends what is around a function of a state that has imported an empty module as `m`.
     fn surroundings(&mut self) {
-        let global = GlobalRuntimeState::<Pair>::new(self.maker.allocator());
-        if let Some(mut global) = self.maker.kept(global) {
-            self.maker.import(&mut global, "m");
+        let global = state_with_surroundings(self.maker.allocator());
+        if let Some(global) = self.maker.kept(global) {
             let around = self.maker.around(&global);
             drop(global);
             if let Some(around) = around {

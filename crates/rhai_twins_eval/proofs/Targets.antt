@@ -18,8 +18,8 @@ use Rattle.rhai_places.specs.declared.target.Target.{Target}
 use Rattle.rhai_index.specs.Indexers.{as_temporary, asks_indexer, effect_of, outcome_of, read_call}
 use Rattle.rhai_index.specs.Indexes.{Indexes}
 use Rattle.rhai_machine.specs.language.State.{HasMemory}
-use Rattle.rhai_twins_places.specs.Ends.{SameTarget}
-use Rattle.rhai_twins_places.proofs.Found.{found_once}
+use Rattle.rhai_twins.specs.Ends.{SameTarget}
+use Rattle.rhai_twins.proofs.Found.{found_once}
 
 true_unless : (b : Bool) → (b ≡ false → ⊥) → b ≡ true
 true_unless true never = refl

@@ -8,7 +8,7 @@ ghost use Rattle.rhai_errors.specs.Errors.{is_out_of_memory};
 ghost use Rattle.rhai_state.specs.Scope.{entries_of, in_use, Fits};
 ghost use Rattle.rhai_steps.specs.Offsets.{index_in, offset_in};
 ghost use Rattle.rhai_eval.specs.Search.{is_variable, names_variable};
-ghost use Rattle.rhai_twins_places.specs.Ends.{SameTarget, SameError};
+ghost use Rattle.rhai_twins.specs.Ends.{SameTarget, SameError};
 ghost use Rattle.rhai_twins_eval.specs.Same.{SameEnd};
 
 use rhai_errors::error::EvalAltResult;

@@ -4,11 +4,13 @@
 //! all memory is granted in every run.
 
 mod chain;
+mod leaves;
 mod part;
 mod refuser;
 
 use crate::lists::Listed;
 use crate::refused::chain::Root;
+use crate::refused::leaves::Leaf;
 use crate::refused::part::{Part, Report};
 use crate::refused::refuser::Refusal;
 use crate::scripts::Source;
@@ -55,7 +57,7 @@ pub fn are_all_well<R: Runner, W: Write>(
     Ok(rows.wrong == 0 && lists.wrong == 0)
 }
 
-/// Runs the scripts of the rows, and the assignment through a chain.
+/// Runs the scripts of the rows, the assignment through a chain, and the calls that leave what they are handed.
 fn tally_rows<R: Runner, W: Write>(alloc: Global, out: &mut W) -> io::Result<Tally> {
     let mut tally = Tally::default();
     for row in ROWS {
@@ -63,6 +65,7 @@ fn tally_rows<R: Runner, W: Write>(alloc: Global, out: &mut W) -> io::Result<Tal
     }
     run_chains::<R, _>(alloc, &mut tally, &mut *out)?;
     write_requests::<R, _>(alloc, &mut tally, &mut *out)?;
+    run_leaves(alloc, &mut tally, &mut *out)?;
     Ok(tally)
 }
 
@@ -180,7 +183,11 @@ fn run_part<R: Runner, W: Write>(
         return tally.tell(part, refusal, 0, Some("not reached"), out);
     };
     tally.runs = tally.runs.saturating_add(1);
-    tally.tell(part, refusal, 0, own.wrong, out)?;
+    let wrong = own.wrong.or_else(|| wrong_unless(
+        goes_on(&own, &own),
+        "another end the second time",
+    ));
+    tally.tell(part, refusal, 0, wrong, out)?;
     for number in 1..=refuser::GREATEST {
         if !refuser::begin(alloc, refusal, number) {
             break;
@@ -229,6 +236,8 @@ fn judge(
         .starts_with(report.imports.as_slice())
     {
         Some("other imports are left")
+    } else if !goes_on(own, report) {
+        Some("another end the second time")
     } else if report.has_run_out {
         tally.ran_out = tally.ran_out.saturating_add(1);
         wrong_unless(was_refused, "out of memory, though nothing was refused")
@@ -244,10 +253,29 @@ fn wrong_unless(holds: bool, what: &'static str) -> Option<&'static str> {
 
 fn is_same(own: &Report, report: &Report) -> bool {
     report.line.as_slice() == own.line.as_slice()
-        && report.num_operations == own.num_operations
         && report.counter == own.counter
         && report.names.as_slice() == own.names.as_slice()
         && report.imports.as_slice() == own.imports.as_slice()
+}
+
+/// Tells whether the script comes to what it is to come to over the state that is left: to what it came to from the
+/// beginning where no import is left, and else to what it comes to over what the run with all memory granted left. A
+/// handle has the number of another cell then.
+fn goes_on(own: &Report, report: &Report) -> bool {
+    let (Some(again), Some(own_again)) = (&report.again, &own.again) else {
+        return true;
+    };
+    let wanted = if report.imports.is_empty() {
+        own.line.as_slice()
+    } else {
+        own_again.as_slice()
+    };
+    again.as_slice() == wanted || (is_handle(again.as_slice()) && is_handle(wanted))
+}
+
+/// Tells whether the line of an ending is that of a handle.
+fn is_handle(line: &[u8]) -> bool {
+    line.starts_with(b"ok cell ")
 }
 
 /// Tells whether the assignment is done, or was not reached since a request was refused.
@@ -326,4 +354,42 @@ fn write_requests<R: Runner, W: Write>(
         out,
         "a chain: {short} requests over two items, {long} over a thousand, {in_cell} through a cell"
     )
+}
+
+/// Makes each of the calls that leave what they are handed, with its requests refused in turn.
+fn run_leaves<W: Write>(alloc: Global, tally: &mut Tally, out: &mut W) -> io::Result<()> {
+    for leaf in Leaf::ALL {
+        for refusal in Refusal::BOTH {
+            run_leaf(alloc, leaf, refusal, tally, &mut *out)?;
+        }
+    }
+    Ok(())
+}
+
+/// Makes a call with its requests refused in turn: what it is handed stays, or comes back.
+fn run_leaf<W: Write>(
+    alloc: Global,
+    leaf: Leaf,
+    refusal: Refusal,
+    tally: &mut Tally,
+    out: &mut W,
+) -> io::Result<()> {
+    for number in 1..=refuser::GREATEST {
+        let left = leaf.call(alloc, refusal, number);
+        tally.runs = tally.runs.saturating_add(1);
+        if left.is_as_it_was {
+            tally.unharmed = tally.unharmed.saturating_add(1);
+        } else {
+            tally.wrong = tally.wrong.saturating_add(1);
+            writeln!(
+                &mut *out,
+                "{leaf:?} {refusal:?} {number}: what it was handed is not as it was"
+            )?;
+        }
+        if !left.was_refused {
+            break;
+        }
+        tally.refused = tally.refused.saturating_add(1);
+    }
+    Ok(())
 }

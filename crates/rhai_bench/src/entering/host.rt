@@ -8,7 +8,7 @@ ghost use Rattle.rhai_laws.specs.Kept.{is_import};
 ghost use Rattle.rhai_steps.specs.Agreement.{AgreesAt, Leads, changes, frame_of, passes, sight_of};
 ghost use Rattle.rhai_state.specs.Scope.{in_use, names_in, Fits};
 ghost use Rattle.rhai_values.specs.Cells.{IsNoHandle};
-ghost use Rattle.rhai_steps.specs.Offsets.{offset_in};
+ghost use Rattle.rhai_steps.specs.Offsets.{index_in, offset_in};
 ghost use Rattle.rhai_eval.specs.Search.{is_variable, names_variable};
 
 use crate::script::engine_of;
@@ -94,6 +94,21 @@ fn is_in_scope(expr: &Expr, length: usize) -> bool
     match expr {
         Expr::Variable { offset, .. } => is_within(*offset, length),
         _ => false,
+    }
+}
+
+/// Tells whether the index of a variable's path, if it has both, is at most a number of imports.
+fn is_imported(expr: &Expr, imports: usize) -> bool
+    ensures { IsTrue result → (searches : Bool) → Fits (index_in searches (out-Expr expr.now)) imports }
+{
+    match expr {
+        Expr::Variable { namespace, .. } => {
+            if is_plain(namespace) {
+                return true;
+            }
+            is_within(namespace.index, imports)
+        }
+        _ => true,
     }
 }
 
@@ -236,6 +251,10 @@ impl Host {
         new: Option<Dynamic<Pair>>,
     ) -> Answer {
         if !is_in_scope(expr, self.scope.len()) {
+            drop(new);
+            return no_part();
+        }
+        if !is_imported(expr, self.global.imports.len()) {
             drop(new);
             return no_part();
         }

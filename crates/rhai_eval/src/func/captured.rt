@@ -11,6 +11,7 @@ ghost use Rattle.rhai_steps.specs.States.{local_of, state_of};
 ghost use Rattle.rhai_eval_core.specs.States.{under as under_what_is_read};
 
 use rhai_bodies::callers::{environ_in, level_below};
+use rhai_chains::focus::put_this;
 use rhai_context::Context;
 use rhai_context::ends::finish;
 use rhai_errors::error::EvalAltResult;
@@ -21,7 +22,6 @@ use rhai_functions::function::Function;
 use rhai_steps::values::unit_value;
 use rhai_tree::position::Position;
 use rhai_values::base::value::{Dynamic, Host};
-use rhai_walk::focus::put_this;
 use std::mem::replace;
 
 /// Enters a function of a script on the run's variables, with a place of the caller as its `this`. What it

@@ -16,15 +16,15 @@ ghost use Rattle.rhai_eval_core.specs.States.{under};
 
 use crate::evaluator::Evaluator;
 use rhai_chains::chain::NewValue;
+use rhai_chains::roots::{
+    give_this, give_variable, leave_temporary, lend_this, lend_variable, take_flat,
+};
 use rhai_context::Context;
 use rhai_errors::table::NativeTable;
 use rhai_steps::variables::Variable;
 use rhai_tree::expr::Expr;
 use rhai_tree::position::Position;
 use rhai_values::base::value::{Dynamic, Host};
-use rhai_walk::roots::{
-    give_this, give_variable, leave_temporary, lend_this, lend_variable, take_flat,
-};
 
 impl<'e, H: Host> Evaluator<'e, H> {
     /// Walks a chain from a variable, which is charged already, its arguments there. The value of an entry is

@@ -21,12 +21,12 @@ mod spots;
 use crate::evaluator::Evaluator;
 use rhai_chains::chain::NewValue;
 use rhai_chains::links::link_of;
+use rhai_chains::ways::{Begun, begin_link};
 use rhai_context::Context;
 use rhai_context::ends::settle_changed;
 use rhai_errors::table::NativeTable;
 use rhai_tree::expr::Expr;
 use rhai_values::base::value::{Dynamic, Host};
-use rhai_walk::ways::{Begun, begin_link};
 
 impl<'e, H: Host> Evaluator<'e, H> {
     /// Walks what is left of a chain. What it came to stands in the run.

@@ -14,12 +14,12 @@ ghost use Rattle.rhai_eval_steps.specs.States.{state_in};
 ghost use Rattle.rhai_eval_core.specs.States.{under};
 
 use crate::evaluator::Evaluator;
-use rhai_catches::leaving::{break_with, leave_with};
 use rhai_context::Context;
 use rhai_context::ends::{put_unit, settle_turn};
 use rhai_context::outcomes::{BodyWay, body_way, charge, flatten_at, turn_end};
 use rhai_errors::table::NativeTable;
 use rhai_steps::loops::{do_next, is_endless};
+use rhai_stmt::leaving::{break_with, leave_with};
 use rhai_tree::expr::{Expr, StmtBlock};
 use rhai_tree::flags::ASTFlags;
 use rhai_tree::position::Position;

@@ -11,11 +11,11 @@ ghost use Rattle.rhai_eval_steps.specs.States.{state_in};
 ghost use Rattle.rhai_eval_core.specs.States.{under};
 
 use crate::evaluator::Evaluator;
-use rhai_choices::{candidates_for, default_result, written_truth};
 use rhai_context::Context;
 use rhai_context::ends::put_unit;
 use rhai_context::outcomes::flatten_at;
 use rhai_errors::table::NativeTable;
+use rhai_stmt::choices::{candidates_for, default_result, written_truth};
 use rhai_tree::expr::{ConditionalExpr, Expr, RangeCase, SwitchCase};
 use rhai_values::base::value::Host;
 

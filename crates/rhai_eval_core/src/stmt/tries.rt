@@ -16,11 +16,11 @@ ghost use Rattle.rhai_eval_core.specs.States.{under};
 ghost use Rattle.rhai_tree.specs.Names.{naming};
 
 use crate::evaluator::Evaluator;
-use rhai_catches::branches::{bind_caught, leave_branch};
 use rhai_context::Context;
 use rhai_context::ends::{may_catch, stopped};
 use rhai_errors::error::EvalAltResult;
 use rhai_errors::table::NativeTable;
+use rhai_stmt::branches::{bind_caught, leave_branch};
 use rhai_tree::expr::{Expr, StmtBlock};
 use rhai_values::base::value::Host;
 

@@ -8,8 +8,8 @@ ghost use Rattle.rhai_machine.specs.language.Runs.{Runs, Steps};
 ghost use Rattle.rhai_machine.specs.language.Walks.{counters};
 ghost use Rattle.rhai_steps.specs.Agreement.{above};
 ghost use Rattle.rhai_steps.specs.Loops.{after_turn};
-ghost use Rattle.rhai_walks.specs.TurnsLeft.{turns_in};
-ghost use Rattle.rhai_walks.specs.Loops.{loop_in};
+ghost use Rattle.rhai_stmt.specs.TurnsLeft.{turns_in};
+ghost use Rattle.rhai_stmt.specs.Loops.{loop_in};
 ghost use Rattle.rhai_context.specs.Ends.{came, came_turn};
 ghost use Rattle.rhai_eval_steps.specs.Agreement.{KeepsNames, RestoresNames, SuitsNames};
 ghost use Rattle.rhai_eval_steps.specs.States.{names, state_in};
@@ -22,11 +22,11 @@ use rhai_context::ends::put_unit;
 use rhai_context::outcomes::{charge, flatten_at, turn_end};
 use rhai_errors::table::NativeTable;
 use rhai_steps::values::let_go;
+use rhai_stmt::entering::enter_turn;
+use rhai_stmt::parts::{ForParts, has_room, start_turns};
+use rhai_stmt::turns::{Turns, next_number};
 use rhai_tree::expr::{Expr, Ident, StmtBlock};
 use rhai_values::base::value::Host;
-use rhai_walks::entering::enter_turn;
-use rhai_walks::parts::{ForParts, has_room, start_turns};
-use rhai_walks::turns::{Turns, next_number};
 
 impl<'e, H: Host> Evaluator<'e, H> {
     /// Runs a `for`, turn by turn. How it ended stands in the run. Its variables are gone on every way out.

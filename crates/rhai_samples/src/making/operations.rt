@@ -21,8 +21,8 @@ impl Making {
                 let items = self.ones(count, at_item);
                 self.push_expr(Expr::Array(items, at_column(column)));
             }
-            Part::Map(names, column) => self.add_map(names, names, column),
-            Part::MapLike(key, names, column) => self.add_map(names, &[key], column),
+            Part::Map(names, column) => self.add_map(names, column),
+            Part::MapLike(key, names, column) => self.add_map_like(key, names, column),
             Part::And(column) => {
                 let operands = self.exprs(2);
                 self.push_expr(Expr::And(operands, at_column(column)));
@@ -97,14 +97,30 @@ impl Making {
         }
     }
 
-    /// Adds a map with a value for each of its names, and a template with these keys.
-    fn add_map(&mut self, names: &[&str], keys: &[&str], column: u16) {
+    /// Adds a map with a value for each of its names.
+    fn add_map(&mut self, names: &[&str], column: u16) {
         let mut template = Table::new(self.memory.allocator());
-        for key in keys {
-            if let Some(key) = self.memory.shared(key) {
-                self.memory.remember(template.insert(key, Literal::Unit));
-            }
+        for name in names.iter().rev() {
+            self.add_key(&mut template, name);
         }
+        self.push_map(names, template, column);
+    }
+
+    /// Adds a map with a value for each of its names, and a template with another key alone.
+    fn add_map_like(&mut self, key: &str, names: &[&str], column: u16) {
+        let mut template = Table::new(self.memory.allocator());
+        self.add_key(&mut template, key);
+        self.push_map(names, template, column);
+    }
+
+    fn add_key(&mut self, template: &mut Table<Literal>, key: &str) {
+        if let Some(key) = self.memory.shared(key) {
+            self.memory.remember(template.insert(key, Literal::Unit));
+        }
+    }
+
+    /// Adds a map with a value for each of its names, and with a template.
+    fn push_map(&mut self, names: &[&str], template: Table<Literal>, column: u16) {
         let mut entries = self.memory.no_items();
         for name in names.iter().rev() {
             if let Some(key) = self.memory.shared(name) {

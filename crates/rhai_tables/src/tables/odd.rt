@@ -152,10 +152,10 @@ impl Odd {
             (odd.kept_of self.new.kept) }
     {
         match (native, rest) {
-            (Some(OddNative::Fail), []) => fail(self.alloc, first),
-            (Some(OddNative::Leave), []) => leave(self.alloc, first),
+            (Some(OddNative::Fail), []) => self.fail(first),
+            (Some(OddNative::Leave), []) => self.leave(first),
             (Some(OddNative::Keep), []) => self.keep(first),
-            (Some(OddNative::Sum), [other]) => sum(first, other),
+            (Some(OddNative::Sum), [other]) => self.sum(first, other),
             _ => answer_no_native(first),
         }
     }
@@ -167,6 +167,53 @@ impl Odd {
     {
         match (native, rest) {
             (Some(OddNative::Give), []) => self.give(),
+            _ => Answer::Missing,
+        }
+    }
+
+    /// Adds one to an integer, of which the greatest stays, and fails.
+    fn fail(&self, first: &mut Dynamic<Pair>) -> Answer<Pair>
+        ensures { odd.Does
+            (odd.failed first.old (odd.kept_of self.now.kept) (int_in first.old.value))
+            (Some first.old) (odd.kept_of self.now.kept) (reply_of result) (Some first.new)
+            (odd.kept_of self.now.kept) }
+    {
+        let Some(number) = int_of(first) else {
+            return Answer::Missing;
+        };
+        match Boxed::new(self.alloc, Dynamic::new(Union::Unit)) {
+            Ok(value) => {
+                first.value = Union::Int(one_more(number));
+                Answer::Fault(EvalAltResult::ErrorRuntime(value, Position::NONE))
+            }
+            Err(_) => Answer::NoMemory,
+        }
+    }
+
+    /// Ends the script with a copy of a value.
+    fn leave(&self, first: &mut Dynamic<Pair>) -> Answer<Pair>
+        ensures { odd.Does (odd.left first.old (odd.kept_of self.now.kept)) (Some first.old)
+            (odd.kept_of self.now.kept) (reply_of result) (Some first.new) (odd.kept_of self.now.kept) }
+    {
+        let Ok(value) = first.try_clone(self.alloc) else {
+            return Answer::NoMemory;
+        };
+        match Boxed::new(self.alloc, value) {
+            Ok(value) => Answer::Fault(EvalAltResult::Exit(value, Position::NONE)),
+            Err(_) => Answer::NoMemory,
+        }
+    }
+
+    /// Answers 0 for two integers.
+    fn sum(&self, first: &mut Dynamic<Pair>, other: &Dynamic<Pair>) -> Answer<Pair>
+        ensures { odd.Does
+            (odd.on_two_integers first.old (odd.kept_of self.now.kept) (int_in first.old.value)
+            (int_in other.now.value))
+            (Some first.old) (odd.kept_of self.now.kept) (reply_of result) (Some first.new)
+            (odd.kept_of self.now.kept) }
+    {
+        match (int_of(first), int_of(other)) {
+            (Some(_), Some(_)) => Answer::Value(Dynamic::new(Union::Int(0))),
             _ => Answer::Missing,
         }
     }
@@ -220,54 +267,11 @@ fn int_of(value: &Dynamic<Pair>) -> Option<i64>
     }
 }
 
-/// Adds one to an integer, of which the greatest stays, and fails.
-fn fail(alloc: Global, first: &mut Dynamic<Pair>) -> Answer<Pair>
-    ensures { (s : _) → odd.Does (odd.failed first.old s (int_in first.old.value)) (Some first.old) s
-        (reply_of result) (Some first.new) s }
-{
-    let Some(number) = int_of(first) else {
-        return Answer::Missing;
-    };
-    match Boxed::new(alloc, Dynamic::new(Union::Unit)) {
-        Ok(value) => {
-            first.value = Union::Int(one_more(number));
-            Answer::Fault(EvalAltResult::ErrorRuntime(value, Position::NONE))
-        }
-        Err(_) => Answer::NoMemory,
-    }
-}
-
 fn one_more(number: i64) -> i64
     ensures { result ≡ odd.one_more number }
 {
     match number.checked_add(1) {
         Some(more) => more,
         None => number,
-    }
-}
-
-/// Ends the script with a copy of a value.
-fn leave(alloc: Global, first: &mut Dynamic<Pair>) -> Answer<Pair>
-    ensures { (s : _) → odd.Does (odd.left first.old s) (Some first.old) s
-        (reply_of result) (Some first.new) s }
-{
-    let Ok(value) = first.try_clone(alloc) else {
-        return Answer::NoMemory;
-    };
-    match Boxed::new(alloc, value) {
-        Ok(value) => Answer::Fault(EvalAltResult::Exit(value, Position::NONE)),
-        Err(_) => Answer::NoMemory,
-    }
-}
-
-/// Answers 0 for two integers.
-fn sum(first: &mut Dynamic<Pair>, other: &Dynamic<Pair>) -> Answer<Pair>
-    ensures { (s : _) → odd.Does
-        (odd.on_two_integers first.old s (int_in first.old.value) (int_in other.now.value))
-        (Some first.old) s (reply_of result) (Some first.new) s }
-{
-    match (int_of(first), int_of(other)) {
-        (Some(_), Some(_)) => Answer::Value(Dynamic::new(Union::Int(0))),
-        _ => Answer::Missing,
     }
 }

@@ -21,6 +21,7 @@ use rhai_tables::tables::bench::BenchTable;
 use std::alloc::Global;
 use std::io;
 use std::io::Write;
+use std::mem::replace;
 
 /// A script with its row or list and its number there, and a way to run it.
 #[derive(Clone, Copy)]
@@ -33,9 +34,10 @@ pub struct Part<'a> {
 
 /// What a run came to.
 pub struct Report {
-    /// The line of its ending.
+    /// The line of its ending, and how many operations were counted.
     pub line: Vec<u8>,
-    pub num_operations: u64,
+    /// The same of a second run of the script over the state that was left, None where the checker refused it.
+    pub again: Option<Vec<u8>>,
     /// What the natives have counted.
     pub counter: i64,
     /// The names of the variables that it left, one a line.
@@ -52,7 +54,7 @@ impl Drop for Report {
     fn drop(self) {
         let Report {
             line: _,
-            num_operations: _,
+            again: _,
             counter: _,
             names: _,
             imports: _,
@@ -82,7 +84,7 @@ impl Part<'_> {
         if script.settings.start.set(&mut run.global).is_err() {
             return Ok(None);
         }
-        run.report::<R>(alloc, script)
+        run.report::<R>(alloc, self.list, script)
     }
 }
 
@@ -107,34 +109,37 @@ impl Drop for Run {
 }
 
 impl Run {
-    /// Checks and runs a script, sees to what holds then, and runs another over what is left. None where the
+    /// Checks and runs a script, sees to what holds then, and runs another and itself over what is left. None where the
     /// library of its functions or its engine could not be made.
-    fn report<R: Runner>(mut self, alloc: Global, script: Script) -> io::Result<Option<Report>> {
+    fn report<R: Runner>(
+        mut self,
+        alloc: Global,
+        list: &str,
+        script: Script,
+    ) -> io::Result<Option<Report>> {
         let Script {
             statements,
             functions,
             settings,
         } = script;
         let variables = self.scope.len();
-        let (ending, is_restored) = match check_tree(alloc, statements, functions) {
-            Err(fault) => (Ending::Refused(fault), true),
+        let (tree, ending, is_restored) = match check_tree(alloc, statements, functions) {
+            Err(fault) => (None, Ending::Refused(fault), true),
             Ok(tree) => {
                 if add_library(alloc, &mut self.global, &tree).is_err() {
                     return Ok(None);
                 }
                 match self.run_tree::<R>(alloc, settings, &tree) {
-                    Some(ended) => ended,
+                    Some((ending, is_restored)) => (Some(tree), ending, is_restored),
                     None => return Ok(None),
                 }
             }
         };
         // What is asked for from here on is granted.
         refuser::end(alloc);
-        let mut line = Vec::new(alloc);
-        write_ending(alloc, &ending, &mut line)?;
+        let line = self.line_of(alloc, &ending)?;
         let has_run_out = found_no_memory(&ending);
         drop(ending);
-        let num_operations = self.global.num_operations;
         let counter = self.table.count();
         let names = names_of(alloc, &self.scope)?;
         let imports = imports_of(alloc, &self.global)?;
@@ -143,9 +148,14 @@ impl Run {
         } else {
             Some("libraries or levels are not what they were")
         };
+        let again = match &tree {
+            Some(tree) => self.again::<R>(alloc, list, settings, tree)?,
+            None => None,
+        };
+        drop(tree);
         Ok(Some(Report {
             line,
-            num_operations,
+            again,
             counter,
             names,
             imports,
@@ -208,11 +218,44 @@ impl Run {
             Some("there are more imports than were loaded")
         } else if is_any_held(&self.global.cells) != settings.start.has_held_cell {
             Some("a cell is held, or one is held no more")
+        } else if self.global.fits(&self.scope) == settings.start.has_held_cell {
+            Some("state and scope do not fit together, or do with a cell that is held")
         } else if self.sum::<R>(alloc) != Some(42) {
             Some("40 + 2 is not 42 any more")
         } else {
             None
         }
+    }
+
+    /// Runs a script again over the state that is left, with all memory granted. Its variables and natives are new, and
+    /// what counts against a limit begins as before the first run. None where it could not be made.
+    fn again<R: Runner>(
+        &mut self,
+        alloc: Global,
+        list: &str,
+        settings: Settings,
+        tree: &CheckedTree,
+    ) -> io::Result<Option<Vec<u8>>> {
+        let Ok(scope) = scope_for(alloc, list) else {
+            return Ok(None);
+        };
+        let table = BenchTable::new(alloc, settings.has_odd_natives);
+        drop(replace(&mut self.scope, scope));
+        drop(replace(&mut self.table, table));
+        self.global.num_operations = settings.start.num_operations;
+        self.global.num_modules_loaded = settings.start.num_modules_loaded;
+        match self.run_tree::<R>(alloc, settings, tree) {
+            Some((ending, _)) => Ok(Some(self.line_of(alloc, &ending)?)),
+            None => Ok(None),
+        }
+    }
+
+    /// Writes the line of an ending, and how many operations are counted.
+    fn line_of(&self, alloc: Global, ending: &Ending) -> io::Result<Vec<u8>> {
+        let mut line = Vec::new(alloc);
+        write_ending(alloc, ending, &mut line)?;
+        write!(&mut line, ", {} operations", self.global.num_operations)?;
+        Ok(line)
     }
 
     /// Tells whether a run that began with so many variables left a trace of what is charged.

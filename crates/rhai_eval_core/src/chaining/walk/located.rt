@@ -11,19 +11,19 @@ ghost use Rattle.rhai_steps.specs.OnFocus.{lending};
 ghost use Rattle.rhai_steps.specs.Follows.{Follows};
 ghost use Rattle.rhai_chains.specs.Chains.{chain_at};
 ghost use Rattle.rhai_chains.specs.Chains.{link_seen};
-ghost use Rattle.rhai_walk.specs.Walking.{entered_core, IsFree};
-ghost use Rattle.rhai_walk.specs.Walking.{LinkWalks};
+ghost use Rattle.rhai_chains.specs.Walking.{entered_core, IsFree};
+ghost use Rattle.rhai_chains.specs.Walking.{LinkWalks};
 
 use crate::evaluator::Evaluator;
+use rhai_chains::calls::asked_by;
 use rhai_chains::chain::NewValue;
 use rhai_chains::links::{Link, LinkForm};
 use rhai_chains::members::{Member, MemberAccess};
+use rhai_chains::ways::{is_indexed, is_map, item_access, key_for, step_in, step_out, was_handle};
 use rhai_context::Context;
 use rhai_errors::table::NativeTable;
 use rhai_tree::expr::Expr;
 use rhai_values::base::value::{Dynamic, Host};
-use rhai_walk::calls::asked_by;
-use rhai_walk::ways::{is_indexed, is_map, item_access, key_for, step_in, step_out, was_handle};
 
 impl<'e, H: Host> Evaluator<'e, H> {
     /// Works on the focus by an index, a property or a method. An index or a property leads to what stands in

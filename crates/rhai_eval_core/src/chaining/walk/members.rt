@@ -18,15 +18,15 @@ ghost use Rattle.rhai_chains.specs.Members.{access_of};
 
 use crate::evaluator::Evaluator;
 use rhai_chains::chain::NewValue;
+use rhai_chains::ends::end_member;
 use rhai_chains::links::Link;
 use rhai_chains::members::MemberAccess;
+use rhai_chains::temporaries::{come_back, get_kept, is_property};
+use rhai_chains::walker::Walker;
 use rhai_context::Context;
 use rhai_errors::table::NativeTable;
 use rhai_tree::expr::Expr;
 use rhai_values::base::value::{Dynamic, Host};
-use rhai_walk::Walker;
-use rhai_walk::ends::end_member;
-use rhai_walk::temporaries::{come_back, get_kept, is_property};
 
 impl<'e, H: Host> Evaluator<'e, H> {
     /// Walks on a member of the focus: the chain ends in it, or goes on from its value. Where that may have

@@ -10,7 +10,7 @@ ghost use Rattle.rhai_eval_core.specs.States.{under};
 ghost use Rattle.rhai_steps.specs.Agreement.{KeepsSight};
 ghost use Rattle.rhai_steps.specs.States.{state_of};
 ghost use Rattle.rhai_chains.specs.Chains.{BehindWalks, chain_at, form_seen};
-ghost use Rattle.rhai_walk.specs.Walking.{behind_value};
+ghost use Rattle.rhai_chains.specs.Walking.{behind_value};
 
 use crate::evaluator::Evaluator;
 use rhai_chains::chain::NewValue;

@@ -19,8 +19,13 @@ ghost use Rattle.rhai_chains.specs.Chains.{BehindWalks, chain_at, form_seen};
 ghost use Rattle.rhai_chains.specs.Chains.{link_seen, new_of, Walks};
 
 use crate::evaluator::Evaluator;
+use rhai_chains::calls::{asked_by, put_back, read_part_for};
 use rhai_chains::chain::NewValue;
+use rhai_chains::ends::end_at;
 use rhai_chains::links::Link;
+use rhai_chains::temporaries::{access_back, come_back};
+use rhai_chains::walker::Walker;
+use rhai_chains::ways::{Descent, find_down, method_in};
 use rhai_context::Context;
 use rhai_errors::table::NativeTable;
 use rhai_places::place::place_mut;
@@ -28,11 +33,6 @@ use rhai_spots::spot::Spot;
 use rhai_steps::values::unit_value;
 use rhai_tree::expr::Expr;
 use rhai_values::base::value::{Dynamic, Host};
-use rhai_walk::Walker;
-use rhai_walk::calls::{asked_by, put_back, read_part_for};
-use rhai_walk::ends::end_at;
-use rhai_walk::temporaries::{access_back, come_back};
-use rhai_walk::ways::{Descent, find_down, method_in};
 
 impl<'e, H: Host> Evaluator<'e, H> {
     /// Walks on what an index or a key leads to: the chain ends in it, or goes on there. A place is lent to

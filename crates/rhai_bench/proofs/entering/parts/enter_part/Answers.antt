@@ -2,7 +2,7 @@ use Rattle.std.proofs.Common.{refl}
 use Rattle.rhai_tree.specs.declared.expr.Expr.TheOpen as layer
 use Rattle.rhai_tree.specs.declared.expr.Stmt.TheVariants as stmts
 use Rattle.rhai_steps.proofs.Agreeing.{brings}
-use Rattle.rhai_assign_stmt.proofs.Alone.{sides_resolve}
+use Rattle.rhai_fast_assign.proofs.Alone.{sides_resolve}
 use Rattle.rhai_eval_steps.proofs.NameLemmas.{stmt_suits}
 use Rattle.rhai_bench.proofs.EnteringLemmas.{block_runs}
 use Rattle.rhai_bench.proofs.entering.parts.enter_part.Goals as goal

@@ -24,8 +24,8 @@ returns-in_err-value-clause-missed g c =
     (out-Expr c.args.expr.now) c.from_residual.result _ (c.is_behind_path.ensures.behind c.if-is_behind_path.true)
     (passed c.from_residual.result c.from_residual.ensures) (rw (ap globals_of c.session.ensures.offer) at c.in_err-value.ensures)
 
-pub value_behind-value-requires : goal.value_behind-value-requires
-value_behind-value-requires g c = record {
+pub value_behind-requires : goal.value_behind-requires
+value_behind-requires g c = record {
   variable = c.requires.variable;
   behind = c.is_behind_path.ensures.behind c.if-is_behind_path.true;
   fits = c.requires.index;

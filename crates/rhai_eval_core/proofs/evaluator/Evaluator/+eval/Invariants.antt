@@ -21,9 +21,9 @@ use Rattle.rhai_machine.specs.language.Language.{machine}
 use Rattle.rhai_machine.specs.language.Setting.{cut}
 use Rattle.rhai_tree.specs.declared.expr.Expr.TheOpen as layer
 use Rattle.rhai_tree.specs.declared.position.Position.{Position}
-use Rattle.rhai_choices.specs.Candidates.{numbers_left}
-use Rattle.rhai_walks.specs.TurnsLeft.{turns_in}
-use Rattle.rhai_walks.specs.Loops.{loop_in}
+use Rattle.rhai_stmt.specs.Candidates.{numbers_left}
+use Rattle.rhai_stmt.specs.TurnsLeft.{turns_in}
+use Rattle.rhai_stmt.specs.Loops.{loop_in}
 use Rattle.rhai_data.specs.Arrays.{IsMeasured}
 use Rattle.rhai_data.specs.Maps.{IsCounted}
 use Rattle.rhai_context.specs.declared.Context.{Context}

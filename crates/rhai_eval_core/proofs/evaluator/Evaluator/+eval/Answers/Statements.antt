@@ -23,8 +23,8 @@ use Rattle.rhai_eval_steps.specs.States.{names, state_in}
 use Rattle.rhai_eval_core.specs.States.{under}
 use Rattle.rhai_operands.specs.Tests.{Tests}
 use Rattle.rhai_operands.proofs.Names.{both, good_target}
-use Rattle.rhai_assign_stmt.proofs.Alone.{sides_resolve}
-use Rattle.rhai_assign_stmt.proofs.Prepared.{begins_assignment}
+use Rattle.rhai_fast_assign.proofs.Alone.{sides_resolve}
+use Rattle.rhai_fast_assign.proofs.Prepared.{begins_assignment}
 use Rattle.rhai_tree.proofs.Links.{few_in_target}
 use Rattle.rhai_eval_steps.proofs.Conditions.{chooses}
 use Rattle.rhai_eval_steps.proofs.ImportSteps.{begins_path, imports, not_imported}

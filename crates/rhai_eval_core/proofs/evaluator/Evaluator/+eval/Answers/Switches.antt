@@ -1,7 +1,7 @@
 use Rattle.std.proofs.Common.{◌≡◌, ◌≤◌, ◌∷◌, ◌∙◌, List, None, Option, Some, arith, refl, sym}
 use Rattle.rhai_machine.specs.machine.Point.{after}
 use Rattle.rhai_machine.specs.machine.Memory.{here, next, ◌⨾◌, Leads}
-use Rattle.rhai_choices.specs.Candidates.{numbers_left}
+use Rattle.rhai_stmt.specs.Candidates.{numbers_left}
 use Rattle.rhai_machine.specs.language.Cases.{Cases, default_of, results_of}
 use Rattle.rhai_machine.specs.language.Choices.{met_core}
 use Rattle.rhai_machine.specs.language.Frames.{Choose, Frame, SwitchValue}

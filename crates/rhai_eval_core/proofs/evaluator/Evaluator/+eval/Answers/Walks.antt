@@ -10,9 +10,9 @@ use Rattle.rhai_machine.specs.language.Frames.{ForBody, ForItems, RestoreScope}
 use Rattle.rhai_machine.specs.language.Runs.{Goes}
 use Rattle.rhai_laws.proofs.KeptLaws.{counted}
 use Rattle.rhai_steps.specs.States.{holding}
-use Rattle.rhai_walks.specs.TurnsLeft.{turns_in}
-use Rattle.rhai_walks.specs.Loops.{loop_in}
-use Rattle.rhai_walks.specs.declared.parts.ForParts.{ForParts}
+use Rattle.rhai_stmt.specs.TurnsLeft.{turns_in}
+use Rattle.rhai_stmt.specs.Loops.{loop_in}
+use Rattle.rhai_stmt.specs.declared.parts.ForParts.{ForParts}
 use Rattle.rhai_context.specs.Ends.{came}
 use Rattle.rhai_steps.proofs.Agreeing.{behind, leads_by, leads_then, put_back, same, changed}
 use Rattle.rhai_eval_steps.specs.Agreement.{ChangesNames, KeepsNames, RestoresNames, SuitsNames}

@@ -1,4 +1,0 @@
-pub mod Alone
-pub mod Prepared
-pub mod Integers
-pub mod Stored

@@ -1,5 +1,0 @@
-use Rattle.rhai_assign_stmt.proofs.left.assign_from_run.Goals as goal
-
-pub returns-clause-runs : goal.returns-clause-runs
-returns-clause-runs g c held =
-    rw c.settle.ensures ((rw c.take_value-value.ensures.taken at c.assign_variable-answer.ensures.runs) held)

@@ -1,2 +1,0 @@
-pub mod Assignments
-pub mod InPlace

@@ -1,2 +1,0 @@
-pub mod Branches
-pub mod Leaving

@@ -1,0 +1,3 @@
+pub mod Callees
+pub mod Filling
+pub mod AtOnce

@@ -1,4 +1,0 @@
-pub mod Parts
-pub mod Index
-pub mod Item
-pub mod Path

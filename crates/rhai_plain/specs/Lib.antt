@@ -1,2 +1,0 @@
-pub mod Callees
-pub mod Filling

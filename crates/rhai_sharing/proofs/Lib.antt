@@ -1,4 +1,0 @@
-mod ExportSteps
-mod Cells
-mod Steps
-mod Declared

@@ -1,0 +1,10 @@
+pub mod Candidates
+pub mod Branches
+pub mod Leaving
+pub mod Cursors
+pub mod Items
+pub mod TurnsLeft
+pub mod Variables
+pub mod Loops
+pub mod Declares
+pub mod Imports

@@ -1,0 +1,4 @@
+pub mod Checks
+pub mod Replies
+pub mod Ends
+pub mod Responses

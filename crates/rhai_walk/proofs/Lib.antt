@@ -1,9 +1,0 @@
-pub mod Beginning
-mod Below
-pub mod Descending
-pub mod Entering
-mod GivenAtOnce
-pub mod Inside
-pub mod PartCalls
-pub mod OnTemporaries
-pub mod Walked

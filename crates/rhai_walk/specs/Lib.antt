@@ -1,3 +1,0 @@
-pub mod Walking
-pub mod Given
-pub mod Roots

@@ -1,4 +1,0 @@
-mod CellLemmas
-mod ItemLemmas
-mod Plain
-mod TurnLemmas

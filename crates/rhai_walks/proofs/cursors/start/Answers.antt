@@ -1,5 +1,0 @@
-use Rattle.std.proofs.lemmas.Str.{IsCharBoundary-start}
-use Rattle.rhai_walks.proofs.cursors.start.Goals as goal
-
-pub returns-clause-boundary : goal.returns-clause-boundary
-returns-clause-boundary c = IsCharBoundary-start c.args.text.now c.utf8.text

@@ -1,5 +1,0 @@
-pub mod Cursors
-pub mod Items
-pub mod TurnsLeft
-pub mod Variables
-pub mod Loops
