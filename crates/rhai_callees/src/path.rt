@@ -346,8 +346,8 @@ fn public_function<H: Host>(
     pos: Position,
 ) -> Result<Function<H>, EvalAltResult<H>>
     requires { RootStands global.now namespace.now }
-    ensures { Answers result (public_for (globals_in session.now.offered) (surroundings_of global.now) H.name_of
-        (path_of namespace.now) name.now pos args.now) }
+    ensures { Answers result (public_for (globals_in session.now.offered) (surroundings_of global.now)
+        H.name_of (path_of namespace.now) name.now pos args.now) }
 {
     if is_plain(namespace) {
         let path = namespace.path.as_slice();

@@ -148,7 +148,8 @@ fn insert_unit<H: Host>(
     key: &Shared<Text>,
 ) -> Result<usize, AllocError>
     requires { place_of key.now (paired entries.old).0 ≡ None }
-    ensures ok { IfOk result (λ at. (at ≡ rank key.now (paired entries.old).0) × (at < length entries.new.1)) }
+    ensures ok { IfOk result (λ at. (at ≡ rank key.now (paired entries.old).0)
+        × (at < length entries.new.1)) }
     ensures entries { OnOk result (entries.new ≡ with_entry key.now (plain value.Unit) (paired entries.old)) }
     ensures err { OnErr result (entries.new ≡ entries.old) }
 {
