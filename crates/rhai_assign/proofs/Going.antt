@@ -11,7 +11,7 @@ use Rattle.rhai_values.specs.declared.cells.CellStore.{CellStore}
 use Rattle.rhai_values.specs.Cells.{cells_of}
 use Rattle.rhai_values.specs.Modes.{with_mode}
 use Rattle.rhai_state.specs.declared.scope.Scope.{Scope}
-use Rattle.rhai_state.specs.declared.state.GlobalRuntimeState.{GlobalRuntimeState}
+use Rattle.rhai_lookups.specs.declared.run.RunState.{RunState}
 use Rattle.rhai_errors.specs.declared.error.EvalAltResult.{EvalAltResult}
 use Rattle.rhai_errors.specs.declared.error.EvalAltResult.TheVariants as error
 use Rattle.rhai_errors.specs.Errors.{is_out_of_memory, root_name}
@@ -55,7 +55,7 @@ module _ {S H : Type 0} (rules : Rules S H) where
 
   -- what was lent from a place of the code has gone back there
   pub goes_back : (start : List (Frame H) → Local H → Core H) (place : code.Place) (v w : Dynamic H) (t called : S)
-      (old lent : GlobalRuntimeState H) (taken store : CellStore H) (before mid later : Scope H) (held : Held H)
+      (old lent : RunState H) (taken store : CellStore H) (before mid later : Scope H) (held : Held H)
       (r : Result (Dynamic H) (EvalAltResult H)) → value_standing_at place before old.cells ≡ Some v →
       entries_of mid ≡ entries_put (place_in place) unit_value (entries_of before) →
       cells_of taken ≡ while_lent (place_in place) (cells_of old.cells) → IsPut place w mid later lent.cells store →

@@ -15,7 +15,7 @@ use Rattle.rhai_values.specs.Cells.{IsHeld, cells_of, value_of_cell, with_held, 
 use Rattle.rhai_values.specs.TypeNames.{own_type_name, type_name_of, union_type_name}
 use Rattle.rhai_state.specs.declared.scope.Scope.{Scope}
 use Rattle.rhai_state.specs.declared.scope.ScopeEntry.{ScopeEntry}
-use Rattle.rhai_state.specs.declared.state.GlobalRuntimeState.{GlobalRuntimeState}
+use Rattle.rhai_lookups.specs.declared.run.RunState.{RunState}
 use Rattle.rhai_errors.specs.declared.error.EvalAltResult.{EvalAltResult}
 use Rattle.rhai_errors.specs.Native.{Natives, OfName}
 use Rattle.rhai_state.specs.Scope.{entries_of, name_of, names_in, revalued, value_of}
@@ -147,7 +147,7 @@ module _ {H : Type 0} where
       ∙ entries_same entries i (slice_get entries i) v refl there
 
   -- with its value back at its place the state is as it was
-  pub as_it_was : (place : code.Place) (v : Dynamic H) (g : GlobalRuntimeState H) (store : CellStore H) (before mid : Scope H)
+  pub as_it_was : (place : code.Place) (v : Dynamic H) (g : RunState H) (store : CellStore H) (before mid : Scope H)
       (held : Held H) → value_standing_at place before g.cells ≡ Some v →
       entries_of mid ≡ entries_put (place_in place) unit_value (entries_of before) →
       cells_of store ≡ while_lent (place_in place) (cells_of g.cells) →
@@ -175,7 +175,7 @@ module _ {H : Type 0} where
   held_still (cell ∷ cells) (suc n) zero w some held = held
   held_still (cell ∷ cells) (suc n) (suc m) w some held = held_still cells n m w some held
 
-  pub keeps_held : (old lent later : GlobalRuntimeState H) (taken store : CellStore H) (id : CellId) (v w : Dynamic H) →
+  pub keeps_held : (old lent later : RunState H) (taken store : CellStore H) (id : CellId) (v w : Dynamic H) →
       value_of_cell (cells_of old.cells) id.number ≡ Some v → cells_of taken ≡ with_held (cells_of old.cells) id.number →
       Charges (record old { cells = taken }) lent → cells_of store ≡ with_value (cells_of lent.cells) id.number w →
       later ≡ record lent { cells = store } → KeepsHeld old later

@@ -9,7 +9,7 @@ use Rattle.rhai_values.specs.declared.base.value.Union.{Union}
 use Rattle.rhai_values.specs.declared.base.value.Union.TheVariants as value
 use Rattle.rhai_state.specs.declared.scope.Scope.{Scope}
 use Rattle.rhai_values.specs.Cells.{cells_of}
-use Rattle.rhai_state.specs.declared.state.GlobalRuntimeState.{GlobalRuntimeState}
+use Rattle.rhai_lookups.specs.declared.run.RunState.{RunState}
 use Rattle.rhai_errors.specs.declared.error.EvalAltResult.{EvalAltResult}
 use Rattle.rhai_errors.specs.declared.error.EvalAltResult.TheVariants as error
 use Rattle.rhai_errors.specs.Errors.{is_out_of_memory}
@@ -63,11 +63,11 @@ module _ {S H : Type 0} (rules : Rules S H) where
   barred_in t u = is_barred_for rules.setting.host_type rules.natives t (native_of u.attempt u.operator) u.target
 
   -- the state of the machine, which has the target at its place
-  abbrev lent : Update H → S → GlobalRuntimeState H → Scope H → Held H → State S H
+  abbrev lent : Update H → S → RunState H → Scope H → Held H → State S H
   lent u t global scope held = placed u.place u.target (state_of t global scope held)
 
   -- an update that is charged
-  charges_update : (t : S) (old mid : GlobalRuntimeState H) (scope : Scope H) (held : Held H) (u : Update H) →
+  charges_update : (t : S) (old mid : RunState H) (scope : Scope H) (held : Held H) (u : Update H) →
       old.num_operations < limit_under rules → mid ≡ record old { num_operations = old.num_operations + 1 } →
       (k : List (Frame H)) →
       Leads (machine rules) (cut rules) (at (AskUpdate u) k (lent u t old scope held)) (at (QuestionUpdate u) k (lent u t mid scope held))
@@ -76,7 +76,7 @@ module _ {S H : Type 0} (rules : Rules S H) where
       (rw (lt-ltb _ _ room, counted) here)
 
   -- stands before its native, unless that is barred
-  questions_update : (t : S) (old mid : GlobalRuntimeState H) (scope : Scope H) (held : Held H) (u : Update H) (barred : Bool) →
+  questions_update : (t : S) (old mid : RunState H) (scope : Scope H) (held : Held H) (u : Update H) (barred : Bool) →
       old.num_operations < limit_under rules → mid ≡ record old { num_operations = old.num_operations + 1 } →
       IsFree u.target → barred_in t u ≡ barred →
       (k : List (Frame H)) → Leads (machine rules) (cut rules) (at (AskUpdate u) k (lent u t old scope held))
@@ -90,7 +90,7 @@ module _ {S H : Type 0} (rules : Rules S H) where
         is,
       ) here)
 
-  asks_update : (t : S) (old mid : GlobalRuntimeState H) (scope : Scope H) (held : Held H) (u : Update H) →
+  asks_update : (t : S) (old mid : RunState H) (scope : Scope H) (held : Held H) (u : Update H) →
       old.num_operations < limit_under rules → mid ≡ record old { num_operations = old.num_operations + 1 } →
       IsFree u.target → barred_in t u ≡ false → (k : List (Frame H)) →
       Leads (machine rules) (cut rules) (at (AskUpdate u) k (lent u t old scope held)) (at (FireUpdate u) k (lent u t mid scope held))
@@ -138,7 +138,7 @@ module _ {S H : Type 0} (rules : Rules S H) where
       (rw (runs_out_answered rules.setting u.attempt pos (record u { target = v }) k (put u.place v now.local), is) here)
 
   -- an update that is not charged, and one whose target is a bare handle
-  pub refuses_update : (t : S) (old new : GlobalRuntimeState H) (scope : Scope H) (held : Held H) (u : Update H)
+  pub refuses_update : (t : S) (old new : RunState H) (scope : Scope H) (held : Held H) (u : Update H)
       (x : EvalAltResult H) →
       limit_under rules ≤ old.num_operations → x ≡ error.ErrorTooManyOperations u.at → new ≡ old →
       Steps rules (AskUpdate u) (lent u t old scope held) (Fail x) (lent u t new scope held)
@@ -147,7 +147,7 @@ module _ {S H : Type 0} (rules : Rules S H) where
       step_by rules _ _ (Charge u.at (core (QuestionUpdate u) k (lent u t old scope held).local)) refl
       (rw (le-ltb _ _ full, is, same) here)
 
-  module _ (t : S) (old mid : GlobalRuntimeState H) (scope : Scope H) (held : Held H) (u : Update H)
+  module _ (t : S) (old mid : RunState H) (scope : Scope H) (held : Held H) (u : Update H)
       (room : old.num_operations < limit_under rules) (counted : mid ≡ record old { num_operations = old.num_operations + 1 })
       (free : IsFree u.target) where
     pub holds_update : (name : List ℕ) (e : EvalAltResult H) → barred_in t u ≡ false → is_handle u.target.value ≡ true →

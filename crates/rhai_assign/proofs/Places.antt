@@ -8,7 +8,7 @@ use Rattle.rhai_values.specs.declared.base.value.Dynamic.{Dynamic}
 use Rattle.rhai_state.specs.declared.scope.Scope.{Scope}
 use Rattle.rhai_state.specs.declared.scope.ScopeEntry.{ScopeEntry}
 use Rattle.rhai_values.specs.declared.cells.CellStore.{CellStore}
-use Rattle.rhai_state.specs.declared.state.GlobalRuntimeState.{GlobalRuntimeState}
+use Rattle.rhai_lookups.specs.declared.run.RunState.{RunState}
 use Rattle.rhai_values.specs.Cells.{cells_of}
 use Rattle.rhai_state.specs.Scope.{name_of, entries_of, names_in, revalued}
 use Rattle.rhai_machine.specs.language.State.{Held}
@@ -61,7 +61,7 @@ module _ {H : Type 0} where
   keeps_names place v before later old new wrote = ap (map name_of) wrote.entries ∙ names_put (place_in place) v (entries_of before)
 
   -- the state once a value is written
-  local_at : (place : code.Place) (v : Dynamic H) (g : GlobalRuntimeState H) (store : CellStore H) (before after : Scope H)
+  local_at : (place : code.Place) (v : Dynamic H) (g : RunState H) (store : CellStore H) (before after : Scope H)
       (held : Held H) →
       entries_of after ≡ entries_put (place_in place) v (entries_of before) →
       cells_of store ≡ cells_put (place_in place) v (cells_of g.cells) →
@@ -69,7 +69,7 @@ module _ {H : Type 0} where
   local_at (place.InEntry i) v g store before later held e c = rw (e, c) refl
   local_at (place.InCell n) v g store before later held e c = rw (e, c) refl
 
-  pub local_put : (place : code.Place) (v : Dynamic H) (g : GlobalRuntimeState H) (store : CellStore H) (before after : Scope H)
+  pub local_put : (place : code.Place) (v : Dynamic H) (g : RunState H) (store : CellStore H) (before after : Scope H)
       (held : Held H) →
       IsPut place v before after g.cells store →
       local_of (record g { cells = store }) after held ≡ put (place_in place) v (local_of g before held)

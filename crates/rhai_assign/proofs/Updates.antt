@@ -8,7 +8,7 @@ use Rattle.rhai_values.specs.declared.base.value.AccessMode.TheVariants.{ReadWri
 use Rattle.rhai_values.specs.declared.base.value.Dynamic.{Dynamic}
 use Rattle.rhai_values.specs.Modes.{with_mode}
 use Rattle.rhai_state.specs.declared.scope.Scope.{Scope}
-use Rattle.rhai_state.specs.declared.state.GlobalRuntimeState.{GlobalRuntimeState}
+use Rattle.rhai_lookups.specs.declared.run.RunState.{RunState}
 use Rattle.rhai_errors.specs.declared.error.EvalAltResult.{EvalAltResult}
 use Rattle.rhai_errors.specs.declared.error.EvalAltResult.TheVariants as error
 use Rattle.rhai_errors.specs.Errors.{is_out_of_memory}
@@ -208,7 +208,7 @@ module _ {S H : Type 0} (rules : Rules S H) where
   unfolding after
   store_step assignment v k now found is = next (rw is here)
 
-  module _ (t : S) (old mid : GlobalRuntimeState H) (scope : Scope H) (held : Held H) (assignment : Assignment)
+  module _ (t : S) (old mid : RunState H) (scope : Scope H) (held : Held H) (assignment : Assignment)
       (v : Dynamic H) where
     -- an assignment whose variable is not charged
     pub refuses_assignment : (x : EvalAltResult H) → limit_under rules ≤ old.num_operations →

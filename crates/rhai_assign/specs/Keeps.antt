@@ -2,10 +2,10 @@
 use Rattle.std.specs.Prelude.{◌≡◌, ◌≤◌, ℕ}
 use Rattle.rhai_values.specs.Cells.{IsHeld, cells_of}
 use Rattle.rhai_state.specs.declared.scope.Scope.{Scope}
-use Rattle.rhai_state.specs.declared.state.GlobalRuntimeState.{GlobalRuntimeState}
+use Rattle.rhai_lookups.specs.declared.run.RunState.{RunState}
 use Rattle.rhai_state.specs.Scope.{names_in}
 
-module _ {H : Type 0} (old new : GlobalRuntimeState H) where
+module _ {H : Type 0} (old new : RunState H) where
   -- the count never falls, and the scope keeps its names
   pub record Keeps (before after : Scope H) : Type 0 where
     pub counts : old.num_operations ≤ new.num_operations

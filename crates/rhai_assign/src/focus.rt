@@ -26,8 +26,8 @@ use crate::update::{assign_lent, update_by_natives};
 use rhai_errors::error::EvalAltResult;
 use rhai_errors::errors::{constant_of, data_race};
 use rhai_errors::table::NativeTable;
+use rhai_lookups::run::RunState;
 use rhai_state::session::Session;
-use rhai_state::state::GlobalRuntimeState;
 use rhai_steps::values::{let_go, unit_value};
 use rhai_tree::expr::{Expr, OpAssignment};
 use rhai_tree::position::Position;
@@ -91,7 +91,7 @@ fn focus_target<H: Host>(
 /// Assigns a value to that of a cell, which is taken from there and goes back whatever comes of it.
 pub(crate) fn assign_in_cell<H: Host, T: NativeTable<H>>(
     session: &Session<'_, H>,
-    global: &mut GlobalRuntimeState<H>,
+    global: &mut RunState<H>,
     table: &mut T,
     id: CellId,
     pos: Position,
@@ -135,7 +135,7 @@ pub(crate) fn assign_in_cell<H: Host, T: NativeTable<H>>(
 /// the target is measured at the root.
 pub fn assign_focus<H: Host, T: NativeTable<H>>(
     session: &Session<'_, H>,
-    global: &mut GlobalRuntimeState<H>,
+    global: &mut RunState<H>,
     table: &mut T,
     target: &mut Dynamic<H>,
     root: &Expr,
@@ -169,7 +169,7 @@ pub fn assign_focus<H: Host, T: NativeTable<H>>(
 /// limit; what a native left in the target is measured at the root.
 pub fn assign_inserted<H: Host, T: NativeTable<H>>(
     session: &Session<'_, H>,
-    global: &mut GlobalRuntimeState<H>,
+    global: &mut RunState<H>,
     table: &mut T,
     target: &mut Dynamic<H>,
     root: &Expr,

@@ -26,9 +26,9 @@ use crate::place::find_target;
 use crate::update::store;
 use rhai_errors::error::EvalAltResult;
 use rhai_errors::table::NativeTable;
+use rhai_lookups::run::RunState;
 use rhai_state::scope::Scope;
 use rhai_state::session::Session;
-use rhai_state::state::GlobalRuntimeState;
 use rhai_steps::charges::track_operation;
 use rhai_steps::values::let_go;
 use rhai_steps::variables::Variable;
@@ -50,7 +50,7 @@ use rhai_values::base::value::{Dynamic, Host};
 /// target is measured at the variable.
 pub fn assign_variable<H: Host, T: NativeTable<H>>(
     session: &Session<'_, H>,
-    global: &mut GlobalRuntimeState<H>,
+    global: &mut RunState<H>,
     table: &mut T,
     scope: &mut Scope<H>,
     variable: &Variable<'_>,

@@ -20,8 +20,8 @@ use crate::place::Update;
 use rhai_errors::error::EvalAltResult;
 use rhai_errors::errors::{data_race_of, non_pure_of};
 use rhai_errors::table::{Answer, NativeTable};
+use rhai_lookups::run::RunState;
 use rhai_state::session::Session;
-use rhai_state::state::GlobalRuntimeState;
 use rhai_steps::charges::track_operation;
 use rhai_steps::operation::Operation;
 use rhai_steps::replies::replied;
@@ -103,7 +103,7 @@ fn is_barred<H: Host, T: NativeTable<H>>(table: &T, name: &str, target: &Dynamic
 /// Charges an update at its operator, and calls a native on the target, unless it is barred from it.
 pub(crate) fn ask_native<H: Host, T: NativeTable<H>>(
     session: &Session<'_, H>,
-    global: &mut GlobalRuntimeState<H>,
+    global: &mut RunState<H>,
     table: &mut T,
     target: &mut Dynamic<H>,
     update: Update,

@@ -20,9 +20,9 @@ ghost use Rattle.rhai_assign.specs.Targets.{place_in, stands_at, there, value_st
 
 use rhai_errors::error::EvalAltResult;
 use rhai_errors::errors::{assignment_to_constant, data_race_of};
+use rhai_lookups::run::RunState;
 use rhai_state::scope::Scope;
 use rhai_state::session::Session;
-use rhai_state::state::GlobalRuntimeState;
 use rhai_steps::values::{let_go, unit_value};
 use rhai_steps::variables::{Variable, entry_of_variable, read_beside};
 use rhai_tree::expr::Namespace;
@@ -127,7 +127,7 @@ fn entry_target<H: Host>(
 /// Finds the place of a variable that an entry has and that may be assigned to. None for any other. It is
 /// found as `entry_of_variable` says, which asks the same of its offset.
 pub fn find_named<H: Host>(
-    global: &GlobalRuntimeState<H>,
+    global: &RunState<H>,
     scope: &Scope<H>,
     variable: &Variable<'_>,
 ) -> Option<Place>
@@ -162,7 +162,7 @@ pub fn find_named<H: Host>(
 #[inline(never)]
 fn no_target<H: Host>(
     session: &Session<'_, H>,
-    global: &GlobalRuntimeState<H>,
+    global: &RunState<H>,
     name: &Shared<Text>,
     namespace: &Namespace,
     pos: Position,
@@ -186,7 +186,7 @@ fn no_target<H: Host>(
 /// the same of its offset.
 pub(crate) fn find_target<H: Host>(
     session: &Session<'_, H>,
-    global: &GlobalRuntimeState<H>,
+    global: &RunState<H>,
     scope: &Scope<H>,
     variable: &Variable<'_>,
 ) -> Result<Place, EvalAltResult<H>>

@@ -18,8 +18,8 @@ use crate::update::assign_lent;
 use rhai_errors::error::EvalAltResult;
 use rhai_errors::errors::{data_race, nameless_constant};
 use rhai_errors::table::NativeTable;
+use rhai_lookups::run::RunState;
 use rhai_state::session::Session;
-use rhai_state::state::GlobalRuntimeState;
 use rhai_steps::values::let_go;
 use rhai_tree::expr::OpAssignment;
 use rhai_tree::position::Position;
@@ -89,7 +89,7 @@ fn this_target<H: Host>(
 /// target is measured at `this`.
 pub fn assign_this<H: Host, T: NativeTable<H>>(
     session: &Session<'_, H>,
-    global: &mut GlobalRuntimeState<H>,
+    global: &mut RunState<H>,
     table: &mut T,
     this: &mut Dynamic<H>,
     pos: Position,

@@ -23,10 +23,10 @@ use crate::write::{measure_changed, write_lent, write_value};
 use rhai_errors::error::EvalAltResult;
 use rhai_errors::errors::shared_text;
 use rhai_errors::table::{Answer, NativeTable};
+use rhai_lookups::run::RunState;
 use rhai_operators::builtin_op_assign;
 use rhai_state::scope::Scope;
 use rhai_state::session::Session;
-use rhai_state::state::GlobalRuntimeState;
 use rhai_steps::replies::position_if_none as at_call;
 use rhai_steps::values::{let_go, list_of, unit_value};
 use rhai_tree::expr::OpAssignment;
@@ -37,7 +37,7 @@ use std::mem::replace;
 /// Updates a target by the native `op`, which gives its new value.
 fn update_by_value<H: Host, T: NativeTable<H>>(
     session: &Session<'_, H>,
-    global: &mut GlobalRuntimeState<H>,
+    global: &mut RunState<H>,
     table: &mut T,
     target: &mut Dynamic<H>,
     update: Update,
@@ -67,7 +67,7 @@ fn update_by_value<H: Host, T: NativeTable<H>>(
 /// it, or else the native `op`.
 fn update_again<H: Host, T: NativeTable<H>>(
     session: &Session<'_, H>,
-    global: &mut GlobalRuntimeState<H>,
+    global: &mut RunState<H>,
     table: &mut T,
     target: &mut Dynamic<H>,
     update: Update,
@@ -95,7 +95,7 @@ fn update_again<H: Host, T: NativeTable<H>>(
 /// it.
 fn update_in_place<H: Host, T: NativeTable<H>>(
     session: &Session<'_, H>,
-    global: &mut GlobalRuntimeState<H>,
+    global: &mut RunState<H>,
     table: &mut T,
     target: &mut Dynamic<H>,
     update: Update,
@@ -130,7 +130,7 @@ fn update_in_place<H: Host, T: NativeTable<H>>(
 /// Updates a target by the natives of the operator.
 pub(crate) fn update_by_natives<H: Host, T: NativeTable<H>>(
     session: &Session<'_, H>,
-    global: &mut GlobalRuntimeState<H>,
+    global: &mut RunState<H>,
     table: &mut T,
     target: &mut Dynamic<H>,
     update: Update,
@@ -161,7 +161,7 @@ pub(crate) fn update_by_natives<H: Host, T: NativeTable<H>>(
 /// Updates a target by the built-in, or else by the natives.
 fn update_by_builtin<H: Host, T: NativeTable<H>>(
     session: &Session<'_, H>,
-    global: &mut GlobalRuntimeState<H>,
+    global: &mut RunState<H>,
     table: &mut T,
     target: &mut Dynamic<H>,
     update: Update,
@@ -189,7 +189,7 @@ fn update_by_builtin<H: Host, T: NativeTable<H>>(
 /// Updates a target that is lent. The built-in is tried first under fast operators alone.
 fn update<H: Host, T: NativeTable<H>>(
     session: &Session<'_, H>,
-    global: &mut GlobalRuntimeState<H>,
+    global: &mut RunState<H>,
     table: &mut T,
     target: &mut Dynamic<H>,
     update: Update,
@@ -216,7 +216,7 @@ fn update<H: Host, T: NativeTable<H>>(
 /// taken from is held.
 pub(crate) fn assign_lent<H: Host, T: NativeTable<H>>(
     session: &Session<'_, H>,
-    global: &mut GlobalRuntimeState<H>,
+    global: &mut RunState<H>,
     table: &mut T,
     target: &mut Dynamic<H>,
     cell: Option<CellId>,
@@ -258,7 +258,7 @@ pub(crate) fn assign_lent<H: Host, T: NativeTable<H>>(
 /// Updates the value at a place, which is taken from there and goes back whatever comes of it.
 fn update_at<H: Host, T: NativeTable<H>>(
     session: &Session<'_, H>,
-    global: &mut GlobalRuntimeState<H>,
+    global: &mut RunState<H>,
     table: &mut T,
     scope: &mut Scope<H>,
     place: Place,
@@ -285,7 +285,7 @@ fn update_at<H: Host, T: NativeTable<H>>(
 /// Assigns a value to a place that was found, as it is or by an operator.
 pub(crate) fn store<H: Host, T: NativeTable<H>>(
     session: &Session<'_, H>,
-    global: &mut GlobalRuntimeState<H>,
+    global: &mut RunState<H>,
     table: &mut T,
     scope: &mut Scope<H>,
     place: Place,

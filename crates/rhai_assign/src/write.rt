@@ -14,9 +14,9 @@ ghost use Rattle.rhai_assign.specs.Updates.{Becomes, changed_of, finished};
 use crate::place::{Place, Update, put};
 use rhai_errors::error::EvalAltResult;
 use rhai_errors::errors::data_too_large;
+use rhai_lookups::run::RunState;
 use rhai_state::scope::Scope;
 use rhai_state::session::Session;
-use rhai_state::state::GlobalRuntimeState;
 use rhai_steps::replies::{applied, sized};
 use rhai_steps::values::{let_go, unit_value};
 use rhai_tree::position::Position;
@@ -58,7 +58,7 @@ pub(crate) fn measure_changed<H: Host>(
 /// Writes what a built-in operator gave to a place, measured at the operator; an error leaves the place.
 pub fn write_outcome<H: Host>(
     session: &Session<'_, H>,
-    global: &mut GlobalRuntimeState<H>,
+    global: &mut RunState<H>,
     scope: &mut Scope<H>,
     place: Place,
     at: Position,

@@ -20,6 +20,7 @@ fn exec(
     name: &str,
     manner: Manner,
 ) -> Answer {
+    caller.caches.clear();
     Engine::new(alloc).exec_fn_call(
         alloc,
         &mut caller.global,
@@ -46,6 +47,7 @@ impl Calls for Bench {
     ) -> Result<Answer, AllocError> {
         let mut args = fours(alloc, def.def().params.len())?;
         caller.global.level = level;
+        caller.caches.clear();
         let result = Engine::new(alloc).call_script_fn(
             alloc,
             &mut caller.global,
@@ -93,6 +95,7 @@ impl Calls for Bench {
     }
 
     fn call_method(alloc: Global, caller: &mut Caller, name: &str) -> Answer {
+        caller.caches.clear();
         let mut target = Target {
             at: &mut caller.object,
             part: Part::Whole,
@@ -116,6 +119,7 @@ impl Calls for Bench {
             arity: 0,
             this_type: None,
         };
+        caller.caches.clear();
         let found = Engine::new(alloc).has_script_fn(&caller.global, &mut caller.caches, key);
         Ok((Dynamic::new(Union::Bool(found)), false))
     }

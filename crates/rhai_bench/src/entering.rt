@@ -5,7 +5,8 @@ ghost use Rattle.std.specs.Prelude.{◌≡◌, ◌∷◌, ◌<◌, IfOk, IfSome,
 ghost use Rattle.rhai_tree.specs.declared.expr.Stmt.{out-Stmt};
 ghost use Rattle.rhai_tree.specs.Frame.{all_resolve, resolves_stmt};
 ghost use Rattle.rhai_laws.specs.Kept.{is_import};
-ghost use Rattle.rhai_steps.specs.Agreement.{AgreesAt, passes};
+ghost use Rattle.rhai_steps.specs.Callers.{AgreesAt};
+ghost use Rattle.rhai_steps.specs.Agreement.{passes};
 
 mod host;
 mod parts;

@@ -5,7 +5,7 @@ use Rattle.rhai_values.specs.declared.base.value.Dynamic.{Dynamic}
 use Rattle.rhai_errors.specs.declared.error.EvalAltResult.{EvalAltResult}
 use Rattle.rhai_errors.specs.declared.error.EvalAltResult.TheVariants as error
 use Rattle.rhai_errors.specs.declared.error.FunctionCallError.{FunctionCallError, roll-FunctionCallError}
-use Rattle.rhai_state.specs.declared.state.GlobalRuntimeState.{GlobalRuntimeState}
+use Rattle.rhai_lookups.specs.declared.run.RunState.{RunState}
 use Rattle.rhai_errors.specs.Errors.{is_system}
 use Rattle.rhai_values.specs.declared.base.value.EncapsulatedEnviron.{EncapsulatedEnviron}
 use Rattle.rhai_machine.specs.language.Activations as machine
@@ -14,10 +14,9 @@ use Rattle.rhai_bodies.specs.declared.opening.CallExit.{CallExit}
 
 module _ {H : Type 0} where
   -- libraries and imports are cut to their lengths of before the call, and the constants and the level are those of then
-  abbrev pub taken_back : CallExit → GlobalRuntimeState H → GlobalRuntimeState H
+  abbrev pub taken_back : CallExit → RunState H → RunState H
   taken_back exit global = record global {
-    lib = take exit.lib_length global.lib;
-    imports = take exit.imports_length global.imports;
+    lists = (take exit.lib_length global.lists.0, take exit.imports_length global.lists.1);
     constants = exit.constants;
     level = exit.level;
   }

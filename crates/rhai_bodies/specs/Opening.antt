@@ -5,7 +5,7 @@ use Rattle.rhai_errors.specs.declared.error.EvalAltResult.{EvalAltResult}
 use Rattle.rhai_errors.specs.declared.error.EvalAltResult.TheVariants as error
 use Rattle.rhai_state.specs.declared.limits.Limits.{Limits}
 use Rattle.rhai_state.specs.declared.scope.Scope.{Scope}
-use Rattle.rhai_state.specs.declared.state.GlobalRuntimeState.{GlobalRuntimeState}
+use Rattle.rhai_lookups.specs.declared.run.RunState.{RunState}
 use Rattle.rhai_state.specs.Scope.{entries_of}
 use Rattle.rhai_values.specs.declared.base.value.EncapsulatedEnviron.{EncapsulatedEnviron, out-EncapsulatedEnviron}
 use Rattle.rhai_bodies.specs.declared.opening.CallExit.{CallExit}
@@ -30,24 +30,24 @@ module _ {H : Type 0} where
   entry limits level variables parameters at = enterable (is_deep limits level) (is_full limits variables parameters) at
 
   -- what the end of a call takes back of a state and a scope
-  abbrev pub exit_seen : GlobalRuntimeState H → Scope H → CallExit
+  abbrev pub exit_seen : RunState H → Scope H → CallExit
   exit_seen global scope = record {
     scope_length = length (entries_of scope);
-    lib_length = length global.lib;
-    imports_length = length global.imports;
+    lib_length = length global.lists.0;
+    imports_length = length global.lists.1;
     constants = global.constants;
     level = global.level;
   }
 
   -- a state with what an environment brings: its libraries and imports behind those that are there, and its constants
-  abbrev pub brought : Option (EncapsulatedEnviron H) → GlobalRuntimeState H → GlobalRuntimeState H
+  abbrev pub brought : Option (EncapsulatedEnviron H) → RunState H → RunState H
   brought None global = global
   brought (Some environ) global =
       let e = out-EncapsulatedEnviron H environ in
-      record global { lib = global.lib ++ e.lib; imports = global.imports ++ e.imports; constants = e.constants }
+      record global { lists = (global.lists.0 ++ e.lib, global.lists.1 ++ e.imports); constants = e.constants }
 
   -- the state that a body runs in, at a level
-  abbrev pub entered_global : Option (EncapsulatedEnviron H) → (level : ℕ) → GlobalRuntimeState H → GlobalRuntimeState H
+  abbrev pub entered_global : Option (EncapsulatedEnviron H) → (level : ℕ) → RunState H → RunState H
   entered_global environ level global = record (brought environ global) { level = level }
 
 -- a claim that is made only where a body was entered

@@ -12,10 +12,10 @@ ghost use Rattle.rhai_machine.specs.language.State.{Answers};
 ghost use Rattle.rhai_context.specs.Ends.{came, error_in};
 ghost use Rattle.rhai_bodies.specs.Closing.{is_wrapped, outcome_of, source_under, taken_back, wrapped, Ends};
 
-use crate::opening::{CallExit, take_back};
+use crate::opening::{CallExit, leave_surroundings};
 use rhai_context::ends::{settle, stopped};
 use rhai_errors::error::{EvalAltResult, FunctionCallError, WayOut};
-use rhai_state::state::GlobalRuntimeState;
+use rhai_lookups::run::RunState;
 use rhai_tree::function::ScriptFuncDef;
 use rhai_tree::position::Position;
 use rhai_tree::{Boxed, Shared, Text};
@@ -37,7 +37,7 @@ fn library_name<H: Host>(environ: Option<&EncapsulatedEnviron<H>>) -> Option<&Sh
 /// nowhere.
 fn source_of<H: Host>(
     alloc: Global,
-    global: &GlobalRuntimeState<H>,
+    global: &RunState<H>,
     environ: Option<&EncapsulatedEnviron<H>>,
 ) -> Result<Shared<Text>, AllocError>
     ensures { IfOk result (λ source. source
@@ -56,7 +56,7 @@ fn source_of<H: Host>(
 /// go.
 fn in_call<H: Host>(
     alloc: Global,
-    global: &GlobalRuntimeState<H>,
+    global: &RunState<H>,
     def: &ScriptFuncDef,
     environ: Option<&EncapsulatedEnviron<H>>,
     error: EvalAltResult<H>,
@@ -80,7 +80,7 @@ fn in_call<H: Host>(
 /// wrapped.
 fn left_by_error<H: Host>(
     alloc: Global,
-    global: &GlobalRuntimeState<H>,
+    global: &RunState<H>,
     def: &ScriptFuncDef,
     environ: Option<&EncapsulatedEnviron<H>>,
     mut error: EvalAltResult<H>,
@@ -107,7 +107,7 @@ fn left_by_error<H: Host>(
 /// makes of any other.
 fn returned<H: Host>(
     alloc: Global,
-    global: &GlobalRuntimeState<H>,
+    global: &RunState<H>,
     def: &ScriptFuncDef,
     environ: Option<&EncapsulatedEnviron<H>>,
     error: EvalAltResult<H>,
@@ -139,7 +139,7 @@ fn returned<H: Host>(
 /// The body's: an exit and those of the system at the call, any other in an `ErrorInFunctionCall` there.
 pub fn close_function<H: Host>(
     alloc: Global,
-    global: &mut GlobalRuntimeState<H>,
+    global: &mut RunState<H>,
     def: &ScriptFuncDef,
     environ: Option<&EncapsulatedEnviron<H>>,
     exit: CallExit,
@@ -156,7 +156,7 @@ pub fn close_function<H: Host>(
         is_wrapped e ≡ false → result ≡ returned_by (record end { at = pos }) e) }
     ensures ran_out { IfErr result (λ e. is_out_of_memory e ≡ true → e ≡ variant.ErrorOutOfMemory pos) }
 {
-    take_back(global, exit);
+    leave_surroundings(global, environ, exit);
     match outcome {
         Ok(value) => Ok(value),
         Err(error) => returned(alloc, &*global, def, environ, error, pos),
@@ -170,7 +170,7 @@ pub fn close_function<H: Host>(
 #[inline(never)]
 pub fn close_body<H: Host>(
     alloc: Global,
-    global: &mut GlobalRuntimeState<H>,
+    global: &mut RunState<H>,
     out: &mut Dynamic<H>,
     place: &mut Option<EvalAltResult<H>>,
     def: &ScriptFuncDef,
@@ -191,7 +191,7 @@ pub fn close_body<H: Host>(
         error_in place.new ≡ variant.ErrorOutOfMemory pos }
 {
     if done {
-        take_back(global, exit);
+        leave_surroundings(global, environ, exit);
         return true;
     }
     let outcome = Err(stopped(place));

@@ -18,13 +18,14 @@ ghost use Rattle.rhai_bodies.specs.Opening.{OnEntered, OnPassed, UnlessEntered};
 use rhai_context::ends::stop;
 use rhai_errors::error::EvalAltResult;
 use rhai_functions::entering::push_parameters;
+use rhai_lookups::lists::Lists;
+use rhai_lookups::run::RunState;
 use rhai_state::limits::Limits;
 use rhai_state::scope::Scope;
-use rhai_state::state::GlobalRuntimeState;
+use rhai_tree::Shared;
 use rhai_tree::expr::Stmt;
 use rhai_tree::function::{ScriptFuncDef, ScriptFuncPayload};
 use rhai_tree::position::Position;
-use rhai_tree::{Items, Shared};
 use rhai_values::base::value::{Dynamic, EncapsulatedEnviron, Host, Import, Module};
 use std::alloc::AllocError;
 
@@ -40,13 +41,13 @@ pub struct CallExit {
 }
 
 /// Notes what the end of a call will take back, as it stands now.
-fn exit_now<H: Host>(global: &GlobalRuntimeState<H>, scope: &Scope<H>) -> CallExit
+fn exit_now<H: Host>(global: &RunState<H>, scope: &Scope<H>) -> CallExit
     ensures { result ≡ exit_seen global.now scope.now }
 {
     CallExit {
         scope_length: scope.len(),
-        lib_length: global.lib.len(),
-        imports_length: global.imports.len(),
+        lib_length: global.lists.lib().len(),
+        imports_length: global.lists.imports().len(),
         constants: global.constants,
         level: global.level,
     }
@@ -90,33 +91,57 @@ fn may_enter<H: Host>(
     Ok(())
 }
 
+/// Begins a call of a function, which gets a cache of its own where it has an environment, before that is
+/// brought. Where there is no memory nothing is changed.
+fn open_cache<H: Host>(
+    global: &mut RunState<H>,
+    environ: Option<&EncapsulatedEnviron<H>>,
+) -> Result<(), AllocError>
+    ensures { global.new ≡ global.old }
+{
+    if environ.is_none() {
+        return Ok(());
+    }
+    global.lists.begin_call()
+}
+
+/// Ends such a call: the cache that it got goes.
+#[inline(always)]
+fn close_cache<H: Host>(global: &mut RunState<H>, environ: Option<&EncapsulatedEnviron<H>>)
+    ensures { global.new ≡ global.old }
+{
+    if environ.is_none() {
+        return;
+    }
+    global.lists.end_call();
+}
+
 /// Adds libraries behind those that are there. Where memory runs out some may have been added.
 fn add_libraries<H: Host>(
-    lib: &mut Items<Shared<Module<H>>>,
+    lists: &mut Lists<H>,
     more: &[Shared<Module<H>>],
 ) -> Result<(), AllocError>
-    ensures ok { OnOk result (lib.new ≡ lib.old ++ more.now) }
-    ensures err { OnErr result (take (length lib.old) lib.new ≡ lib.old) }
+    ensures ok { OnOk result (lists.new ≡ (lists.old.0 ++ more.now, lists.old.1)) }
+    ensures lib { OnErr result (take (length lists.old.0) lists.new.0 ≡ lists.old.0) }
+    ensures imports { OnErr result (lists.new.1 ≡ lists.old.1) }
 {
     let mut at = 0;
     'modules: while at < more.len() {
-        lib.push(more[at].share()?)?;
+        lists.push_lib(more[at].share()?)?;
         at += 1;
     }
     Ok(())
 }
 
 /// Adds imports behind those that are there. Where memory runs out some may have been added.
-fn add_imports<H: Host>(
-    imports: &mut Items<Import<H>>,
-    more: &[Import<H>],
-) -> Result<(), AllocError>
-    ensures ok { OnOk result (imports.new ≡ imports.old ++ more.now) }
-    ensures err { OnErr result (take (length imports.old) imports.new ≡ imports.old) }
+fn add_imports<H: Host>(lists: &mut Lists<H>, more: &[Import<H>]) -> Result<(), AllocError>
+    ensures ok { OnOk result (lists.new ≡ (lists.old.0, lists.old.1 ++ more.now)) }
+    ensures lib { OnErr result (lists.new.0 ≡ lists.old.0) }
+    ensures imports { OnErr result (take (length lists.old.1) lists.new.1 ≡ lists.old.1) }
 {
     let mut at = 0;
     'imports: while at < more.len() {
-        imports.push(Import {
+        lists.push_import(Import {
             name: more[at].name.share()?,
             module: more[at].module.share()?,
         })?;
@@ -128,7 +153,7 @@ fn add_imports<H: Host>(
 /// Brings the imports and libraries of a function's environment, and its table of constants. Where memory
 /// runs out some may be there.
 fn bring<H: Host>(
-    global: &mut GlobalRuntimeState<H>,
+    global: &mut RunState<H>,
     environ: Option<&EncapsulatedEnviron<H>>,
 ) -> Result<(), AllocError>
     ensures ok { OnOk result (global.new ≡ brought (option_copied environ.entry) global.old) }
@@ -139,16 +164,16 @@ fn bring<H: Host>(
     let Some(environ) = environ else {
         return Ok(());
     };
-    add_libraries(&mut global.lib, environ.lib.as_slice())?;
-    add_imports(&mut global.imports, environ.imports.as_slice())?;
+    add_libraries(&mut global.lists, environ.lib.as_slice())?;
+    add_imports(&mut global.lists, environ.imports.as_slice())?;
     global.constants = environ.constants;
     Ok(())
 }
 
 /// Adds the variables and the surroundings of a body, its level aside. Where memory runs out some may be
 /// there.
-fn surround<H: Host>(
-    global: &mut GlobalRuntimeState<H>,
+fn add_surroundings<H: Host>(
+    global: &mut RunState<H>,
     scope: &mut Scope<H>,
     def: &ScriptFuncDef,
     environ: Option<&EncapsulatedEnviron<H>>,
@@ -168,16 +193,61 @@ fn surround<H: Host>(
     push_parameters(scope, def.params.as_slice(), args)
 }
 
+/// Adds the variables and the surroundings of a body, its level aside. A function with an environment gets a
+/// cache of its own before. Where memory runs out that is gone again, and some of the others may be there.
+fn surround<H: Host>(
+    global: &mut RunState<H>,
+    scope: &mut Scope<H>,
+    def: &ScriptFuncDef,
+    environ: Option<&EncapsulatedEnviron<H>>,
+    args: &mut [Dynamic<H>],
+) -> Result<(), AllocError>
+    ensures state { OnOk result (global.new ≡ brought (option_copied environ.entry) global.old) }
+    ensures variables { OnOk result (entries_of scope.new ≡ entries_of scope.old
+        ++ parameters def.now.params args.old) }
+    ensures left { OnOk result (args.new ≡ left_of (length def.now.params) args.old) }
+    ensures taken { TakesSome args.old args.new }
+    ensures state_back { OnErr result (taken_back (exit_seen global.old scope.old) global.new ≡ global.old) }
+    ensures search { global.new.always_search_scope ≡ global.old.always_search_scope }
+    ensures variables_back { OnErr result (take (length (entries_of scope.old)) (entries_of scope.new)
+        ≡ entries_of scope.old) }
+{
+    let has_cache = open_cache(global, environ).is_ok();
+    if !has_cache {
+        return Err(AllocError);
+    }
+    match add_surroundings(global, scope, def, environ, args) {
+        Ok(()) => Ok(()),
+        Err(error) => {
+            close_cache(global, environ);
+            Err(error)
+        }
+    }
+}
+
 /// Takes back everything that a call has brought.
 #[inline(always)]
-pub fn take_back<H: Host>(global: &mut GlobalRuntimeState<H>, exit: CallExit)
+pub fn take_back<H: Host>(global: &mut RunState<H>, exit: CallExit)
     ensures state { global.new ≡ taken_back exit global.old }
     ensures search { global.new.always_search_scope ≡ global.old.always_search_scope }
 {
-    global.lib.truncate(exit.lib_length);
-    global.truncate_imports(exit.imports_length);
+    global.lists.truncate(exit.lib_length, exit.imports_length);
     global.constants = exit.constants;
     global.level = exit.level;
+}
+
+/// Takes back everything that a call of a function has brought, and the cache that it got.
+#[inline(always)]
+pub(crate) fn leave_surroundings<H: Host>(
+    global: &mut RunState<H>,
+    environ: Option<&EncapsulatedEnviron<H>>,
+    exit: CallExit,
+)
+    ensures state { global.new ≡ taken_back exit global.old }
+    ensures search { global.new.always_search_scope ≡ global.old.always_search_scope }
+{
+    close_cache(global, environ);
+    take_back(global, exit);
 }
 
 /// Enters a body at a level, its call charged. The parameters are pushed as variables that may be written,
@@ -191,7 +261,7 @@ pub fn take_back<H: Host>(global: &mut GlobalRuntimeState<H>, exit: CallExit)
 pub fn open_function<H: Host>(
     limits: &Limits,
     level: usize,
-    global: &mut GlobalRuntimeState<H>,
+    global: &mut RunState<H>,
     scope: &mut Scope<H>,
     def: &ScriptFuncDef,
     environ: Option<&EncapsulatedEnviron<H>>,
@@ -270,15 +340,15 @@ pub fn may_run<H: Host>(
 /// Enters a function without an environment at a level. Its parameters are its only variables, and stand in
 /// their scope already. It tells what the end of the call takes back.
 #[inline(always)]
-pub fn enter_level<H: Host>(global: &mut GlobalRuntimeState<H>, level: usize) -> CallExit
+pub fn enter_level<H: Host>(global: &mut RunState<H>, level: usize) -> CallExit
     ensures exit { (scope : _) → result ≡ record (exit_seen global.old scope) { scope_length = 0 } }
     ensures state { global.new ≡ entered_global None level global.old }
     ensures search { global.new.always_search_scope ≡ global.old.always_search_scope }
 {
     let exit = CallExit {
         scope_length: 0,
-        lib_length: global.lib.len(),
-        imports_length: global.imports.len(),
+        lib_length: global.lists.lib().len(),
+        imports_length: global.lists.imports().len(),
         constants: global.constants,
         level: global.level,
     };

@@ -5,31 +5,29 @@ ghost use Rattle.rhai_values.specs.declared.base.value.FnPtr.{out-FnPtr};
 ghost use Rattle.rhai_machine.specs.language.Arguments.{linked, linked_to};
 ghost use Rattle.rhai_machine.specs.language.Functions.{in_libraries, key_by};
 
-use rhai_functions::function::{Function, share_function};
+use rhai_functions::function::Function;
 use rhai_functions::key::FnKey;
-use rhai_functions::lookup::find_in_modules;
+use rhai_lookups::lists::Lists;
 use rhai_tree::Shared;
 use rhai_tree::checked::CheckedFn;
-use rhai_values::base::value::{EncapsulatedEnviron, FnPtr, FnPtrKind, Module};
+use rhai_values::base::value::{EncapsulatedEnviron, FnPtr, FnPtrKind};
 use std::alloc::AllocError;
 
 /// Finds the library function of a name with so many parameters.
 fn library_function<H: Drop>(
-    lib: &[Shared<Module<H>>],
+    lists: &mut Lists<H>,
     name: &str,
     arity: usize,
 ) -> Result<Option<Function<H>>, AllocError>
-    ensures { IfOk result (λ found. found ≡ in_libraries (key_by name.now arity None) lib.now) }
+    ensures found { IfOk result (λ found. found ≡ in_libraries (key_by name.now arity None) lists.old.0) }
+    ensures same { lists.new ≡ lists.old }
 {
     let key = FnKey {
         name,
         arity,
         this_type: None,
     };
-    match find_in_modules(lib, key) {
-        Some(function) => Ok(Some(share_function(function)?)),
-        None => Ok(None),
-    }
+    lists.find_library(&key)
 }
 
 /// Shares a checked function and its environment, with owners of their own.
@@ -66,13 +64,14 @@ fn function_by_kind<H: Drop>(
     name: &str,
     curried: usize,
     args: usize,
-    lib: &[Shared<Module<H>>],
+    lists: &mut Lists<H>,
 ) -> Result<Option<Function<H>>, AllocError>
-    ensures { IfOk result (λ found. found ≡ linked kind.now name.now (curried + args) lib.now) }
+    ensures found { IfOk result (λ found. found ≡ linked kind.now name.now (curried + args) lists.old.0) }
+    ensures same { lists.new ≡ lists.old }
 {
     match kind {
         FnPtrKind::Arity(arity) if takes(*arity, curried, args) => library_function(
-            lib, name, *arity,
+            lists, name, *arity,
         ),
         FnPtrKind::Script(def, environ) if takes(def.get().def().params.len(), curried, args) => {
             Ok(Some(share_checked(def, environ)?))
@@ -88,16 +87,17 @@ fn function_by_kind<H: Drop>(
 pub fn function_linked<H: Drop>(
     pointer: &FnPtr<H>,
     args: usize,
-    lib: &[Shared<Module<H>>],
+    lists: &mut Lists<H>,
 ) -> Result<Option<Function<H>>, AllocError>
-    ensures { IfOk result (λ found. found
-        ≡ linked_to pointer.now (length (out-FnPtr H pointer.now).curry + args) lib.now) }
+    ensures found { IfOk result (λ found. found
+        ≡ linked_to pointer.now (length (out-FnPtr H pointer.now).curry + args) lists.old.0) }
+    ensures same { lists.new ≡ lists.old }
 {
     function_by_kind(
         &pointer.kind,
         pointer.name.get().as_str(),
         pointer.curry.len(),
         args,
-        lib,
+        lists,
     )
 }

@@ -21,7 +21,7 @@ use Rattle.rhai_values.specs.Copy.{copy_of, copy_union}
 use Rattle.rhai_values.specs.TypeNames.{union_type_name}
 use Rattle.rhai_errors.specs.declared.error.EvalAltResult.{EvalAltResult}
 use Rattle.rhai_state.specs.declared.scope.Scope.{Scope}
-use Rattle.rhai_state.specs.declared.state.GlobalRuntimeState.{GlobalRuntimeState}
+use Rattle.rhai_lookups.specs.declared.run.RunState.{RunState}
 use Rattle.rhai_functions.specs.declared.function.Function.{Function}
 use Rattle.rhai_state.specs.declared.session.Offered.{Offered}
 use Rattle.rhai_machine.specs.machine.Machine.{Move, Go, Charge}
@@ -104,8 +104,8 @@ behind_starts s path operation (arg ∷ args) k l =
     form_starts s operation (behind_path path) k l arg args (out-Expr arg) l.this refl
     ∙ started_so s operation (behind_path path) k l arg args (is_read_last (out-Expr arg) l.this)
 
-module _ {S H : Type 0} (rules : Rules S H) (t : S) (old : GlobalRuntimeState H) (scope : Scope H) (held : Held H) where
-  let_through : (last : Option Expr) (mid : GlobalRuntimeState H) → IsCharged (limit_under rules) last old mid →
+module _ {S H : Type 0} (rules : Rules S H) (t : S) (old : RunState H) (scope : Scope H) (held : Held H) where
+  let_through : (last : Option Expr) (mid : RunState H) → IsCharged (limit_under rules) last old mid →
       (from : Control H) (k : List (Frame H)) (to : Local H → Core H) →
       Leads (machine rules) (cut rules)
       (moved (machine rules) (cut rules) (starts last (to (local_of old scope held))) (at from k (state_of t old scope held)))
@@ -138,7 +138,7 @@ module _ {S H : Type 0} (rules : Rules S H) (t : S) (old : GlobalRuntimeState H)
         ∙ behind_starts rules.setting (path_of call.namespace) (operation_in call pos) call.args k (local_of old scope held)
 
     -- what is read last is charged, and the other arguments follow
-    pub behind_begins : (mid : GlobalRuntimeState H) → IsCharged (limit_under rules) last old mid →
+    pub behind_begins : (mid : RunState H) → IsCharged (limit_under rules) last old mid →
         Leads (machine rules) (cut rules) (at (OpenExpr (layer.Expr::FnCall call pos)) k (state_of t old scope held))
         (with_core (goes_on (local_of mid scope held)) (state_of t mid scope held))
     behind_begins mid charged = step_by rules _ _ (starts last (goes_on (local_of old scope held))) opened

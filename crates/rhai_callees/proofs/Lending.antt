@@ -7,7 +7,7 @@ use Rattle.std.proofs.Math.Seq.{map-set_same}
 use Rattle.rhai_values.specs.declared.base.value.Dynamic.{Dynamic}
 use Rattle.rhai_state.specs.declared.scope.Scope.{Scope}
 use Rattle.rhai_state.specs.declared.scope.ScopeEntry.{ScopeEntry}
-use Rattle.rhai_state.specs.declared.state.GlobalRuntimeState.{GlobalRuntimeState}
+use Rattle.rhai_lookups.specs.declared.run.RunState.{RunState}
 use Rattle.rhai_state.specs.Scope.{entries_of, name_of, names_in, revalued}
 use Rattle.rhai_steps.specs.States.{local_of, state_of}
 use Rattle.rhai_machine.specs.language.Setting.{Rules}
@@ -54,7 +54,7 @@ module _ {H : Type 0} where
         given ∙ ap (λ (entries : List (ScopeEntry H)). revalued entries i (slice_get entries i) v) taken
         ∙ revalued_twice (entries_of old) i (slice_get (entries_of old) i) v u refl
 
-    lent_state : {S : Type 0} (t : S) (global : GlobalRuntimeState H) (held : Held H) →
+    lent_state : {S : Type 0} (t : S) (global : RunState H) (held : Held H) →
         back_in (Some (FromEntry i)) v (state_of t global old held) ≡ state_of t global new held
     lent_state t global held =
         ap (λ (entries : List (ScopeEntry H)). record (state_of t global old held) {
@@ -62,7 +62,7 @@ module _ {H : Type 0} where
         }) (sym lent_entries)
 
     pub lent_runs : {S : Type 0} (rules : Rules S H) (how : Dispatch) (call : Call H) (start : State S H) (called : Outcome H) (t : S)
-        (global : GlobalRuntimeState H) (held : Held H) →
+        (global : RunState H) (held : Held H) →
         Goes rules (dispatch_core rules.setting how call) start (came_out (not how.on_scope) call.operation.at called)
         (back_in (Some (FromEntry i)) v (state_of t global old held)) →
         Goes rules (dispatch_core rules.setting how call) start (came_out (not how.on_scope) call.operation.at called)

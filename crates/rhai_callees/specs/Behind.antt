@@ -12,7 +12,7 @@ use Rattle.rhai_values.specs.declared.base.value.Module.{Module}
 use Rattle.rhai_errors.specs.declared.error.EvalAltResult.{EvalAltResult}
 use Rattle.rhai_errors.specs.declared.error.EvalAltResult.TheVariants as error
 use Rattle.rhai_state.specs.declared.scope.ScopeEntry.{ScopeEntry}
-use Rattle.rhai_state.specs.declared.state.GlobalRuntimeState.{GlobalRuntimeState}
+use Rattle.rhai_lookups.specs.declared.run.RunState.{RunState}
 use Rattle.rhai_functions.specs.declared.function.Function.{Function}
 use Rattle.rhai_functions.specs.Functions.{FunctionKey}
 use Rattle.rhai_machine.specs.language.Setting.{Globals}
@@ -70,13 +70,13 @@ module _ {H : Type 0} where
   purpose_of None operation how = ToCall operation [] how
 
   -- what is read last is charged, if anything is
-  abbrev pub IsCharged : (limit : ℕ) → (last : Option Expr) → (old new : GlobalRuntimeState H) → Type 0
+  abbrev pub IsCharged : (limit : ℕ) → (last : Option Expr) → (old new : RunState H) → Type 0
   IsCharged limit (Some arg) old new =
       (old.num_operations < limit) × (new ≡ record old { num_operations = old.num_operations + 1 })
   IsCharged limit None old new = new ≡ old
 
   -- the limit has no room for the charge of what is read last
-  abbrev pub IsSpent : (limit : ℕ) → (last : Option Expr) → GlobalRuntimeState H → EvalAltResult H → Type 0
+  abbrev pub IsSpent : (limit : ℕ) → (last : Option Expr) → RunState H → EvalAltResult H → Type 0
   IsSpent limit (Some arg) global e = (limit ≤ global.num_operations) × (e ≡ error.ErrorTooManyOperations (position_of arg))
   IsSpent limit None global e = ⊥
 

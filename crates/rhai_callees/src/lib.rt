@@ -32,8 +32,8 @@ use rhai_errors::errors::data_race_by;
 use rhai_errors::table::NativeTable;
 use rhai_few::Few;
 use rhai_functions::function::Function;
+use rhai_lookups::run::RunState;
 use rhai_state::session::Session;
-use rhai_state::state::GlobalRuntimeState;
 use rhai_steps::operation::Operation;
 use rhai_steps::values::let_go;
 use rhai_tree::Items;
@@ -46,7 +46,7 @@ use std::alloc::Global;
 /// Makes a call by name with the values that a pointer has already before its arguments.
 fn call_curried<H: Host, T: NativeTable<H>>(
     session: &Session<'_, H>,
-    global: &mut GlobalRuntimeState<H>,
+    global: &mut RunState<H>,
     table: &mut T,
     natives_alone: bool,
     operation: &Operation<'_>,
@@ -76,7 +76,7 @@ fn call_curried<H: Host, T: NativeTable<H>>(
 /// Those of `rhai_calls::dispatch::pass_call`.
 pub fn call_values<H: Host, T: NativeTable<H>>(
     session: &Session<'_, H>,
-    global: &mut GlobalRuntimeState<H>,
+    global: &mut RunState<H>,
     table: &mut T,
     natives_alone: bool,
     operation: &Operation<'_>,
@@ -151,7 +151,7 @@ pub fn call_function<H: Host>(
 /// Calls a native by its number, whose arguments are there.
 fn call_number_all<H: Host, T: NativeTable<H>>(
     session: &Session<'_, H>,
-    global: &mut GlobalRuntimeState<H>,
+    global: &mut RunState<H>,
     table: &mut T,
     id: NativeId,
     operation: &Operation<'_>,
@@ -186,7 +186,7 @@ fn call_number_all<H: Host, T: NativeTable<H>>(
 /// `rhai_calls::native::call_number`.
 pub fn call_number<H: Host, T: NativeTable<H>>(
     session: &Session<'_, H>,
-    global: &mut GlobalRuntimeState<H>,
+    global: &mut RunState<H>,
     table: &mut T,
     id: NativeId,
     operation: &Operation<'_>,

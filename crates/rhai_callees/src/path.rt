@@ -43,10 +43,10 @@ use rhai_few::Few;
 use rhai_functions::function::{Function, share_function};
 use rhai_functions::key::FnKey;
 use rhai_functions::paths::{find_down, find_public};
+use rhai_lookups::run::RunState;
 use rhai_state::limits::Limits;
 use rhai_state::scope::Scope;
 use rhai_state::session::Session;
-use rhai_state::state::GlobalRuntimeState;
 use rhai_steps::qualified::{full_text, no_module};
 use rhai_steps::replies::{function_not_found, nullary_function_not_found};
 use rhai_steps::roots::root_of;
@@ -95,7 +95,7 @@ pub fn split_last_read<'a, H: Host>(
 #[inline(always)]
 pub fn charge_last<H: Host>(
     limits: &Limits,
-    global: &mut GlobalRuntimeState<H>,
+    global: &mut RunState<H>,
     place: &mut Option<EvalAltResult<H>>,
     last: Option<&Expr>,
 ) -> bool
@@ -133,7 +133,7 @@ fn pass_entry<H: Host>(
 /// Copies what a variable means, as it is passed by itself.
 fn pass_variable<H: Host>(
     session: &Session<'_, H>,
-    global: &GlobalRuntimeState<H>,
+    global: &RunState<H>,
     scope: &Scope<H>,
     variable: &Variable<'_>,
 ) -> Result<Dynamic<H>, EvalAltResult<H>>
@@ -169,7 +169,7 @@ fn pass_variable<H: Host>(
 /// Reads what is read last. None where it is neither a variable nor `this`.
 fn read_last_value<H: Host>(
     session: &Session<'_, H>,
-    global: &GlobalRuntimeState<H>,
+    global: &RunState<H>,
     scope: &Scope<H>,
     this: &Option<Dynamic<H>>,
     last: &Expr,
@@ -218,7 +218,7 @@ fn put_first<H: Host>(
 /// Reads what is read last, if anything is, and puts it before the other arguments.
 fn prepend_last<H: Host>(
     session: &Session<'_, H>,
-    global: &GlobalRuntimeState<H>,
+    global: &RunState<H>,
     scope: &Scope<H>,
     this: &Option<Dynamic<H>>,
     last: Option<&Expr>,
@@ -304,15 +304,15 @@ fn share_found<H: Host>(
 /// same of its index. It takes so many arguments and no `this` of a certain type.
 fn public_searched<H: Host>(
     session: &Session<'_, H>,
-    global: &GlobalRuntimeState<H>,
+    global: &RunState<H>,
     namespace: &Namespace,
     name: &str,
     args: &[Dynamic<H>],
     pos: Position,
 ) -> Result<Function<H>, EvalAltResult<H>>
-    requires { Fits (in_use global.now.always_search_scope namespace.now.index) (length global.now.imports) }
+    requires { Fits (in_use global.now.always_search_scope namespace.now.index) (length global.now.lists.1) }
     ensures { Answers result (public_from_root (root_searched
-        (in_use global.now.always_search_scope namespace.now.index) namespace.now.path global.now.imports
+        (in_use global.now.always_search_scope namespace.now.index) namespace.now.path global.now.lists.1
         session.now.offered.global_sub_modules.now) namespace.now.path namespace.now.position
         (key_by name.now (length args.now) None) (types_of H.name_of (cells_of global.now.cells) args.now)
         pos) }
@@ -321,7 +321,13 @@ fn public_searched<H: Host>(
     let [_root, rest @ ..] = path else {
         return Err(no_module(session.alloc, path, namespace.position));
     };
-    match root_of(global, session.offered.global_sub_modules, namespace) {
+    let index = global.offset_in_use(namespace.index);
+    match root_of(
+        global.lists.imports(),
+        session.offered.global_sub_modules,
+        index,
+        path,
+    ) {
         Some(root) => {
             let key = FnKey {
                 name,
@@ -339,7 +345,7 @@ fn public_searched<H: Host>(
 /// path leads to the newest import of its first name, or is not in use.
 fn public_function<H: Host>(
     session: &Session<'_, H>,
-    global: &GlobalRuntimeState<H>,
+    global: &RunState<H>,
     namespace: &Namespace,
     name: &str,
     args: &[Dynamic<H>],
@@ -359,7 +365,7 @@ fn public_function<H: Host>(
 /// Makes a call behind a path whose arguments are all there.
 fn call_public<H: Host>(
     session: &Session<'_, H>,
-    global: &GlobalRuntimeState<H>,
+    global: &RunState<H>,
     namespace: &Namespace,
     name: &str,
     args: &[Dynamic<H>],
@@ -387,7 +393,7 @@ fn call_public<H: Host>(
 /// of the arguments.
 pub fn call_behind<H: Host>(
     session: &Session<'_, H>,
-    global: &GlobalRuntimeState<H>,
+    global: &RunState<H>,
     scope: &Scope<H>,
     this: &Option<Dynamic<H>>,
     last: Option<&Expr>,

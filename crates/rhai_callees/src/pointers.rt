@@ -42,14 +42,15 @@ pub enum PointerUse<H> {
 /// Finds the function that a pointer is linked to, where it is called with these arguments. It is the
 /// pointer's own, or that of the run's libraries. None for a pointer by its name alone and for a native's.
 pub fn linked_function<H: Host>(
-    run: &Context<H>,
+    run: &mut Context<H>,
     pointer: &FnPtr<H>,
     args: &[Expr],
 ) -> Result<Option<Function<H>>, AllocError>
-    ensures { IfOk result (λ found. found ≡ linked_to pointer.now
-        (length (out-FnPtr H pointer.now).curry + length args.now) run.now.global.lib) }
+    ensures found { IfOk result (λ found. found ≡ linked_to pointer.now
+        (length (out-FnPtr H pointer.now).curry + length args.now) run.old.global.lists.0) }
+    ensures same { run.new ≡ run.old }
 {
-    function_linked(pointer, args.len(), run.global.lib.as_slice())
+    function_linked(pointer, args.len(), &mut run.global.lists)
 }
 
 /// Uses a pointer whose arguments are there: it keeps them, or is called with them.

@@ -17,8 +17,8 @@ use rhai_errors::error::EvalAltResult;
 use rhai_errors::table::NativeTable;
 use rhai_few::Few;
 use rhai_functions::function::Function;
+use rhai_lookups::run::RunState;
 use rhai_state::session::Session;
-use rhai_state::state::GlobalRuntimeState;
 use rhai_steps::operation::Operation;
 use rhai_tree::position::Position;
 use rhai_values::base::value::{Dynamic, Host};
@@ -31,7 +31,7 @@ use rhai_values::base::value::{Dynamic, Host};
 /// `ErrorUnboundThis` at `this`. All others are those of `rhai_calls::dispatch::pass_call`.
 pub fn call_on_this<H: Host, T: NativeTable<H>>(
     session: &Session<'_, H>,
-    global: &mut GlobalRuntimeState<H>,
+    global: &mut RunState<H>,
     table: &mut T,
     this: &mut Option<Dynamic<H>>,
     natives_alone: bool,

@@ -31,9 +31,9 @@ use rhai_errors::errors::data_race_of;
 use rhai_errors::table::NativeTable;
 use rhai_few::Few;
 use rhai_functions::function::Function;
+use rhai_lookups::run::RunState;
 use rhai_state::scope::Scope;
 use rhai_state::session::Session;
-use rhai_state::state::GlobalRuntimeState;
 use rhai_steps::operation::Operation;
 use rhai_steps::values::{copy, flatten, is_bare_handle, let_go, unit_value};
 use rhai_steps::variables::{Variable, entry_of_variable, read_beside};
@@ -71,7 +71,7 @@ pub(crate) fn pass_value<H: Host>(
 /// Copies what a variable means that is no entry, as it is passed by itself.
 pub(crate) fn pass_beside<H: Host>(
     session: &Session<'_, H>,
-    global: &GlobalRuntimeState<H>,
+    global: &RunState<H>,
     variable: &Shared<Text>,
     namespace: &Namespace,
     pos: Position,
@@ -130,7 +130,7 @@ pub(crate) fn enter_with_copy<H: Host>(
 /// back on every way out.
 fn call_lent<H: Host, T: NativeTable<H>>(
     session: &Session<'_, H>,
-    global: &mut GlobalRuntimeState<H>,
+    global: &mut RunState<H>,
     table: &mut T,
     scope: &mut Scope<H>,
     index: usize,
@@ -168,7 +168,7 @@ fn call_lent<H: Host, T: NativeTable<H>>(
 /// gets a copy of it.
 pub(crate) fn call_first<H: Host, T: NativeTable<H>>(
     session: &Session<'_, H>,
-    global: &mut GlobalRuntimeState<H>,
+    global: &mut RunState<H>,
     table: &mut T,
     natives_alone: bool,
     operation: &Operation<'_>,
@@ -211,7 +211,7 @@ pub(crate) fn call_first<H: Host, T: NativeTable<H>>(
 /// Makes a call by name with a value of its own before the other arguments.
 fn call_passed<H: Host, T: NativeTable<H>>(
     session: &Session<'_, H>,
-    global: &mut GlobalRuntimeState<H>,
+    global: &mut RunState<H>,
     table: &mut T,
     natives_alone: bool,
     operation: &Operation<'_>,
@@ -251,7 +251,7 @@ fn call_passed<H: Host, T: NativeTable<H>>(
 /// Makes a call on the variable at an entry.
 fn call_found<H: Host, T: NativeTable<H>>(
     session: &Session<'_, H>,
-    global: &mut GlobalRuntimeState<H>,
+    global: &mut RunState<H>,
     table: &mut T,
     scope: &mut Scope<H>,
     index: usize,
@@ -306,7 +306,7 @@ fn call_found<H: Host, T: NativeTable<H>>(
 /// behind its path.
 fn call_beside<H: Host, T: NativeTable<H>>(
     session: &Session<'_, H>,
-    global: &mut GlobalRuntimeState<H>,
+    global: &mut RunState<H>,
     table: &mut T,
     natives_alone: bool,
     operation: &Operation<'_>,
@@ -356,7 +356,7 @@ fn call_beside<H: Host, T: NativeTable<H>>(
 /// `rhai_steps::variables::read_beside`. All others are those of `rhai_calls::dispatch::pass_call`.
 pub fn call_on_variable<H: Host, T: NativeTable<H>>(
     session: &Session<'_, H>,
-    global: &mut GlobalRuntimeState<H>,
+    global: &mut RunState<H>,
     table: &mut T,
     scope: &mut Scope<H>,
     natives_alone: bool,

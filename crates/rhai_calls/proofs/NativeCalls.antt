@@ -13,7 +13,7 @@ use Rattle.rhai_values.specs.declared.base.value.Union.TheVariants as value
 use Rattle.rhai_values.specs.Cells.{cells_of, value_of_cell, with_held, with_value}
 use Rattle.rhai_values.specs.TypeNames.{type_name_of}
 use Rattle.rhai_state.specs.declared.scope.Scope.{Scope}
-use Rattle.rhai_state.specs.declared.state.GlobalRuntimeState.{GlobalRuntimeState}
+use Rattle.rhai_lookups.specs.declared.run.RunState.{RunState}
 use Rattle.rhai_errors.specs.declared.error.EvalAltResult.{EvalAltResult}
 use Rattle.rhai_errors.specs.declared.error.EvalAltResult.TheVariants as error
 use Rattle.rhai_errors.specs.Errors.{is_out_of_memory}
@@ -92,7 +92,7 @@ module _ {H : Type 0} where
   plain_ends (Err e) h = refl
 
   -- what stands where it is lent from does so whatever the cells are
-  pub still_stands : (lender : Option Lender) (x : Dynamic H) (old new : GlobalRuntimeState H) (scope : Scope H) (held : Held H) →
+  pub still_stands : (lender : Option Lender) (x : Dynamic H) (old new : RunState H) (scope : Scope H) (held : Held H) →
       Stands lender x (local_of old scope held) → Stands lender x (local_of new scope held)
   still_stands None x old new scope held stands = tt
   still_stands (Some (FromEntry index)) x old new scope held stands = stands
@@ -122,7 +122,7 @@ module _ {S H : Type 0} (rules : Rules S H) where
   told_with_changed m r (Err e) wanted a k s = or_runs_out rules (answered m r wanted) k s e (λ h. rw (← a h, answer_is m r (Err e)) here)
 
   -- a call that is charged stands before the question of its native
-  pub charges_call : (t : S) (old mid : GlobalRuntimeState H) (scope : Scope H) (held : Held H) (call : Call H) →
+  pub charges_call : (t : S) (old mid : RunState H) (scope : Scope H) (held : Held H) (call : Call H) →
       old.num_operations < limit_under rules → mid ≡ record old { num_operations = old.num_operations + 1 } →
       (k : List (Frame H)) →
       Leads (machine rules) (cut rules) (at (Ask call) k (state_of t old scope held)) (at (Question call) k (state_of t mid scope held))
@@ -130,7 +130,7 @@ module _ {S H : Type 0} (rules : Rules S H) where
       charged rules t old mid scope held (Ask call) (Question call) call.operation.at (λ j. refl) room is k
 
   -- a refused charge of a call
-  pub refuses_call : (t : S) (old new : GlobalRuntimeState H) (scope : Scope H) (held : Held H) (call : Call H)
+  pub refuses_call : (t : S) (old new : RunState H) (scope : Scope H) (held : Held H) (call : Call H)
       (x : EvalAltResult H) →
       limit_under rules ≤ old.num_operations → x ≡ error.ErrorTooManyOperations call.operation.at → new ≡ old →
       (k : List (Frame H)) →
@@ -310,7 +310,7 @@ module _ {S H : Type 0} (rules : Rules S H) where
   -- ---- a native on its first argument
 
   module _ (operation : Operation) (id : Option NativeId) (lender : Option Lender) (guarded marks : Bool) (x : Dynamic H)
-      (rest : List (Dynamic H)) (t t' : S) (global : GlobalRuntimeState H) (scope : Scope H) (held : Held H)
+      (rest : List (Dynamic H)) (t t' : S) (global : RunState H) (scope : Scope H) (held : Held H)
       (stands : Stands lender x (local_of global scope held)) (result : Result (Dynamic H × Bool) (EvalAltResult H)) where
     -- that is no handle
     pub first_by_itself : (left : Dynamic H) → is_handle x.value ≡ false →
@@ -326,7 +326,7 @@ module _ {S H : Type 0} (rules : Rules S H) where
         (first_plain (cells_of global.cells) operation lender x.value x plain))
 
     -- that is a handle
-    pub first_in_cell : (new : GlobalRuntimeState H) (cell : CellId) → x.value ≡ value.Cell cell →
+    pub first_in_cell : (new : RunState H) (cell : CellId) → x.value ≡ value.Cell cell →
         new ≡ record global { cells = new.cells } →
         CallsInCell rules operation id guarded marks cell rest (cells_of global.cells) (cells_of new.cells) t t' result →
         Stands lender x (local_of new scope held) →

@@ -1,9 +1,11 @@
 -- A call by name whose arguments are there: what its name means, and what it comes to.
 use Rattle.std.specs.Prelude.{◌≡◌, ⊤, ℕ, ◌-◌, ℤ, pos, Bool, true, false, List, [], ◌∷◌, length, Option, Some, None, Result, Ok, Err}
 use Rattle.std.specs.Prelude.{codes, is_some, if◌then◌else◌}
-use Rattle.std.specs.Option.{option_or}
+use Rattle.std.specs.Option.{option_map, option_or}
 use Rattle.std.specs.Str.{bytes_eq}
 use Rattle.rhai_values.specs.declared.base.value.Dynamic.{Dynamic}
+use Rattle.rhai_values.specs.declared.base.value.Import.{Import}
+use Rattle.rhai_values.specs.declared.base.value.Module.{Module}
 use Rattle.rhai_values.specs.declared.base.value.Union.{Union}
 use Rattle.rhai_values.specs.declared.base.value.Union.TheVariants as value
 use Rattle.rhai_errors.specs.declared.error.EvalAltResult.{EvalAltResult}
@@ -11,6 +13,8 @@ use Rattle.rhai_errors.specs.declared.error.EvalAltResult.TheVariants as error
 use Rattle.rhai_values.specs.Copy.{plain}
 use Rattle.rhai_values.specs.TypeNames.{type_name_of}
 use Rattle.rhai_functions.specs.declared.function.Function.{Function}
+use Rattle.rhai_functions.specs.Called.{function_of}
+use Rattle.rhai_functions.specs.Functions.{FunctionKey, found_in}
 use Rattle.rhai_machine.specs.language.Setting.{Offer}
 use Rattle.rhai_machine.specs.language.State.{Local, Surroundings, Answers, HasMemory}
 use Rattle.rhai_machine.specs.language.Values.{Cells, bool_value, through}
@@ -57,6 +61,20 @@ module _ {H : Type 0} where
       then Some (Err (error.ErrorFunctionNotFound (signature operation.name (types_of host cells (v ∷ []))) operation.at))
       else None
 
+  module _ (offer : Offer H) (lib : List (Module H)) (imports : List (Import H)) where
+    -- the function of a key, in these libraries and imports
+    abbrev pub found_among : FunctionKey → Option (Function H)
+    found_among key = option_map function_of (found_in key lib offer.global_modules imports offer.global_sub_modules.1)
+
+    -- that of a method: for the type of the focus, and else for any type
+    abbrev pub method_among : List ℕ → (type : List ℕ) → (arity : ℕ) → Option (Function H)
+    method_among name type arity = option_or (found_among (key_by name arity (Some type))) (found_among (key_by name arity None))
+
+    -- whether there is a function of a name with so many parameters
+    abbrev pub knows_among : List ℕ → ℤ → Bool
+    knows_among name (pos count) = is_some (found_among (key_by name count None))
+    knows_among name _ = false
+
   module _ (offer : Offer H) (around : Surroundings H) where
     -- the function of a script with a name and so many parameters
     abbrev pub plain_found : List ℕ → (arity : ℕ) → Option (Function H)
@@ -68,8 +86,7 @@ module _ {H : Type 0} where
 
     -- whether there is a function of a name with so many parameters
     abbrev pub knows : List ℕ → ℤ → Bool
-    knows name (pos count) = is_some (plain_found name count)
-    knows name _ = false
+    knows name count = knows_among offer around.lib around.imports name count
 
     -- whether there is a function of this name with so many parameters, None where the name or the number is missing
     abbrev pub told_of : Option (List ℕ) → Option ℤ → Option (Result (Dynamic H) (EvalAltResult H))

@@ -10,6 +10,7 @@ ghost use Rattle.rhai_values.specs.declared.base.value.Union.TheVariants as kind
 ghost use Rattle.rhai_machine.specs.language.Calls.{call_of, is_held as held_in, plainly, dispatch_core};
 ghost use Rattle.rhai_machine.specs.language.Calls.{races as races_in};
 ghost use Rattle.rhai_machine.specs.language.Frames.{Ask, ended_or_changed};
+ghost use Rattle.rhai_machine.specs.language.Functions.{key_by};
 ghost use Rattle.rhai_machine.specs.language.State.{Answers};
 ghost use Rattle.rhai_machine.specs.language.Values.{through};
 ghost use Rattle.rhai_machine.specs.language.Runs.{Goes, Steps};
@@ -18,9 +19,10 @@ ghost use Rattle.rhai_steps.specs.Agreement.{KeepsSight};
 ghost use Rattle.rhai_steps.specs.Sessions.{offer_of, under};
 ghost use Rattle.rhai_steps.specs.States.{local_of, state_of, surroundings_of};
 ghost use Rattle.rhai_calls.specs.Called.{with_args, came_out};
-ghost use Rattle.rhai_calls.specs.Dispatch.{knows, meant, meant_of, meant_of_two, method_found, plain_found, came_to};
+ghost use Rattle.rhai_calls.specs.Dispatch.{meant, meant_of, meant_of_two, plain_found, came_to};
 ghost use Rattle.rhai_calls.specs.Dispatch.{script_function, seen_number, seen_text, how_of};
 ghost use Rattle.rhai_calls.specs.Dispatch.{IfEnded, IfEnters};
+ghost use Rattle.rhai_calls.specs.Dispatch.{found_among, knows_among, method_among};
 ghost use Rattle.rhai_calls.specs.Dispatch.{Means, ResolvesCall};
 ghost use Rattle.rhai_calls.specs.Lending.{back_in, passed_call, Stands};
 
@@ -29,11 +31,11 @@ use rhai_errors::error::EvalAltResult;
 use rhai_errors::errors::{data_race_by, shared_text};
 use rhai_errors::table::NativeTable;
 use rhai_few::Few;
-use rhai_functions::function::{Function, called_function};
+use rhai_functions::function::Function;
 use rhai_functions::key::FnKey;
-use rhai_functions::lookup::find_function;
+use rhai_lookups::lists::Lists;
+use rhai_lookups::run::RunState;
 use rhai_state::session::Session;
-use rhai_state::state::GlobalRuntimeState;
 use rhai_steps::operation::Operation;
 use rhai_steps::replies::function_not_found;
 use rhai_steps::values::bool_value;
@@ -121,11 +123,12 @@ fn integer_through<H: Host>(cells: &CellStore<H>, value: &Dynamic<H>) -> Option<
 /// Tells whether a function of a script has a name and so many parameters.
 fn is_defined<H: Host>(
     session: &Session<'_, H>,
-    global: &GlobalRuntimeState<H>,
+    lists: &mut Lists<H>,
     name: &str,
     count: i64,
 ) -> bool
-    ensures { result ≡ knows (offer_of session.now) (surroundings_of global.now) name.now count }
+    ensures found { result ≡ knows_among (offer_of session.now) lists.old.0 lists.old.1 name.now count }
+    ensures same { lists.new ≡ lists.old }
 {
     let Ok(arity) = usize::try_from(count) else {
         return false;
@@ -135,14 +138,7 @@ fn is_defined<H: Host>(
         arity,
         this_type: None,
     };
-    let found = find_function(
-        key,
-        global.lib.as_slice(),
-        session.offered.global_modules,
-        global.imports.as_slice(),
-        session.offered.global_sub_modules.values(),
-    );
-    found.is_some()
+    lists.has(&key, &session.offered)
 }
 
 /// Copies the name of a value's type, through a handle, into a text.
@@ -193,32 +189,35 @@ fn meaning_of<H: Host>(
 /// function's.
 fn meaning_of_two<H: Host>(
     session: &Session<'_, H>,
-    global: &GlobalRuntimeState<H>,
+    global: &mut RunState<H>,
     operation: &Operation<'_>,
     first: &Dynamic<H>,
     second: &Dynamic<H>,
 ) -> Option<Result<Dynamic<H>, EvalAltResult<H>>>
-    ensures { Means result (meant_of_two (offer_of session.now) (surroundings_of global.now)
+    ensures means { Means result (meant_of_two (offer_of session.now) (surroundings_of global.old)
         (operation_of operation.now) first.now second.now) }
+    ensures same { global.new ≡ global.old }
 {
     if operation.name != "is_def_fn" {
         return None;
     }
     let asked = text_in(&global.cells, first)?;
     let count = integer_through(&global.cells, second)?;
-    Some(Ok(bool_value(is_defined(session, global, asked, count))))
+    let is_there = is_defined(session, &mut global.lists, asked, count);
+    Some(Ok(bool_value(is_there)))
 }
 
 /// Tells what a name means with these arguments. None where it is a function's.
 fn meaning<H: Host>(
     session: &Session<'_, H>,
-    global: &GlobalRuntimeState<H>,
+    global: &mut RunState<H>,
     operation: &Operation<'_>,
     first: &Dynamic<H>,
     rest: &[Dynamic<H>],
 ) -> Option<Result<Dynamic<H>, EvalAltResult<H>>>
-    ensures { Means result (meant (offer_of session.now) (surroundings_of global.now)
+    ensures means { Means result (meant (offer_of session.now) (surroundings_of global.old)
         (operation_of operation.now) H.name_of (first.now ∷ rest.now)) }
+    ensures same { global.new ≡ global.old }
 {
     match rest {
         [] => meaning_of(session.alloc, &global.cells, operation, first),
@@ -230,88 +229,83 @@ fn meaning<H: Host>(
 /// Finds the function of a script that has a name and so many parameters.
 fn function_by<H: Host>(
     session: &Session<'_, H>,
-    global: &GlobalRuntimeState<H>,
+    lists: &mut Lists<H>,
     name: &str,
     arity: usize,
 ) -> Result<Option<Function<H>>, AllocError>
-    ensures { IfOk result (λ found. found ≡ plain_found (offer_of session.now) (surroundings_of global.now) name.now arity) }
+    ensures found { IfOk result (λ found. found ≡
+        found_among (offer_of session.now) lists.old.0 lists.old.1 (key_by name.now arity None)) }
+    ensures same { lists.new ≡ lists.old }
 {
     let key = FnKey {
         name,
         arity,
         this_type: None,
     };
-    called_function(
-        key,
-        &session.offered,
-        global.lib.as_slice(),
-        global.imports.as_slice(),
-    )
+    lists.find(&key, &session.offered)
 }
 
 /// Finds the function of a script that a method means. One for the type of the focus is looked for first, and
 /// then one for any type.
 fn method_by<H: Host>(
     session: &Session<'_, H>,
-    global: &GlobalRuntimeState<H>,
+    lists: &mut Lists<H>,
     name: &str,
     this_type: &str,
     arity: usize,
 ) -> Result<Option<Function<H>>, AllocError>
-    ensures { IfOk result (λ found.
-        found ≡ method_found (offer_of session.now) (surroundings_of global.now) name.now this_type.now arity) }
+    ensures found { IfOk result (λ found. found ≡
+        method_among (offer_of session.now) lists.old.0 lists.old.1 name.now this_type.now arity) }
+    ensures same { lists.new ≡ lists.old }
 {
     let key = FnKey {
         name,
         arity,
         this_type: Some(this_type),
     };
-    match called_function(
-        key,
-        &session.offered,
-        global.lib.as_slice(),
-        global.imports.as_slice(),
-    )? {
+    match lists.find(&key, &session.offered)? {
         Some(function) => Ok(Some(function)),
-        None => function_by(session, global, name, arity),
+        None => function_by(session, lists, name, arity),
     }
 }
 
 /// Finds the function of a script that a call means. None where its native is meant.
 fn function_of<H: Host>(
     session: &Session<'_, H>,
-    global: &GlobalRuntimeState<H>,
+    global: &mut RunState<H>,
     seeks: Seeks,
     name: &str,
     first: &Dynamic<H>,
     rest: &[Dynamic<H>],
 ) -> Result<Option<Function<H>>, AllocError>
-    ensures { IfOk result (λ found.
-        found ≡ script_function (offer_of session.now) (surroundings_of global.now) H.name_of seeks name.now
+    ensures found { IfOk result (λ found.
+        found ≡ script_function (offer_of session.now) (surroundings_of global.old) H.name_of seeks name.now
         (first.now ∷ rest.now)) }
+    ensures same { global.new ≡ global.old }
 {
     if seeks.natives_alone {
         return Ok(None);
     }
     if seeks.of_method {
         let this_type = first.type_name(&global.cells);
-        return method_by(session, global, name, this_type, rest.len());
+        return method_by(session, &mut global.lists, name, this_type, rest.len());
     }
-    function_by(session, global, name, 1 + rest.len())
+    function_by(session, &mut global.lists, name, 1 + rest.len())
 }
 
 /// Decides what a call by name means whose arguments are there, before anything is done for it. None where it
 /// is a native's.
 fn resolve<H: Host>(
     session: &Session<'_, H>,
-    global: &GlobalRuntimeState<H>,
+    global: &mut RunState<H>,
     seeks: Seeks,
     operation: &Operation<'_>,
     first: &Dynamic<H>,
     rest: &[Dynamic<H>],
 ) -> Option<Called<Dynamic<H>, Function<H>, H>>
-    ensures { ResolvesCall (offer_of session.now) (surroundings_of global.now) H.name_of seeks
+    ensures resolves { ResolvesCall (offer_of session.now) (surroundings_of global.old) H.name_of seeks
         (operation_of operation.now) (first.now ∷ rest.now) result }
+    ensures same { global.new ≡ global.old }
 {
     if call_races(&global.cells, first, rest) {
         return Some(Called::Ended(Err(data_race_by(session.alloc, operation.name, operation.at))));
@@ -337,7 +331,7 @@ fn resolve<H: Host>(
 /// `ErrorFunctionNotFound` for `eval`; those of `rhai_calls::native::pass_native`.
 pub fn pass_call<H: Host, T: NativeTable<H>>(
     session: &Session<'_, H>,
-    global: &mut GlobalRuntimeState<H>,
+    global: &mut RunState<H>,
     table: &mut T,
     seeks: Seeks,
     operation: &Operation<'_>,
@@ -357,7 +351,7 @@ pub fn pass_call<H: Host, T: NativeTable<H>>(
     ensures same { IfEnters result (first.new ≡ first.old) }
     ensures untold { IfEnded result (λ answer. passing.marks ≡ false → answer.1 ≡ false) }
 {
-    match resolve(session, &*global, seeks, operation, &*first, rest) {
+    match resolve(session, global, seeks, operation, &*first, rest) {
         Some(called) => match called {
             Called::Ended(result) => Called::Ended(tell_changed(result, false)),
             Called::Enters(function) => Called::Enters(function),
@@ -369,31 +363,33 @@ pub fn pass_call<H: Host, T: NativeTable<H>>(
 /// Finds the function of a script that a call without arguments means. None where its native is meant.
 fn function_alone<H: Host>(
     session: &Session<'_, H>,
-    global: &GlobalRuntimeState<H>,
+    global: &mut RunState<H>,
     natives_alone: bool,
     name: &str,
 ) -> Result<Option<Function<H>>, AllocError>
-    ensures { IfOk result (λ found. found ≡ (if natives_alone then None
-        else plain_found (offer_of session.now) (surroundings_of global.now) name.now 0)) }
+    ensures found { IfOk result (λ found. found ≡ (if natives_alone then None
+        else plain_found (offer_of session.now) (surroundings_of global.old) name.now 0)) }
+    ensures same { global.new ≡ global.old }
 {
     if natives_alone {
         return Ok(None);
     }
-    function_by(session, global, name, 0)
+    function_by(session, &mut global.lists, name, 0)
 }
 
 /// Decides what a call by name means that is no method's, with any number of arguments. None where it is a
 /// native's.
 fn resolve_all<H: Host>(
     session: &Session<'_, H>,
-    global: &GlobalRuntimeState<H>,
+    global: &mut RunState<H>,
     natives_alone: bool,
     operation: &Operation<'_>,
     args: &[Dynamic<H>],
 ) -> Option<Called<Dynamic<H>, Function<H>, H>>
-    ensures { ResolvesCall (offer_of session.now) (surroundings_of global.now) H.name_of
+    ensures resolves { ResolvesCall (offer_of session.now) (surroundings_of global.old) H.name_of
         (record { of_method = false; natives_alone = natives_alone })
         (operation_of operation.now) args.now result }
+    ensures same { global.new ≡ global.old }
 {
     match args {
         [] => match function_alone(session, global, natives_alone, operation.name) {
@@ -414,7 +410,7 @@ fn resolve_all<H: Host>(
 /// Calls the native of a name, with any number of arguments, none of which is lent.
 fn call_native_all<H: Host, T: NativeTable<H>>(
     session: &Session<'_, H>,
-    global: &mut GlobalRuntimeState<H>,
+    global: &mut RunState<H>,
     table: &mut T,
     operation: &Operation<'_>,
     args: &mut [Dynamic<H>],
@@ -446,7 +442,7 @@ fn call_native_all<H: Host, T: NativeTable<H>>(
 /// Those of `pass_call`.
 pub fn pass_all<H: Host, T: NativeTable<H>>(
     session: &Session<'_, H>,
-    global: &mut GlobalRuntimeState<H>,
+    global: &mut RunState<H>,
     table: &mut T,
     natives_alone: bool,
     operation: &Operation<'_>,
@@ -464,7 +460,7 @@ pub fn pass_all<H: Host, T: NativeTable<H>>(
     ensures same { IfEnters result (args.new ≡ args.old) }
     ensures untold { IfEnded result (λ answer. marks ≡ false → answer.1 ≡ false) }
 {
-    match resolve_all(session, &*global, natives_alone, operation, &*args) {
+    match resolve_all(session, global, natives_alone, operation, &*args) {
         Some(called) => match called {
             Called::Ended(result) => Called::Ended(tell_changed(result, false)),
             Called::Enters(function) => Called::Enters(function),
@@ -480,7 +476,7 @@ pub fn pass_all<H: Host, T: NativeTable<H>>(
 /// Those of `pass_call`.
 pub fn call_all<H: Host, T: NativeTable<H>>(
     session: &Session<'_, H>,
-    global: &mut GlobalRuntimeState<H>,
+    global: &mut RunState<H>,
     table: &mut T,
     natives_alone: bool,
     operation: &Operation<'_>,

@@ -20,8 +20,8 @@ ghost use Rattle.rhai_calls.specs.Natives.{lends_from, native_call, native_key, 
 use rhai_errors::error::EvalAltResult;
 use rhai_errors::errors::{data_race_by, non_pure};
 use rhai_errors::table::{Answer, NativeTable};
+use rhai_lookups::run::RunState;
 use rhai_state::session::Session;
-use rhai_state::state::GlobalRuntimeState;
 use rhai_steps::charges::track_operation;
 use rhai_steps::operation::Operation;
 use rhai_steps::replies::{replied, settle_lone_reply};
@@ -327,7 +327,7 @@ fn call_in_cell<H: Host, T: NativeTable<H>>(
 /// Calls a native on its first argument. A handle stands for the value of its cell.
 fn call_first<H: Host, T: NativeTable<H>>(
     session: &Session<'_, H>,
-    global: &mut GlobalRuntimeState<H>,
+    global: &mut RunState<H>,
     table: &mut T,
     operation: &Operation<'_>,
     id: Option<NativeId>,
@@ -409,7 +409,7 @@ fn call_alone<H: Host, T: NativeTable<H>>(
 /// an answer above a limit.
 pub fn pass_native<H: Host, T: NativeTable<H>>(
     session: &Session<'_, H>,
-    global: &mut GlobalRuntimeState<H>,
+    global: &mut RunState<H>,
     table: &mut T,
     operation: &Operation<'_>,
     first: &mut Dynamic<H>,
@@ -438,7 +438,7 @@ pub fn pass_native<H: Host, T: NativeTable<H>>(
 /// Those of `pass_native` but for a race and a constant.
 pub fn pass_native_alone<H: Host, T: NativeTable<H>>(
     session: &Session<'_, H>,
-    global: &mut GlobalRuntimeState<H>,
+    global: &mut RunState<H>,
     table: &mut T,
     operation: &Operation<'_>,
     marks: bool,
@@ -464,7 +464,7 @@ pub fn pass_native_alone<H: Host, T: NativeTable<H>>(
 /// Those of `pass_native`.
 pub fn call_native<H: Host, T: NativeTable<H>>(
     session: &Session<'_, H>,
-    global: &mut GlobalRuntimeState<H>,
+    global: &mut RunState<H>,
     table: &mut T,
     operation: &Operation<'_>,
     first: &mut Dynamic<H>,
@@ -495,7 +495,7 @@ pub fn call_native<H: Host, T: NativeTable<H>>(
 /// Those of `pass_native` but for the charge and a constant.
 pub fn call_number<H: Host, T: NativeTable<H>>(
     session: &Session<'_, H>,
-    global: &mut GlobalRuntimeState<H>,
+    global: &mut RunState<H>,
     table: &mut T,
     id: NativeId,
     operation: &Operation<'_>,
@@ -533,7 +533,7 @@ pub fn call_number<H: Host, T: NativeTable<H>>(
 /// Those of `pass_native` but for the charge.
 pub fn call_number_on<H: Host, T: NativeTable<H>>(
     session: &Session<'_, H>,
-    global: &mut GlobalRuntimeState<H>,
+    global: &mut RunState<H>,
     table: &mut T,
     id: NativeId,
     operation: &Operation<'_>,
@@ -571,7 +571,7 @@ pub fn call_number_on<H: Host, T: NativeTable<H>>(
 /// Those of `call_number` but for a race.
 pub fn call_number_alone<H: Host, T: NativeTable<H>>(
     session: &Session<'_, H>,
-    global: &mut GlobalRuntimeState<H>,
+    global: &mut RunState<H>,
     table: &mut T,
     id: NativeId,
     operation: &Operation<'_>,

@@ -17,9 +17,9 @@ use rhai_errors::error::EvalAltResult;
 use rhai_errors::table::NativeTable;
 use rhai_few::Few;
 use rhai_functions::function::Function;
+use rhai_lookups::run::RunState;
 use rhai_operators::{builtin_binary, builtin_unary};
 use rhai_state::session::Session;
-use rhai_state::state::GlobalRuntimeState;
 use rhai_steps::operation::Operation;
 use rhai_steps::replies::applied;
 use rhai_steps::values::{let_go, unit_value};
@@ -52,7 +52,7 @@ fn push_two<H: Host>(list: &mut Few<Dynamic<H>>, left: Dynamic<H>, right: Dynami
 /// Calls an operator that is no built-in of its operands, if there was memory for their list.
 fn call_listed<H: Host, T: NativeTable<H>>(
     session: &Session<'_, H>,
-    global: &mut GlobalRuntimeState<H>,
+    global: &mut RunState<H>,
     table: &mut T,
     operation: &Operation<'_>,
     operands: &mut Few<Dynamic<H>>,
@@ -83,7 +83,7 @@ fn call_listed<H: Host, T: NativeTable<H>>(
 /// of `rhai_calls::dispatch::call_all`, at the operator.
 pub fn operate_one<H: Host, T: NativeTable<H>>(
     session: &Session<'_, H>,
-    global: &mut GlobalRuntimeState<H>,
+    global: &mut RunState<H>,
     table: &mut T,
     call: &FnCallExpr,
     token: Token,
@@ -128,7 +128,7 @@ pub fn operate_one<H: Host, T: NativeTable<H>>(
 /// Those of `operate_one`.
 pub fn operate_two<H: Host, T: NativeTable<H>>(
     session: &Session<'_, H>,
-    global: &mut GlobalRuntimeState<H>,
+    global: &mut RunState<H>,
     table: &mut T,
     call: &FnCallExpr,
     token: Token,

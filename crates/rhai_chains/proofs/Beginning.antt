@@ -10,7 +10,7 @@ use Rattle.rhai_values.specs.declared.base.value.Union.TheVariants as value
 use Rattle.rhai_values.specs.Cells.{value_of_cell, cells_of}
 use Rattle.rhai_values.specs.Layers.{layer_of}
 use Rattle.rhai_state.specs.declared.scope.Scope.{Scope}
-use Rattle.rhai_state.specs.declared.state.GlobalRuntimeState.{GlobalRuntimeState}
+use Rattle.rhai_lookups.specs.declared.run.RunState.{RunState}
 use Rattle.rhai_errors.specs.declared.error.EvalAltResult.{EvalAltResult}
 use Rattle.rhai_errors.specs.declared.error.EvalAltResult.TheVariants as error
 use Rattle.rhai_errors.specs.Errors.{is_out_of_memory}
@@ -150,9 +150,9 @@ module _ {S H : Type 0} (rules : Rules S H) (link : Link) (chain : Chain H) (is 
         may_run_out = λ pos k. out_before_step {at = pos} here;
       }
 
-  module _ (t : S) (old new : GlobalRuntimeState H) (scope : Scope H) (held : Held H) (focus : Dynamic H)
+  module _ (t : S) (old new : RunState H) (scope : Scope H) (held : Held H) (focus : Dynamic H)
       (goes : GoesOn link (cells_of old.cells) focus) (charged_by : IsCharged link.form (layer_of goes.inner)) where
-    abbrev state_in : GlobalRuntimeState H → State S H
+    abbrev state_in : RunState H → State S H
     state_in global = state_of t global scope (lending held focus)
 
     moves : (k : List (Frame H)) → move rules.setting (at {S = S} (Walk chain) k (state_in old)).core

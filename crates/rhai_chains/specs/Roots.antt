@@ -6,7 +6,7 @@ use Rattle.rhai_values.specs.Cells.{cells_of}
 use Rattle.rhai_errors.specs.declared.error.EvalAltResult.{EvalAltResult}
 use Rattle.rhai_errors.specs.declared.error.EvalAltResult.TheVariants as error
 use Rattle.rhai_state.specs.declared.scope.ScopeEntry.{ScopeEntry}
-use Rattle.rhai_state.specs.declared.state.GlobalRuntimeState.{GlobalRuntimeState}
+use Rattle.rhai_lookups.specs.declared.run.RunState.{RunState}
 use Rattle.rhai_errors.specs.Errors.{is_out_of_memory}
 use Rattle.rhai_state.specs.Scope.{revalued, value_in}
 use Rattle.rhai_machine.specs.language.Calls.{is_held}
@@ -18,7 +18,7 @@ use Rattle.rhai_steps.specs.States.{surroundings_of}
 use Rattle.rhai_context.specs.Ends.{unit}
 
 module _ {H : Type 0} where
-  module _ (globals : Globals H) (global : GlobalRuntimeState H) (variable : Variable) where
+  module _ (globals : Globals H) (global : RunState H) (variable : Variable) where
     -- why no walk begins on a variable, by the entry that it means: it means nothing, or the entry is the handle of a held cell
     abbrev pub RefusesVariable : List (ScopeEntry H) → Option ℕ → EvalAltResult H → Type 0
     RefusesVariable entries None e = is_out_of_memory e ≡ false → Err e ≡ value_beside globals (surroundings_of global) variable

@@ -38,12 +38,12 @@ use rhai_assign::focus::{assign_focus, assign_inserted};
 use rhai_errors::error::EvalAltResult;
 use rhai_errors::errors::{constant_of, data_too_large};
 use rhai_errors::table::NativeTable;
+use rhai_lookups::run::RunState;
 use rhai_places::part::read_part;
 use rhai_places::place::place_mut;
 use rhai_places::put::put_part;
 use rhai_spots::spot::Spot;
 use rhai_state::session::Session;
-use rhai_state::state::GlobalRuntimeState;
 use rhai_steps::replies::sized;
 use rhai_steps::values::{let_go, unit_value};
 use rhai_tree::expr::Expr;
@@ -130,7 +130,7 @@ fn measure_assigned<H: Host>(
 /// finds none.
 fn assign_to<H: Host, T: NativeTable<H>>(
     session: &Session<'_, H>,
-    global: &mut GlobalRuntimeState<H>,
+    global: &mut RunState<H>,
     table: &mut T,
     target: &mut Dynamic<H>,
     root: &Expr,
@@ -153,7 +153,7 @@ fn assign_to<H: Host, T: NativeTable<H>>(
 /// Assigns to an item, which is measured then.
 fn assign_item<H: Host, T: NativeTable<H>>(
     session: &Session<'_, H>,
-    global: &mut GlobalRuntimeState<H>,
+    global: &mut RunState<H>,
     table: &mut T,
     source: &mut Dynamic<H>,
     spot: Spot,
@@ -178,7 +178,7 @@ fn assign_item<H: Host, T: NativeTable<H>>(
 /// Assigns to a property of a map, which is measured then.
 fn assign_property<H: Host, T: NativeTable<H>>(
     session: &Session<'_, H>,
-    global: &mut GlobalRuntimeState<H>,
+    global: &mut RunState<H>,
     table: &mut T,
     source: &mut Dynamic<H>,
     spot: Spot,
@@ -221,7 +221,7 @@ fn put_assigned<H: Host>(
 /// Assigns to a part that was read.
 fn assign_read<H: Host, T: NativeTable<H>>(
     session: &Session<'_, H>,
-    global: &mut GlobalRuntimeState<H>,
+    global: &mut RunState<H>,
     table: &mut T,
     source: &mut Dynamic<H>,
     spot: Spot,
@@ -254,7 +254,7 @@ fn assign_read<H: Host, T: NativeTable<H>>(
 /// Assigns to a part, which goes back into its place and is measured.
 fn assign_part<H: Host, T: NativeTable<H>>(
     session: &Session<'_, H>,
-    global: &mut GlobalRuntimeState<H>,
+    global: &mut RunState<H>,
     table: &mut T,
     source: &mut Dynamic<H>,
     spot: Spot,
@@ -283,7 +283,7 @@ fn assign_part<H: Host, T: NativeTable<H>>(
 /// Assigns to a place, by the form of the link that leads there.
 fn assign_place<H: Host, T: NativeTable<H>>(
     session: &Session<'_, H>,
-    global: &mut GlobalRuntimeState<H>,
+    global: &mut RunState<H>,
     table: &mut T,
     source: &mut Dynamic<H>,
     spot: Spot,
@@ -317,7 +317,7 @@ fn is_place(spot: Spot) -> bool
 /// Assigns to a spot that was found.
 fn assign_spot<H: Host, T: NativeTable<H>>(
     session: &Session<'_, H>,
-    global: &mut GlobalRuntimeState<H>,
+    global: &mut RunState<H>,
     table: &mut T,
     source: &mut Dynamic<H>,
     spot: Spot,
@@ -351,7 +351,7 @@ fn assign_spot<H: Host, T: NativeTable<H>>(
 /// `ErrorMismatchDataType` for a part that has become of another type, and `ErrorDataTooLarge`.
 pub fn assign_at<H: Host, T: NativeTable<H>>(
     session: &Session<'_, H>,
-    global: &mut GlobalRuntimeState<H>,
+    global: &mut RunState<H>,
     table: &mut T,
     source: &mut Dynamic<H>,
     index: &Dynamic<H>,
@@ -408,7 +408,7 @@ fn item_set<H: Host>(
 /// Sets a member at the end of an assignment. What a property's setter gives is the answer.
 fn set_assigned<H: Host, T: NativeTable<H>>(
     session: &Session<'_, H>,
-    global: &mut GlobalRuntimeState<H>,
+    global: &mut RunState<H>,
     table: &mut T,
     focus: &mut Dynamic<H>,
     access: &mut MemberAccess<'_, H>,
@@ -434,7 +434,7 @@ fn set_assigned<H: Host, T: NativeTable<H>>(
 /// Sets a member to what an operator gave; an item is measured first.
 fn set_operated<H: Host, T: NativeTable<H>>(
     session: &Session<'_, H>,
-    global: &mut GlobalRuntimeState<H>,
+    global: &mut RunState<H>,
     table: &mut T,
     focus: &mut Dynamic<H>,
     access: &mut MemberAccess<'_, H>,
@@ -461,7 +461,7 @@ fn set_operated<H: Host, T: NativeTable<H>>(
 /// Operates on the value that was got of a member, and sets the member to it.
 fn operate<H: Host, T: NativeTable<H>>(
     session: &Session<'_, H>,
-    global: &mut GlobalRuntimeState<H>,
+    global: &mut RunState<H>,
     table: &mut T,
     focus: &mut Dynamic<H>,
     access: &mut MemberAccess<'_, H>,
@@ -495,7 +495,7 @@ fn operate<H: Host, T: NativeTable<H>>(
 /// was not got answers the error.
 fn set_ungot<H: Host, T: NativeTable<H>>(
     session: &Session<'_, H>,
-    global: &mut GlobalRuntimeState<H>,
+    global: &mut RunState<H>,
     table: &mut T,
     focus: &mut Dynamic<H>,
     access: &mut MemberAccess<'_, H>,
@@ -527,7 +527,7 @@ fn set_ungot<H: Host, T: NativeTable<H>>(
 /// on, and it is set to that.
 pub fn assign_member<H: Host, T: NativeTable<H>>(
     session: &Session<'_, H>,
-    global: &mut GlobalRuntimeState<H>,
+    global: &mut RunState<H>,
     table: &mut T,
     focus: &mut Dynamic<H>,
     access: &mut MemberAccess<'_, H>,

@@ -23,14 +23,14 @@ use crate::ways::take_below;
 use rhai_context::ends::{fail, put, settle_changed};
 use rhai_errors::error::EvalAltResult;
 use rhai_errors::table::NativeTable;
-use rhai_state::state::GlobalRuntimeState;
+use rhai_lookups::run::RunState;
 use rhai_values::base::value::{Dynamic, Host};
 
 /// Ends the chain in what an index or a key leads to, which is taken or assigned to. How it ended goes where
 /// it belongs.
 pub fn end_at<H: Host, T: NativeTable<H>>(
     walker: &Walker<'_, '_, H>,
-    global: &mut GlobalRuntimeState<H>,
+    global: &mut RunState<H>,
     out: &mut Dynamic<H>,
     place: &mut Option<EvalAltResult<H>>,
     table: &mut T,
@@ -76,7 +76,7 @@ pub fn end_at<H: Host, T: NativeTable<H>>(
 /// Ends the chain in a member, which is got or assigned to. How it ended goes where it belongs.
 pub fn end_member<H: Host, T: NativeTable<H>>(
     walker: &Walker<'_, '_, H>,
-    global: &mut GlobalRuntimeState<H>,
+    global: &mut RunState<H>,
     out: &mut Dynamic<H>,
     place: &mut Option<EvalAltResult<H>>,
     table: &mut T,

@@ -22,8 +22,8 @@ use rhai_calls::native::{Passing, pass_native, tell_changed};
 use rhai_errors::error::EvalAltResult;
 use rhai_errors::table::NativeTable;
 use rhai_few::Few;
+use rhai_lookups::run::RunState;
 use rhai_state::session::Session;
-use rhai_state::state::GlobalRuntimeState;
 use rhai_steps::operation::Operation;
 use rhai_steps::values::{let_go, list_of, text_value, unit_value};
 use rhai_tree::position::Position;
@@ -109,7 +109,7 @@ fn first_of<H: Host>(items: &mut Few<Dynamic<H>>) -> Dynamic<H>
 /// Asks the getter or the setter of a property, which the focus is lent to.
 fn ask_property<H: Host, T: NativeTable<H>>(
     session: &Session<'_, H>,
-    global: &mut GlobalRuntimeState<H>,
+    global: &mut RunState<H>,
     table: &mut T,
     focus: &mut Dynamic<H>,
     prefix: &str,
@@ -149,7 +149,7 @@ fn ask_property<H: Host, T: NativeTable<H>>(
 /// Asks the indexer that gets, which the focus is lent to.
 fn ask_item<H: Host, T: NativeTable<H>>(
     session: &Session<'_, H>,
-    global: &mut GlobalRuntimeState<H>,
+    global: &mut RunState<H>,
     table: &mut T,
     focus: &mut Dynamic<H>,
     index: &mut Dynamic<H>,
@@ -199,7 +199,7 @@ fn ask_item<H: Host, T: NativeTable<H>>(
 /// Asks the setter of a property.
 fn ask_setter<H: Host, T: NativeTable<H>>(
     session: &Session<'_, H>,
-    global: &mut GlobalRuntimeState<H>,
+    global: &mut RunState<H>,
     table: &mut T,
     focus: &mut Dynamic<H>,
     property: &NamedProperty<'_>,
@@ -247,7 +247,7 @@ fn ask_setter<H: Host, T: NativeTable<H>>(
 /// Asks the indexer that sets.
 fn ask_to_set<H: Host, T: NativeTable<H>>(
     session: &Session<'_, H>,
-    global: &mut GlobalRuntimeState<H>,
+    global: &mut RunState<H>,
     table: &mut T,
     focus: &mut Dynamic<H>,
     index: Dynamic<H>,
@@ -314,7 +314,7 @@ fn unless_missing<H: Host>(
 /// Asks the indexer for a property that has no getter. Where it is missing too, the getter's error stands.
 fn get_named<H: Host, T: NativeTable<H>>(
     session: &Session<'_, H>,
-    global: &mut GlobalRuntimeState<H>,
+    global: &mut RunState<H>,
     table: &mut T,
     focus: &mut Dynamic<H>,
     name: &Shared<Text>,
@@ -348,7 +348,7 @@ fn get_named<H: Host, T: NativeTable<H>>(
 /// Gets a property of the focus.
 fn get_property<H: Host, T: NativeTable<H>>(
     session: &Session<'_, H>,
-    global: &mut GlobalRuntimeState<H>,
+    global: &mut RunState<H>,
     table: &mut T,
     focus: &mut Dynamic<H>,
     property: &NamedProperty<'_>,
@@ -406,7 +406,7 @@ fn get_property<H: Host, T: NativeTable<H>>(
 /// Those of the natives; where a property has neither getter nor indexer the getter's `ErrorDotExpr`.
 pub fn get_member<H: Host, T: NativeTable<H>>(
     session: &Session<'_, H>,
-    global: &mut GlobalRuntimeState<H>,
+    global: &mut RunState<H>,
     table: &mut T,
     focus: &mut Dynamic<H>,
     access: &mut MemberAccess<'_, H>,
@@ -443,7 +443,7 @@ pub fn get_member<H: Host, T: NativeTable<H>>(
 /// Asks the indexer to set a property that has no setter.
 fn set_named<H: Host, T: NativeTable<H>>(
     session: &Session<'_, H>,
-    global: &mut GlobalRuntimeState<H>,
+    global: &mut RunState<H>,
     table: &mut T,
     focus: &mut Dynamic<H>,
     property: &NamedProperty<'_>,
@@ -499,7 +499,7 @@ fn instead_of_indexer<H: Host>(
 /// Sets a property of the focus.
 fn set_property<H: Host, T: NativeTable<H>>(
     session: &Session<'_, H>,
-    global: &mut GlobalRuntimeState<H>,
+    global: &mut RunState<H>,
     table: &mut T,
     focus: &mut Dynamic<H>,
     property: &NamedProperty<'_>,
@@ -536,7 +536,7 @@ fn set_property<H: Host, T: NativeTable<H>>(
 /// Sets an item of the focus.
 fn set_item<H: Host, T: NativeTable<H>>(
     session: &Session<'_, H>,
-    global: &mut GlobalRuntimeState<H>,
+    global: &mut RunState<H>,
     table: &mut T,
     focus: &mut Dynamic<H>,
     index: Dynamic<H>,
@@ -571,7 +571,7 @@ fn set_item<H: Host, T: NativeTable<H>>(
 /// unless that is ignored.
 pub fn set_member<H: Host, T: NativeTable<H>>(
     session: &Session<'_, H>,
-    global: &mut GlobalRuntimeState<H>,
+    global: &mut RunState<H>,
     table: &mut T,
     focus: &mut Dynamic<H>,
     access: &mut MemberAccess<'_, H>,

@@ -22,9 +22,9 @@ use rhai_context::ends::{stop, take_value};
 use rhai_context::outcomes::flatten_at;
 use rhai_errors::error::EvalAltResult;
 use rhai_errors::errors::{data_race, data_race_of};
+use rhai_lookups::run::RunState;
 use rhai_state::scope::Scope;
 use rhai_state::session::Session;
-use rhai_state::state::GlobalRuntimeState;
 use rhai_steps::values::{let_go, unit_value};
 use rhai_steps::variables::{Variable, entry_of_variable, read_beside};
 use rhai_tree::expr::Expr;
@@ -62,7 +62,7 @@ fn refuses_held<H: Host>(
 /// `read_beside`. It is left in `place`, and the variables stay.
 pub fn lend_variable<H: Host>(
     session: &Session<'_, H>,
-    global: &GlobalRuntimeState<H>,
+    global: &RunState<H>,
     scope: &mut Scope<H>,
     place: &mut Option<EvalAltResult<H>>,
     variable: &Variable<'_>,

@@ -22,7 +22,7 @@ use crate::walker::Walker;
 use rhai_context::ends::{fail, stop};
 use rhai_errors::error::EvalAltResult;
 use rhai_errors::table::NativeTable;
-use rhai_state::state::GlobalRuntimeState;
+use rhai_lookups::run::RunState;
 use rhai_steps::values::copy;
 use rhai_values::base::value::{Dynamic, Host};
 use std::alloc::Global;
@@ -82,7 +82,7 @@ fn keep_access<'e, H: Host>(
 /// Gets a member of the focus, and keeps how it is set again. An error is left in `place`.
 pub fn get_kept<'e, H: Host, T: NativeTable<H>>(
     walker: &Walker<'_, '_, H>,
-    global: &mut GlobalRuntimeState<H>,
+    global: &mut RunState<H>,
     place: &mut Option<EvalAltResult<H>>,
     table: &mut T,
     focus: &mut Dynamic<H>,
@@ -126,7 +126,7 @@ pub fn get_kept<'e, H: Host, T: NativeTable<H>>(
 /// walk came to stays where it is, unless that is refused.
 pub fn come_back<H: Host, T: NativeTable<H>>(
     walker: &Walker<'_, '_, H>,
-    global: &mut GlobalRuntimeState<H>,
+    global: &mut RunState<H>,
     out: &Dynamic<H>,
     place: &mut Option<EvalAltResult<H>>,
     table: &mut T,
@@ -166,7 +166,7 @@ pub fn come_back<H: Host, T: NativeTable<H>>(
 /// Sets a temporary that was changed in the value that it came from. The answer is the walk's value.
 fn set_back<H: Host, T: NativeTable<H>>(
     walker: &Walker<'_, '_, H>,
-    global: &mut GlobalRuntimeState<H>,
+    global: &mut RunState<H>,
     out: &Dynamic<H>,
     place: &mut Option<EvalAltResult<H>>,
     table: &mut T,

@@ -32,9 +32,9 @@ use rhai_context::ends::stop;
 use rhai_errors::error::EvalAltResult;
 use rhai_errors::errors::data_race;
 use rhai_errors::table::NativeTable;
+use rhai_lookups::run::RunState;
 use rhai_spots::spot::Spot;
 use rhai_state::session::Session;
-use rhai_state::state::GlobalRuntimeState;
 use rhai_steps::charges::track_operation;
 use rhai_steps::values::{text_value, unit_value};
 use rhai_tree::expr::{Expr, FnCallExpr};
@@ -151,7 +151,7 @@ pub enum Begun<H> {
 /// At the operator `ErrorDataRace` for the handle of a cell that is held; and a charge's.
 pub fn begin_link<H: Host, T: NativeTable<H>>(
     session: &Session<'_, H>,
-    global: &mut GlobalRuntimeState<H>,
+    global: &mut RunState<H>,
     table: &T,
     focus: &Dynamic<H>,
     link: Link<'_>,

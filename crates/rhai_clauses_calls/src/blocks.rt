@@ -2,21 +2,24 @@
 
 ghost use Rattle.rhai_tree.specs.Frame.{all_resolve, resolves_stmt};
 ghost use Rattle.rhai_tree.specs.Names.{Begins};
+ghost use Rattle.rhai_lookups.specs.Levels.{CachesFit};
+ghost use Rattle.rhai_lookups.specs.Runs.{lists_of};
 ghost use Rattle.rhai_eval.specs.Places.{with_place};
 ghost use Rattle.rhai_eval.specs.States.{under};
 ghost use Rattle.rhai_laws.specs.Kept.{Grown, Kept};
 ghost use Rattle.rhai_calls.specs.Targets.{StaysAlike, value_walked_on};
 ghost use Rattle.rhai_state.specs.Scope.{names_in};
-ghost use Rattle.rhai_steps.specs.Agreement.{AgreesAt, passes};
-ghost use Rattle.rhai_steps.specs.States.{holding, state_of};
+ghost use Rattle.rhai_steps.specs.Callers.{AgreesAt, state_of};
+ghost use Rattle.rhai_steps.specs.Agreement.{passes};
+ghost use Rattle.rhai_steps.specs.States.{holding};
 ghost use Rattle.rhai_values.specs.Cells.{IsNoHandle};
 ghost use Rattle.std.specs.Prelude.{IsTrue, Some, length, map, ◌≡◌, ◌≤◌};
 
 use rhai_errors::error::EvalAltResult;
 use rhai_errors::table::NativeTable;
 use rhai_eval::engine::Engine;
+use rhai_lookups::caches::Caches;
 use rhai_places::target::Target;
-use rhai_state::caches::Caches;
 use rhai_state::scope::Scope;
 use rhai_state::state::GlobalRuntimeState;
 use rhai_tree::expr::{Expr, OpAssignment, Stmt};
@@ -35,6 +38,7 @@ pub fn eval_stmt_block<H: Host, T: NativeTable<H>>(
     statements: &[Stmt],
     restore_orig_state: bool,
 ) -> Result<Dynamic<H>, EvalAltResult<H>>
+    requires fit { CachesFit (lists_of global.old) caches.old }
     requires resolves { AgreesAt global.old scope.old
         (passes (all_resolve (map resolves_stmt statements.now))) }
     ensures kept { Grown (under H.name_of engine.now T.natives)

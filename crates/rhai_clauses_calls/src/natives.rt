@@ -5,15 +5,15 @@ ghost use Rattle.rhai_eval.specs.Places.{with_place};
 ghost use Rattle.rhai_eval.specs.States.{limits_of, under};
 ghost use Rattle.rhai_index.specs.Indexes.{Indexes};
 ghost use Rattle.rhai_laws.specs.Kept.{Kept};
-ghost use Rattle.rhai_steps.specs.States.{state_of};
+ghost use Rattle.rhai_steps.specs.Callers.{state_of};
 ghost use Rattle.rhai_values.specs.Cells.{IsNoHandle};
 ghost use Rattle.std.specs.Prelude.{Some, ◌<◌, ◌≡◌};
 
 use rhai_errors::error::EvalAltResult;
 use rhai_errors::table::NativeTable;
 use rhai_eval::engine::Engine;
+use rhai_lookups::caches::Caches;
 use rhai_places::target::Target;
-use rhai_state::caches::Caches;
 use rhai_state::state::GlobalRuntimeState;
 use rhai_tree::position::Position;
 use rhai_tree::token::Token;

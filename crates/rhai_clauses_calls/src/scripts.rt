@@ -1,16 +1,19 @@
 //! Functions of scripts.
 
 ghost use Rattle.rhai_tree.specs.Names.{Begins};
+ghost use Rattle.rhai_lookups.specs.Levels.{CachesFit};
+ghost use Rattle.rhai_lookups.specs.Runs.{lists_of};
 ghost use Rattle.rhai_eval.specs.States.{under};
 ghost use Rattle.rhai_laws.specs.Kept.{Kept};
 ghost use Rattle.rhai_state.specs.Scope.{names_in};
-ghost use Rattle.rhai_steps.specs.States.{holding, state_of};
+ghost use Rattle.rhai_steps.specs.Callers.{state_of};
+ghost use Rattle.rhai_steps.specs.States.{holding};
 ghost use Rattle.std.specs.Prelude.{IsTrue, Some, length, ◌≡◌, ◌≤◌};
 
 use rhai_errors::error::EvalAltResult;
 use rhai_errors::table::NativeTable;
 use rhai_eval::engine::Engine;
-use rhai_state::caches::Caches;
+use rhai_lookups::caches::Caches;
 use rhai_state::scope::Scope;
 use rhai_state::state::GlobalRuntimeState;
 use rhai_tree::checked::CheckedFn;
@@ -33,6 +36,7 @@ pub fn call_script_fn<H: Host, T: NativeTable<H>>(
     rewind_scope: bool,
     pos: Position,
 ) -> Result<Dynamic<H>, EvalAltResult<H>>
+    requires fit { CachesFit (lists_of global.old) caches.old }
     ensures kept { Kept (under H.name_of engine.now T.natives)
         (state_of (T.state table.old) global.old scope.old (holding (Some this.old)))
         (state_of (T.state table.new) global.new scope.new (holding (Some this.new))) }

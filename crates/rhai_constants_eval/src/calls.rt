@@ -3,9 +3,11 @@
 ghost use Rattle.std.specs.Prelude.{◌≡◌, ◌||◌, Some, false, true};
 ghost use Rattle.std.specs.Option.{option_copied};
 ghost use Rattle.rhai_values.specs.Cells.{cells_of};
+ghost use Rattle.rhai_lookups.specs.Levels.{CachesFit};
+ghost use Rattle.rhai_lookups.specs.Runs.{lists_of};
 ghost use Rattle.rhai_machine.specs.language.Calls.{dispatch_core};
 ghost use Rattle.rhai_fits.specs.Sealed.{AreSealed};
-ghost use Rattle.rhai_steps.specs.States.{state_of};
+ghost use Rattle.rhai_steps.specs.Callers.{state_of};
 ghost use Rattle.rhai_eval.specs.Places.{by_name, by_value, on_place, with_place};
 ghost use Rattle.rhai_eval.specs.States.{under};
 ghost use Rattle.rhai_constants_eval.specs.Staying.{StaysChanged};
@@ -13,7 +15,7 @@ ghost use Rattle.rhai_constants_eval.specs.Staying.{StaysChanged};
 use rhai_errors::error::EvalAltResult;
 use rhai_errors::table::NativeTable;
 use rhai_eval::engine::Engine;
-use rhai_state::caches::Caches;
+use rhai_lookups::caches::Caches;
 use rhai_state::scope::Scope;
 use rhai_state::state::GlobalRuntimeState;
 use rhai_tree::position::Position;
@@ -38,6 +40,7 @@ pub fn exec_fn_call<H: Host, T: NativeTable<H>>(
     is_method_call: bool,
     position: Position,
 ) -> Result<(Dynamic<H>, bool), EvalAltResult<H>>
+    requires fit { CachesFit (lists_of global.old) caches.old }
     requires lent { (is_ref_mut || is_method_call) ≡ true }
     requires sealed { AreSealed (cells_of global.old.cells) }
     ensures stays { (this : _) → let rules = under H.name_of engine.now T.natives in StaysChanged rules
@@ -78,6 +81,7 @@ pub fn exec_fn_call_by_value<H: Host, T: NativeTable<H>>(
     rest: &mut [Dynamic<H>],
     position: Position,
 ) -> Result<(Dynamic<H>, bool), EvalAltResult<H>>
+    requires fit { CachesFit (lists_of global.old) caches.old }
     requires sealed { AreSealed (cells_of global.old.cells) }
     ensures stays { (held : _) → let rules = under H.name_of engine.now T.natives in StaysChanged rules
         (dispatch_core rules.setting (by_name false true) (by_value

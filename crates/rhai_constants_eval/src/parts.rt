@@ -8,12 +8,15 @@ ghost use Rattle.rhai_tree.specs.Forms.{is_unqualified};
 ghost use Rattle.rhai_tree.specs.Frame.{all_resolve, all_resolve_exprs, resolves_call, resolves_expr};
 ghost use Rattle.rhai_tree.specs.Frame.{resolves_stmt, tests_of};
 ghost use Rattle.rhai_values.specs.Cells.{cells_of};
+ghost use Rattle.rhai_lookups.specs.Levels.{CachesFit};
+ghost use Rattle.rhai_lookups.specs.Runs.{lists_of};
 ghost use Rattle.rhai_machine.specs.language.Frames.{Argument, Enter, Eval, Exec, OpenExpr};
 ghost use Rattle.rhai_machine.specs.language.Links.{first_in};
 ghost use Rattle.rhai_fits.specs.Sealed.{AreSealed};
 ghost use Rattle.rhai_call_forms.specs.Leading.{all_args};
-ghost use Rattle.rhai_steps.specs.Agreement.{AgreesAt, call_leads, passes};
-ghost use Rattle.rhai_steps.specs.States.{holding, state_of};
+ghost use Rattle.rhai_steps.specs.Callers.{AgreesAt, state_of};
+ghost use Rattle.rhai_steps.specs.Agreement.{call_leads, passes};
+ghost use Rattle.rhai_steps.specs.States.{holding};
 ghost use Rattle.rhai_eval_steps.specs.Calls.{called, in_parts};
 ghost use Rattle.rhai_eval.specs.ArgumentValues.{value_with};
 ghost use Rattle.rhai_eval.specs.Chains.{assigned_in, whole_chain, AssignsNoHandle, chain_resolves};
@@ -23,7 +26,7 @@ ghost use Rattle.rhai_constants_eval.specs.Staying.{StaysAs, StaysFrom};
 use rhai_errors::error::EvalAltResult;
 use rhai_errors::table::NativeTable;
 use rhai_eval::engine::Engine;
-use rhai_state::caches::Caches;
+use rhai_lookups::caches::Caches;
 use rhai_state::scope::Scope;
 use rhai_state::state::GlobalRuntimeState;
 use rhai_tree::expr::{Expr, FnCallExpr, Namespace, OpAssignment, Stmt};
@@ -43,6 +46,7 @@ pub fn eval_expr<H: Host, T: NativeTable<H>>(
     this: &mut Dynamic<H>,
     expr: &Expr,
 ) -> Result<Dynamic<H>, EvalAltResult<H>>
+    requires fit { CachesFit (lists_of global.old) caches.old }
     requires resolves { AgreesAt global.old scope.old (resolves_expr expr.now) }
     requires sealed { AreSealed (cells_of global.old.cells) }
     ensures stays { StaysAs (under H.name_of engine.now T.natives) (Eval expr.now)
@@ -64,6 +68,7 @@ pub fn eval_stmt<H: Host, T: NativeTable<H>>(
     stmt: &Stmt,
     rewind_scope: bool,
 ) -> Result<Dynamic<H>, EvalAltResult<H>>
+    requires fit { CachesFit (lists_of global.old) caches.old }
     requires resolves { AgreesAt global.old scope.old (passes (resolves_stmt stmt.now)) }
     requires sealed { AreSealed (cells_of global.old.cells) }
     ensures stays { StaysAs (under H.name_of engine.now T.natives) (Exec stmt.now rewind_scope)
@@ -94,6 +99,7 @@ pub fn eval_stmt_block<H: Host, T: NativeTable<H>>(
     statements: &[Stmt],
     restore_orig_state: bool,
 ) -> Result<Dynamic<H>, EvalAltResult<H>>
+    requires fit { CachesFit (lists_of global.old) caches.old }
     requires resolves { AgreesAt global.old scope.old
         (passes (all_resolve (map resolves_stmt statements.now))) }
     requires sealed { AreSealed (cells_of global.old.cells) }
@@ -126,6 +132,7 @@ pub fn eval_fn_call_expr<H: Host, T: NativeTable<H>>(
     expr: &FnCallExpr,
     pos: Position,
 ) -> Result<Dynamic<H>, EvalAltResult<H>>
+    requires fit { CachesFit (lists_of global.old) caches.old }
     requires resolves { AgreesAt global.old scope.old (resolves_call expr.now pos) }
     requires sealed { AreSealed (cells_of global.old.cells) }
     ensures stays { StaysAs (under H.name_of engine.now T.natives)
@@ -147,6 +154,7 @@ pub fn get_arg_value<H: Host, T: NativeTable<H>>(
     this: &mut Dynamic<H>,
     arg_expr: &Expr,
 ) -> Result<(Dynamic<H>, Position), EvalAltResult<H>>
+    requires fit { CachesFit (lists_of global.old) caches.old }
     requires resolves { AgreesAt global.old scope.old (resolves_expr arg_expr.now) }
     requires sealed { AreSealed (cells_of global.old.cells) }
     ensures stays { StaysAs (under H.name_of engine.now T.natives) (Argument arg_expr.now)
@@ -173,6 +181,7 @@ pub fn make_function_call<H: Host, T: NativeTable<H>>(
     capture_parent_scope: bool,
     pos: Position,
 ) -> Result<Dynamic<H>, EvalAltResult<H>>
+    requires fit { CachesFit (lists_of global.old) caches.old }
     requires resolves { AgreesAt global.old scope.old
         (all_resolve_exprs (map tests_of (all_args (option_copied first_arg) args_expr.now))) }
     requires sealed { AreSealed (cells_of global.old.cells) }
@@ -212,6 +221,7 @@ pub fn make_qualified_function_call<H: Host, T: NativeTable<H>>(
     args_expr: &[Expr],
     pos: Position,
 ) -> Result<Dynamic<H>, EvalAltResult<H>>
+    requires fit { CachesFit (lists_of global.old) caches.old }
     requires resolves { AgreesAt global.old scope.old (call_leads namespace.now args_expr.now) }
     requires behind { is_unqualified namespace.now.path ≡ false }
     requires sealed { AreSealed (cells_of global.old.cells) }
@@ -247,6 +257,7 @@ pub fn eval_dot_index_chain<H: Host, T: NativeTable<H>>(
     expr: &Expr,
     new_val: Option<(Dynamic<H>, &OpAssignment)>,
 ) -> Result<Dynamic<H>, EvalAltResult<H>>
+    requires fit { CachesFit (lists_of global.old) caches.old }
     requires chain { is_some (first_in (out-Expr expr.now)) ≡ true }
     requires resolves { AgreesAt global.old scope.old (chain_resolves (is_some new_val) expr.now) }
     requires value { AssignsNoHandle new_val }

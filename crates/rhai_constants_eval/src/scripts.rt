@@ -3,10 +3,13 @@
 ghost use Rattle.std.specs.Option.{option_copied};
 ghost use Rattle.std.specs.Prelude.{None, Some, false};
 ghost use Rattle.rhai_values.specs.Cells.{cells_of};
+ghost use Rattle.rhai_lookups.specs.Levels.{CachesFit};
+ghost use Rattle.rhai_lookups.specs.Runs.{lists_of};
 ghost use Rattle.rhai_machine.specs.language.Activations.{OwnThis};
 ghost use Rattle.rhai_machine.specs.language.Frames.{EnterFunction};
 ghost use Rattle.rhai_fits.specs.Sealed.{AreSealed};
-ghost use Rattle.rhai_steps.specs.States.{holding, state_of};
+ghost use Rattle.rhai_steps.specs.Callers.{state_of};
+ghost use Rattle.rhai_steps.specs.States.{holding};
 ghost use Rattle.rhai_eval_steps.specs.Bodies.{entered};
 ghost use Rattle.rhai_eval.specs.States.{under};
 ghost use Rattle.rhai_constants_eval.specs.Staying.{script, StaysAs, StaysFrom};
@@ -14,7 +17,7 @@ ghost use Rattle.rhai_constants_eval.specs.Staying.{script, StaysAs, StaysFrom};
 use rhai_errors::error::EvalAltResult;
 use rhai_errors::table::NativeTable;
 use rhai_eval::engine::Engine;
-use rhai_state::caches::Caches;
+use rhai_lookups::caches::Caches;
 use rhai_state::scope::Scope;
 use rhai_state::state::GlobalRuntimeState;
 use rhai_tree::checked::{CheckedFn, CheckedTree};
@@ -33,6 +36,7 @@ pub fn eval_global_statements<H: Host, T: NativeTable<H>>(
     tree: &CheckedTree,
     map_exit_to_return_value: bool,
 ) -> Result<Dynamic<H>, EvalAltResult<H>>
+    requires fit { CachesFit (lists_of global.old) caches.old }
     requires sealed { AreSealed (cells_of global.old.cells) }
     ensures stays { StaysFrom (under H.name_of engine.now T.natives)
         (script tree.now.0 map_exit_to_return_value)
@@ -65,6 +69,7 @@ pub fn call_script_fn<H: Host, T: NativeTable<H>>(
     rewind_scope: bool,
     pos: Position,
 ) -> Result<Dynamic<H>, EvalAltResult<H>>
+    requires fit { CachesFit (lists_of global.old) caches.old }
     requires sealed { AreSealed (cells_of global.old.cells) }
     ensures stays { StaysAs (under H.name_of engine.now T.natives)
         (EnterFunction (entered def.now (option_copied env.entry) OwnThis false rewind_scope args.old

@@ -4,6 +4,8 @@
 
 ghost use Rattle.std.specs.Prelude.{◌≡◌, [], None};
 ghost use Rattle.rhai_state.specs.Scope.{entries_of, scope_of};
+ghost use Rattle.rhai_lookups.specs.Levels.{CachesFit, CachesLeft, emptied};
+ghost use Rattle.rhai_lookups.specs.Runs.{given_back, lists_of, run_of};
 ghost use Rattle.rhai_context.specs.Ends.{unit};
 
 pub mod ends;
@@ -12,11 +14,12 @@ pub mod spare;
 
 use crate::spare::Spare;
 use rhai_errors::error::EvalAltResult;
+use rhai_lookups::caches::Caches;
+use rhai_lookups::run::{RunState, take_state};
 use rhai_state::scope::{Scope, ScopeEntry};
 use rhai_state::state::GlobalRuntimeState;
 use rhai_tree::Items;
 use rhai_values::base::value::{Dynamic, Host, Union};
-use rhai_values::cells::CellStore;
 use std::alloc::Global;
 use std::mem::replace;
 
@@ -24,7 +27,7 @@ use std::mem::replace;
 /// last part came to or stopped with, and lists of variables that calls left.
 #[derive(Drop)]
 pub struct Context<H> {
-    pub global: GlobalRuntimeState<H>,
+    pub global: RunState<H>,
     pub scope: Scope<H>,
     pub this: Option<Dynamic<H>>,
     /// What the last part that went well came to.
@@ -34,39 +37,22 @@ pub struct Context<H> {
     pub spare: Spare<H>,
 }
 
-/// Makes a state with nothing in it but whether variables are searched for. No memory is asked for it.
-fn empty_state<H: Host>(alloc: Global, always_search_scope: bool) -> GlobalRuntimeState<H>
-    ensures { result.always_search_scope ≡ always_search_scope }
-{
-    GlobalRuntimeState {
-        lib: Items::new(alloc),
-        imports: Items::new(alloc),
-        constants: 0,
-        level: 0,
-        scope_level: 0,
-        num_operations: 0,
-        num_modules_loaded: 0,
-        source: None,
-        always_search_scope,
-        cells: CellStore::new(alloc),
-        constant_tables: Items::new(alloc),
-    }
-}
-
-/// Takes a caller's values into the state of a run, without `this`. Empty ones stand in their places until
-/// `give_back`, and whether variables are searched for stays there.
+/// Takes a caller's values and its newest cache into the state of a run, without `this`. Empty ones stand in
+/// their places until `give_back`, and whether variables are searched for stays there.
 pub fn take<H: Host>(
     alloc: Global,
     global: &mut GlobalRuntimeState<H>,
+    caches: &mut Caches<H>,
     scope: &mut Scope<H>,
 ) -> Context<H>
+    requires fit { CachesFit (lists_of global.old) caches.old }
     ensures run { result
-        ≡ record { global = global.old; scope = scope.old; this = None; value = unit; error = None; spare = tt } }
+        ≡ record { global = run_of global.old; scope = scope.old; this = None; value = unit; error = None; spare = tt } }
     ensures search { global.new.always_search_scope ≡ global.old.always_search_scope }
+    ensures caches { caches.new ≡ record caches.old { levels = emptied caches.old.levels } }
 {
-    let empty = empty_state(alloc, global.always_search_scope);
     Context {
-        global: replace(global, empty),
+        global: take_state(alloc, global, caches),
         scope: replace(scope, Scope::new(alloc)),
         this: None,
         value: Dynamic::new(Union::Unit),
@@ -75,17 +61,41 @@ pub fn take<H: Host>(
     }
 }
 
-/// Puts the values of a run back in their places. No run changes whether its caller's variables are
-/// searched for.
-pub fn give_back<H: Host>(run: Context<H>, global: &mut GlobalRuntimeState<H>, scope: &mut Scope<H>)
-    ensures global { global.new ≡ record run.global
-        { always_search_scope = global.old.always_search_scope } }
+/// Puts the values of a run back in their places, and the oldest of its caches in that of the newest. No run
+/// changes whether its caller's variables are searched for.
+pub fn give_back<H: Host>(
+    run: Context<H>,
+    global: &mut GlobalRuntimeState<H>,
+    caches: &mut Caches<H>,
+    scope: &mut Scope<H>,
+)
+    ensures global { global.new ≡ given_back global.old.always_search_scope run.global }
     ensures scope { scope.new ≡ run.scope }
+    ensures caches { CachesLeft run.global.lists caches.old caches.new }
 {
-    let mut left = run.global;
-    left.always_search_scope = global.always_search_scope;
-    drop(replace(global, left));
+    run.global.give_state(global, caches);
     drop(replace(scope, run.scope));
+}
+
+/// Takes a caller's state for a part of a run that looks up no function. An empty one stands in its place
+/// until `return_state`, and whether variables are searched for stays there.
+pub fn lend_state<H: Host>(alloc: Global, global: &mut GlobalRuntimeState<H>) -> RunState<H>
+    ensures run { result ≡ run_of global.old }
+    ensures search { global.new.always_search_scope ≡ global.old.always_search_scope }
+{
+    let mut none = Caches::off(alloc);
+    let run = take_state(alloc, global, &mut none);
+    drop(none);
+    run
+}
+
+/// Puts such a state back in its place.
+pub fn return_state<H: Host>(alloc: Global, run: RunState<H>, global: &mut GlobalRuntimeState<H>)
+    ensures { global.new ≡ given_back global.old.always_search_scope run }
+{
+    let mut none = Caches::off(alloc);
+    run.give_state(global, &mut none);
+    drop(none);
 }
 
 /// The variables and `this` of a caller, while a function of a script has its own.

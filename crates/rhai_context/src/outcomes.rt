@@ -14,8 +14,8 @@ ghost use Rattle.rhai_context.specs.Outcomes.{ended_by};
 
 use crate::ends::{put, settle, settle_turn, stop, stopped, take_value};
 use rhai_errors::error::EvalAltResult;
+use rhai_lookups::run::RunState;
 use rhai_state::limits::Limits;
-use rhai_state::state::GlobalRuntimeState;
 use rhai_steps::charges::charge_one;
 use rhai_steps::loops::{BodyEnd, body_end, while_next};
 use rhai_steps::values::{flatten, is_unit, truth_value};
@@ -29,7 +29,7 @@ use std::alloc::Global;
 #[inline(always)]
 pub fn charge<H: Host>(
     limits: &Limits,
-    global: &mut GlobalRuntimeState<H>,
+    global: &mut RunState<H>,
     place: &mut Option<EvalAltResult<H>>,
     pos: Position,
 ) -> bool
@@ -51,7 +51,7 @@ pub fn charge<H: Host>(
 #[inline(always)]
 pub fn charge_stmt<H: Host>(
     limits: &Limits,
-    global: &mut GlobalRuntimeState<H>,
+    global: &mut RunState<H>,
     place: &mut Option<EvalAltResult<H>>,
     stmt: &Stmt,
 ) -> bool
@@ -74,7 +74,7 @@ pub fn charge_stmt<H: Host>(
 #[inline(always)]
 pub fn charge_expr<H: Host>(
     limits: &Limits,
-    global: &mut GlobalRuntimeState<H>,
+    global: &mut RunState<H>,
     place: &mut Option<EvalAltResult<H>>,
     expr: &Expr,
 ) -> bool

@@ -26,8 +26,8 @@ use rhai_context::outcomes::flatten_at;
 use rhai_errors::error::EvalAltResult;
 use rhai_errors::errors::{data_too_large, shared_text};
 use rhai_errors::table::NativeTable;
+use rhai_lookups::run::RunState;
 use rhai_state::session::Session;
-use rhai_state::state::GlobalRuntimeState;
 use rhai_steps::operation::Operation;
 use rhai_steps::values::{copy, is_bare_handle};
 use rhai_tree::expr::Expr;
@@ -111,7 +111,7 @@ fn printed<H: Host>(
 /// limit, `ErrorDataTooLarge` there for an answer above a limit.
 fn print<H: Host, T: NativeTable<H>>(
     session: &Session<'_, H>,
-    global: &mut GlobalRuntimeState<H>,
+    global: &mut RunState<H>,
     table: &mut T,
     value: &Dynamic<H>,
     pos: Position,
@@ -148,7 +148,7 @@ fn print<H: Host, T: NativeTable<H>>(
 /// Joins a value that is no text: what the native `to_string` prints of it, or else its type's name.
 fn join_typed<H: Host, T: NativeTable<H>>(
     session: &Session<'_, H>,
-    global: &mut GlobalRuntimeState<H>,
+    global: &mut RunState<H>,
     table: &mut T,
     text: &mut String,
     value: &Dynamic<H>,
@@ -173,7 +173,7 @@ fn join_typed<H: Host, T: NativeTable<H>>(
 /// its cell.
 fn join_handle<H: Host, T: NativeTable<H>>(
     session: &Session<'_, H>,
-    global: &mut GlobalRuntimeState<H>,
+    global: &mut RunState<H>,
     table: &mut T,
     text: &mut String,
     value: &Dynamic<H>,
@@ -198,7 +198,7 @@ fn join_handle<H: Host, T: NativeTable<H>>(
 /// Joins any value that is no text, as `join_typed` does.
 fn join_printed<H: Host, T: NativeTable<H>>(
     session: &Session<'_, H>,
-    global: &mut GlobalRuntimeState<H>,
+    global: &mut RunState<H>,
     table: &mut T,
     text: &mut String,
     value: &Dynamic<H>,
@@ -231,7 +231,7 @@ fn text_at<H>(value: &Dynamic<H>) -> Option<&str>
 /// Joins a value that is no handle: a text as it is, any other as it is printed.
 fn join_flat<H: Host, T: NativeTable<H>>(
     session: &Session<'_, H>,
-    global: &mut GlobalRuntimeState<H>,
+    global: &mut RunState<H>,
     table: &mut T,
     text: &mut String,
     value: &Dynamic<H>,
@@ -260,7 +260,7 @@ fn join_flat<H: Host, T: NativeTable<H>>(
 /// native's call meets, and `ErrorDataTooLarge` where the text is above the limit.
 pub fn join<H: Host, T: NativeTable<H>>(
     session: &Session<'_, H>,
-    global: &mut GlobalRuntimeState<H>,
+    global: &mut RunState<H>,
     table: &mut T,
     text: &mut String,
     out: &mut Dynamic<H>,

@@ -11,7 +11,7 @@ use Rattle.rhai_machine.specs.language.State.{Held}
 use Rattle.rhai_machine.specs.language.Frames.{Operation}
 use Rattle.rhai_machine.specs.language.Calls.{dispatch_core}
 use Rattle.rhai_laws.specs.Kept.{Kept}
-use Rattle.rhai_steps.specs.States.{state_of}
+use Rattle.rhai_steps.specs.Callers.{state_of}
 use Rattle.rhai_eval.specs.Ends.{EndsChanged}
 use Rattle.rhai_eval.specs.Places.{by_name, by_value, on_place, with_place}
 

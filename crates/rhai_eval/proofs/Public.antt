@@ -15,7 +15,9 @@ use Rattle.rhai_machine.proofs.LanguageLaws.{script_limits_agree}
 use Rattle.rhai_laws.proofs.ScriptMemory.{runs_up_to_memory, steps_with_memory}
 use Rattle.rhai_state.specs.declared.session.Session.{Session}
 use Rattle.rhai_steps.specs.Sessions as sessions
-use Rattle.rhai_steps.specs.States.{holding, state_of}
+use Rattle.rhai_lookups.specs.Runs.{given_back, run_of}
+use Rattle.rhai_steps.specs.Callers.{state_of}
+use Rattle.rhai_steps.specs.States.{holding, state_of as run_state}
 use Rattle.rhai_context.specs.declared.Context.{Context}
 use Rattle.rhai_context.specs.Ends.{unit}
 use Rattle.rhai_eval_core.specs.declared.evaluator.Evaluator.{Evaluator}
@@ -51,24 +53,24 @@ left_there None w bound there = cc
 -- What holds of a run over values that were taken from a caller and given back holds over the caller's own, by what is read of the engine.
 module _ {S H : Type 0} {read rules : Rules S H} (reads : read ≡ rules) (P : Rules S H → State S H → State S H → Type 0) (t u : S)
     (taken left : Context H) (global after : GlobalRuntimeState H) {search : Bool}
-    (gives : after ≡ record left.global { always_search_scope = search }) where
+    (gives : after ≡ given_back search left.global) where
   -- where its variables are none of his
-  pub handed_apart : (scope names : Scope H) (held still : Held H) → taken.global ≡ global →
-      P read (state_of t taken.global scope held) (state_of u left.global names still) →
+  pub handed_apart : (scope names : Scope H) (held still : Held H) → taken.global ≡ run_of global →
+      P read (run_state t taken.global scope held) (run_state u left.global names still) →
       P rules (state_of t global scope held) (state_of u after names still)
   handed_apart scope names held still is holds = rw gives (rw (reads, is) at holds)
 
   module _ (scope names : Scope H) (variables : names ≡ left.scope) where
     -- whatever it has in hand
     pub handed_held : (this : Option (Dynamic H)) (held still : Held H) →
-        taken ≡ record { global = global; scope = scope; this = this; value = unit; error = None; spare = tt } →
-        P read (state_of t taken.global taken.scope held) (state_of u left.global left.scope still) →
+        taken ≡ record { global = run_of global; scope = scope; this = this; value = unit; error = None; spare = tt } →
+        P read (run_state t taken.global taken.scope held) (run_state u left.global left.scope still) →
         P rules (state_of t global scope held) (state_of u after names still)
     handed_held this held still is holds = rw (gives, variables) (rw (reads, is) at holds)
 
     module _ (bound : is_some left.this ≡ is_some taken.this) where
       handed : (this ends : Option (Dynamic H)) → taken ≡ record {
-        global = global;
+        global = run_of global;
         scope = scope;
         this = this;
         value = unit;
@@ -81,7 +83,7 @@ module _ {S H : Type 0} {read rules : Rules S H} (reads : read ≡ rules) (P : R
 
       -- where he has no `this`
       pub handed_free : (this ends : Option (Dynamic H)) → this ≡ None → ends ≡ None →
-          taken ≡ record { global = global; scope = scope; this = None; value = unit; error = None; spare = tt } →
+          taken ≡ record { global = run_of global; scope = scope; this = None; value = unit; error = None; spare = tt } →
           P read (state_in t taken) (state_in u left) →
           P rules (state_of t global scope (holding this)) (state_of u after names (holding ends))
       handed_free this ends none still is holds =
@@ -90,7 +92,7 @@ module _ {S H : Type 0} {read rules : Rules S H} (reads : read ≡ rules) (P : R
 
       -- and where he has one in a place of his
       pub handed_on : (this ends : Option (Dynamic H)) (v w : Dynamic H) → this ≡ Some v → ends ≡ Some w →
-          taken ≡ record { global = global; scope = scope; this = Some v; value = unit; error = None; spare = tt } →
+          taken ≡ record { global = run_of global; scope = scope; this = Some v; value = unit; error = None; spare = tt } →
           IfSome left.this (λ x. w ≡ x) →
           P read (state_in t taken) (state_in u left) →
           P rules (state_of t global scope (holding this)) (state_of u after names (holding ends))

@@ -137,6 +137,6 @@ impl<H: Host> Engine<H> {
         ensures refused { IfErr result (λ e. e ≡ error.ErrorTooManyOperations pos) }
         ensures same { IfErr result (λ _. global.new ≡ global.old) }
     {
-        charges::track_operation(&self.limits(), global, pos)
+        charges::charge_caller(&self.limits(), global, pos)
     }
 }

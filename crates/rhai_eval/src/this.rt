@@ -1,9 +1,12 @@
 //! `this` of a caller, which a run has meanwhile. It is moved out of its place and back, on every way out.
 
 ghost use Rattle.std.specs.Prelude.{◌≡◌, [], IfSome, None, Some};
+ghost use Rattle.rhai_lookups.specs.Levels.{CachesFit, CachesLeft, emptied};
+ghost use Rattle.rhai_lookups.specs.Runs.{given_back, lists_of, run_of};
 ghost use Rattle.rhai_context.specs.Ends.{unit};
 
 use rhai_context::{Context, give_back, take};
+use rhai_lookups::caches::Caches;
 use rhai_state::scope::Scope;
 use rhai_state::state::GlobalRuntimeState;
 use rhai_steps::values::{let_go, unit_value};
@@ -16,11 +19,13 @@ use std::mem::replace;
 pub(crate) fn take_with_this<H: Host>(
     alloc: Global,
     global: &mut GlobalRuntimeState<H>,
+    caches: &mut Caches<H>,
     scope: &mut Scope<H>,
     this: &mut Dynamic<H>,
 ) -> Context<H>
+    requires fit { CachesFit (lists_of global.old) caches.old }
     ensures run { result ≡ record {
-      global = global.old;
+      global = run_of global.old;
       scope = scope.old;
       this = Some this.old;
       value = unit;
@@ -28,8 +33,9 @@ pub(crate) fn take_with_this<H: Host>(
       spare = tt;
     } }
     ensures search { global.new.always_search_scope ≡ global.old.always_search_scope }
+    ensures caches { caches.new ≡ record caches.old { levels = emptied caches.old.levels } }
 {
-    let mut run = take(alloc, global, scope);
+    let mut run = take(alloc, global, caches, scope);
     let value = replace(this, unit_value());
     drop(replace(&mut run.this, Some(value)));
     run
@@ -40,17 +46,18 @@ pub(crate) fn take_with_this<H: Host>(
 pub(crate) fn give_back_with_this<H: Host>(
     run: Context<H>,
     global: &mut GlobalRuntimeState<H>,
+    caches: &mut Caches<H>,
     scope: &mut Scope<H>,
     this: &mut Dynamic<H>,
 )
-    ensures global { global.new ≡ record run.global
-        { always_search_scope = global.old.always_search_scope } }
+    ensures global { global.new ≡ given_back global.old.always_search_scope run.global }
     ensures scope { scope.new ≡ run.scope }
+    ensures caches { CachesLeft run.global.lists caches.old caches.new }
     ensures this { IfSome run.this (λ value. this.new ≡ value) }
 {
     let mut run = run;
     let left = replace(&mut run.this, None);
-    give_back(run, global, scope);
+    give_back(run, global, caches, scope);
     match left {
         Some(value) => let_go(replace(this, value)),
         None => {}

@@ -9,7 +9,7 @@ use Rattle.rhai_values.specs.declared.base.value.Union.TheVariants as value
 use Rattle.rhai_values.specs.Cells.{value_of_cell}
 use Rattle.rhai_state.specs.declared.scope.Scope.{Scope}
 use Rattle.rhai_state.specs.declared.scope.ScopeEntry.{ScopeEntry}
-use Rattle.rhai_state.specs.declared.state.GlobalRuntimeState.{GlobalRuntimeState}
+use Rattle.rhai_lookups.specs.declared.run.RunState.{RunState}
 use Rattle.rhai_errors.specs.declared.error.EvalAltResult.{EvalAltResult}
 use Rattle.rhai_errors.specs.declared.error.EvalAltResult.TheVariants as error
 use Rattle.rhai_errors.specs.Errors.{is_out_of_memory}
@@ -73,7 +73,7 @@ module _ {H : Type 0} (cells : Cells H) (name : List ℕ) (at : Position) where
   looked_free (value.Cell id) v is = entered_free v (value_of_cell cells id.number) is
   looked_free _ v is = refl
 
-module _ {H : Type 0} (globals : Globals H) (global : GlobalRuntimeState H) (variable : Variable) (old mid new : Scope H)
+module _ {H : Type 0} (globals : Globals H) (global : RunState H) (variable : Variable) (old mid new : Scope H)
     (v w : Dynamic H) where
   -- the variables keep their names
   pub lent_back : (index : Option ℕ) → LendsVariable globals global variable (entries_of old) (Ok (index, v)) (entries_of mid) →
@@ -122,7 +122,7 @@ module _ {S H : Type 0} (rules : Rules S H) where
           given ∙ ap (λ (entries : List (ScopeEntry H)). revalued entries i (slice_get entries i) w) taken
           ∙ revalued_twice (entries_of old) i (slice_get (entries_of old) i) w u refl
 
-      pub lent_begins : (before left : S) (was is : GlobalRuntimeState H) (held : Held H) →
+      pub lent_begins : (before left : S) (was is : RunState H) (held : Held H) →
           Steps rules (Walk (record chain { in_place = true })) (state_of before was old (lending held v)) (ended_or_changed answer)
           (state_of left is old (lending held w)) →
           Goes rules (begun_core true (Some (FromEntry i)) v chain) (state_of before was old held) (core (ended r))
@@ -134,7 +134,7 @@ module _ {S H : Type 0} (rules : Rules S H) where
           (begins true (Some (FromEntry i)) v (state_of before was old held) (state_of left is old (lending held w)) runs)
 
     -- on `this`, which gets it back
-    pub this_begins : (v w : Dynamic H) (before left : S) (was is : GlobalRuntimeState H) (scope : Scope H)
+    pub this_begins : (v w : Dynamic H) (before left : S) (was is : RunState H) (scope : Scope H)
         (focus : Option (Dynamic H)) →
         Steps rules (Walk (record chain { in_place = true })) (state_of before was scope (record { this = Some v; focus = Some v }))
         (ended_or_changed answer) (state_of left is scope (record { this = Some v; focus = Some w })) →
@@ -260,7 +260,7 @@ module _ {S H : Type 0} (rules : Rules S H) where
           (means_entry (Ok v) (looked_free s.local.around.cells variable.name variable.at v.value v (sym says ∙ is))) new r runs
 
   -- no walk begins on a variable
-  module _ (variable : Variable) (chain : Chain H) (t : S) (global : GlobalRuntimeState H) (scope : Scope H) (held : Held H)
+  module _ (variable : Variable) (chain : Chain H) (t : S) (global : RunState H) (scope : Scope H) (held : Held H)
       (e : EvalAltResult H) where
     refused_at : (at : Option ℕ) → entry_named variable.path.names variable.name (entries_of scope) ≡ at →
         RefusesVariable (globals_of rules.setting.offer) global variable (entries_of scope) at e →
@@ -277,7 +277,7 @@ module _ {S H : Type 0} (rules : Rules S H) where
   -- on what a variable means, which goes back to where it was lent from
   module _ (variable : Variable) (chain : Chain H) (answer : Result (Dynamic H × Bool) (EvalAltResult H))
       (r : Result (Dynamic H) (EvalAltResult H)) (same : r ≡ without_changed answer) (old mid new : Scope H) (v w : Dynamic H)
-      (before left : S) (was is : GlobalRuntimeState H) (held : Held H) where
+      (before left : S) (was is : RunState H) (held : Held H) where
     pub variable_runs : (index : Option ℕ) →
         LendsVariable (globals_of rules.setting.offer) was variable (entries_of old) (Ok (index, v)) (entries_of mid) →
         GoesBack index w (entries_of mid) (entries_of new) →

@@ -88,7 +88,7 @@ impl<'e, H: Host> Evaluator<'e, H> {
             (state_in (T.state table.old) run.old)
             (came result run.new.value run.new.error) (state_in (T.state table.new) run.new) }
     {
-        if let Some(function) = plain_callee(&run.global, call) {
+        if let Some(function) = plain_callee(&mut run.global, call) {
             return self.run_plain_call(run, table, call, function, pos);
         }
         if !is_plain(&call.namespace) {

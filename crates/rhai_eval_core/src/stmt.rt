@@ -35,7 +35,7 @@ use rhai_fast_assign::in_place::Assignment;
 use rhai_fast_assign::left::{assign_from_run, assign_this_from_run};
 use rhai_fast_assign::lists::open_list;
 use rhai_steps::loops::choose_list;
-use rhai_steps::variables::{Variable, leave_list};
+use rhai_steps::variables::{Variable, enter_plain_list, leave_list, leave_plain_list};
 use rhai_stmt::declaring::{Declaration, declare, is_declarable};
 use rhai_stmt::exporting::export_variable;
 use rhai_stmt::importing::{import_module, may_import};
@@ -420,7 +420,10 @@ impl<'e, H: Host> Evaluator<'e, H> {
             return true;
         }
         if !restoring {
-            return self.run_statements(run, table, statements, restoring);
+            let mark = enter_plain_list(&mut run.global);
+            let ended = self.run_statements(run, table, statements, restoring);
+            leave_plain_list(&mut run.global, mark);
+            return ended;
         }
         let Some(saved) = open_list(
             &self.session,

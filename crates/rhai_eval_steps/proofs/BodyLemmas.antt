@@ -18,7 +18,7 @@ use Rattle.rhai_errors.specs.declared.error.EvalAltResult.{EvalAltResult}
 use Rattle.rhai_errors.specs.declared.error.EvalAltResult.TheVariants as error
 use Rattle.rhai_state.specs.declared.scope.Scope.{Scope}
 use Rattle.rhai_state.specs.declared.scope.ScopeEntry.{ScopeEntry}
-use Rattle.rhai_state.specs.declared.state.GlobalRuntimeState.{GlobalRuntimeState}
+use Rattle.rhai_lookups.specs.declared.run.RunState.{RunState}
 use Rattle.rhai_errors.specs.Errors.{is_out_of_memory}
 use Rattle.rhai_state.specs.Scope.{entries_of, name_of}
 use Rattle.rhai_functions.specs.Entering.{parameters}
@@ -96,16 +96,16 @@ module _ {H : Type 0} where
       (sym (names_entered def.params args old new is)) (resolves (record { names = map name_of old; imports = imports })))
 
   -- what is brought does not change where errors come from
-  brings_no_source : (environ : Option (EncapsulatedEnviron H)) (level : ℕ) (old new : GlobalRuntimeState H) →
+  brings_no_source : (environ : Option (EncapsulatedEnviron H)) (level : ℕ) (old new : RunState H) →
       new ≡ entered_global environ level old → new.source ≡ old.source
-  brings_no_source None level old new is = ap (λ (global : GlobalRuntimeState H). global.source) is
-  brings_no_source (Some environ) level old new is = ap (λ (global : GlobalRuntimeState H). global.source) is
+  brings_no_source None level old new is = ap (λ (global : RunState H). global.source) is
+  brings_no_source (Some environ) level old new is = ap (λ (global : RunState H). global.source) is
 
   -- what is brought counts nothing
-  pub brings_no_charge : (environ : Option (EncapsulatedEnviron H)) (level : ℕ) (old new : GlobalRuntimeState H) →
+  pub brings_no_charge : (environ : Option (EncapsulatedEnviron H)) (level : ℕ) (old new : RunState H) →
       new ≡ entered_global environ level old → new.num_operations ≡ old.num_operations
-  brings_no_charge None level old new is = ap (λ (global : GlobalRuntimeState H). global.num_operations) is
-  brings_no_charge (Some environ) level old new is = ap (λ (global : GlobalRuntimeState H). global.num_operations) is
+  brings_no_charge None level old new is = ap (λ (global : RunState H). global.num_operations) is
+  brings_no_charge (Some environ) level old new is = ap (λ (global : RunState H). global.num_operations) is
 
   -- ---- a caller that has all again
 
@@ -161,7 +161,7 @@ module _ {H : Type 0} where
 
   -- ---- the state of the code
 
-  module _ {S : Type 0} (t : S) (e : Entered H) (mid : GlobalRuntimeState H) (scope : Scope H) (held : Held H) where
+  module _ {S : Type 0} (t : S) (e : Entered H) (mid : RunState H) (scope : Scope H) (held : Held H) where
     abbrev caller : Local H
     caller = local_of mid scope held
 
@@ -178,7 +178,7 @@ module _ {H : Type 0} where
     ) refl
 
     entered_by : (environ : Option (EncapsulatedEnviron H)) (level : ℕ) (entries : List (ScopeEntry H)) (this : Option (Dynamic H))
-        (global : GlobalRuntimeState H) → global ≡ entered_global environ level mid →
+        (global : RunState H) → global ≡ entered_global environ level mid →
         record {
           table = t;
           count = global.num_operations;
@@ -214,7 +214,7 @@ module _ {H : Type 0} where
         }) this_is
 
     -- and one in which its end took back what it has to
-    pub left_state : (run : Context H) (closed : GlobalRuntimeState H) (before : Scope H) →
+    pub left_state : (run : Context H) (closed : RunState H) (before : Scope H) →
         closed ≡ taken_back (exit_seen mid before) run.global →
         record (state_in t run) { local = called_back (exit_of e caller) (state_in t run).local }
         ≡ behind_call e caller (state_in t (record run { global = closed }))
@@ -233,7 +233,7 @@ module _ {S H : Type 0} (rules : Rules S H) where
       step_by rules _ _ (Go (core (ended (returned exit e)) k (called_back exit s.local))) refl
       (told rules result (returned exit e) is k (record s { local = called_back exit s.local }))
 
-  module _ (e : Entered H) (t : S) (old mid : GlobalRuntimeState H) (scope : Scope H) (held : Held H)
+  module _ (e : Entered H) (t : S) (old mid : RunState H) (scope : Scope H) (held : Held H)
       (room : old.num_operations < limit_under rules) (charged : mid ≡ record old { num_operations = old.num_operations + 1 }) where
     abbrev called : Local H
     called = local_of mid scope held
@@ -301,7 +301,7 @@ module _ {S H : Type 0} (rules : Rules S H) where
           opens k ⨾ rw (enters e k called rules.setting.limits deep_is full_is some)
           (runs (CallEnd (exit_of e called) ∷ k) ⨾ closes (exit_of e called) outcome result is k new)
 
-module _ {S H : Type 0} (rules : Rules S H) (e : Entered H) (t : S) (old mid : GlobalRuntimeState H) (scope : Scope H) (held : Held H)
+module _ {S H : Type 0} (rules : Rules S H) (e : Entered H) (t : S) (old mid : RunState H) (scope : Scope H) (held : Held H)
     (start : Context H) (scope_is : entries_of start.scope ≡ variables_before e.is_fresh (local_of old scope held).scope)
     (this_is : start.this ≡ this_by e.object (local_of old scope held)) where
   abbrev begun : State S H
@@ -319,7 +319,7 @@ module _ {S H : Type 0} (rules : Rules S H) (e : Entered H) (t : S) (old mid : G
   unfolding Goes
   refused_ends x spent is same run alike k =
       subst (λ (s : State S H). Leads (machine rules) (cut rules) (at (EnterFunction e) k begun) (at (Fail x) k s))
-      (ap (λ (global : GlobalRuntimeState H). state_of t global scope held) same
+      (ap (λ (global : RunState H). state_of t global scope held) same
       ∙ sym (untouched t e old scope held run (ap (λ (r : Context H). r.global) alike ∙ same)
       (ap (λ (r : Context H). entries_of r.scope) alike ∙ scope_is) (ap (λ (r : Context H). r.this) alike ∙ this_is)))
       (refused_on rules t old mid scope held (EnterFunction e) e.at k (λ l. opened_function rules.setting.limits e k l) refl
@@ -330,7 +330,7 @@ module _ {S H : Type 0} (rules : Rules S H) (e : Entered H) (t : S) (old mid : G
     counted = length (variables_before e.is_fresh (local_of mid scope held).scope)
 
     same_local : local_of mid scope held ≡ local_of old scope held
-    same_local = ap (λ (global : GlobalRuntimeState H). local_of global scope held) charged
+    same_local = ap (λ (global : RunState H). local_of global scope held) charged
 
     same_count : length (entries_of start.scope) ≡ length (variables_before e.is_fresh (local_of mid scope held).scope)
     same_count = ap length scope_is ∙ ap (λ (l : Local H). length (variables_before e.is_fresh l.scope)) (sym same_local)
@@ -390,7 +390,7 @@ module _ {S H : Type 0} (rules : Rules S H) (e : Entered H) (t : S) (old mid : G
             runs).around.source
             ∙ brings_no_source e.environ e.level mid opened.global opens_as
 
-        pub whole_ends : (result : Result (Dynamic H) (EvalAltResult H)) (closed : GlobalRuntimeState H) →
+        pub whole_ends : (result : Result (Dynamic H) (EvalAltResult H)) (closed : RunState H) →
             closed ≡ taken_back (exit_seen mid start.scope) run.global →
             ((exit : CallExit H) → Ends e.def.name e.environ run.global.source e.at exit → Answers result (outcome_of exit outcome)) →
             ends_as result left (record run { global = closed })
@@ -434,7 +434,7 @@ passed_charged count limit true result is well spent = elim (cases_lt count limi
   | inr full ↦ ended_once result is (spent full)
 ]
 
-module _ {S H : Type 0} (rules : Rules S H) (e : Entered H) (t : S) (old mid : GlobalRuntimeState H) (scope : Scope H) (held : Held H)
+module _ {S H : Type 0} (rules : Rules S H) (e : Entered H) (t : S) (old mid : RunState H) (scope : Scope H) (held : Held H)
     (start : Context H) (scope_is : entries_of start.scope ≡ variables_before e.is_fresh (local_of old scope held).scope)
     (this_is : start.this ≡ this_by e.object (local_of old scope held)) (run : Context H) (alike : run ≡ record start { global = mid })
     (out : Dynamic H) (place : Option (EvalAltResult H)) (result : Option Bool) where
@@ -478,21 +478,21 @@ module _ {S H : Type 0} (rules : Rules S H) (e : Entered H) (t : S) (old mid : G
 
 module _ {S H : Type 0} (rules : Rules S H) (f : Function H) where
   -- a function with variables of its own
-  pub fresh_ends : (object : ThisFrom) (args : List (Dynamic H)) (at : Position) (old : GlobalRuntimeState H) (scope : Scope
+  pub fresh_ends : (object : ThisFrom) (args : List (Dynamic H)) (at : Position) (old : RunState H) (scope : Scope
       H) (held : Held H)
-      (def : ScriptFuncDef) (environ : Option (EncapsulatedEnviron H)) (level : ℕ) (mid : GlobalRuntimeState H) (t left : S)
+      (def : ScriptFuncDef) (environ : Option (EncapsulatedEnviron H)) (level : ℕ) (mid : RunState H) (t left : S)
       (run : Context H)
       (result : Result (Dynamic H) (EvalAltResult H)) → def ≡ f.def → environ ≡ f.environ → level ≡ deeper old.level → mid ≡ old →
       Runs rules (EnterFunction (entered def environ object true true args level at)) (state_of t mid scope held) result
       (behind_call (entered def environ object true true args level at) (local_of mid scope held) (state_in left run)) →
-      (global : GlobalRuntimeState H) (this : Option (Dynamic H)) → global ≡ run.global → this ≡ run.this →
+      (global : RunState H) (this : Option (Dynamic H)) → global ≡ run.global → this ≡ run.this →
       Runs rules (EnterFunction (entry_of f object true args at (local_of old scope held))) (state_of t old scope held) result
       (state_of left global scope (this_and_focus_again object held this))
   fresh_ends of args at old scope held def environ level mid t left run result def_is environ_is level_is mid_is runs global this
       global_is this_is = rw (global_is, this_is) (rw (def_is, environ_is, level_is, mid_is) at runs)
 
   -- and one on its caller's, which takes its own away
-  pub captured_ends : (object : ThisFrom) (args : List (Dynamic H)) (at : Position) (old : GlobalRuntimeState H) (scope : Scope H)
+  pub captured_ends : (object : ThisFrom) (args : List (Dynamic H)) (at : Position) (old : RunState H) (scope : Scope H)
       (held : Held H) (def : ScriptFuncDef) (environ : Option (EncapsulatedEnviron H)) (level : ℕ) (t left : S) (run : Context H)
       (result : Result (Dynamic H) (EvalAltResult H)) → def ≡ f.def → environ ≡ f.environ → level ≡ deeper old.level →
       Runs rules (EnterFunction (entered def environ object false true args level at)) (state_of t old scope held) result

@@ -16,7 +16,7 @@ use Rattle.rhai_values.specs.declared.base.value.FnPtr.{FnPtr, out-FnPtr}
 use Rattle.rhai_values.specs.declared.base.value.FnPtrKind.{FnPtrKind}
 use Rattle.rhai_values.specs.declared.base.value.FnPtrKind.TheVariants as kind
 use Rattle.rhai_state.specs.declared.scope.Scope.{Scope}
-use Rattle.rhai_state.specs.declared.state.GlobalRuntimeState.{GlobalRuntimeState}
+use Rattle.rhai_lookups.specs.declared.run.RunState.{RunState}
 use Rattle.rhai_errors.specs.declared.error.EvalAltResult.{EvalAltResult}
 use Rattle.rhai_errors.specs.declared.error.EvalAltResult.TheVariants as error
 use Rattle.rhai_errors.specs.Errors.{is_out_of_memory}
@@ -100,7 +100,7 @@ module _ {S H : Type 0} (rules : Rules S H) where
         ≡ core (Argument arg) (KeywordArgument found operation.at (start_of arg) args captures ∷ k) l
     worded word found arg args is = rw is refl
 
-  module _ (t : S) (old new : GlobalRuntimeState H) (scope : Scope H) (held : Held H) (c : Control H) (pos : Position)
+  module _ (t : S) (old new : RunState H) (scope : Scope H) (held : Held H) (c : Control H) (pos : Position)
       (k : List (Frame H)) (d : Local H → Core H)
       (charges : move rules.setting (core c k (local_of old scope held)) ≡ Charge pos (d (local_of old scope held))) where
     -- a charge that leads to another stack

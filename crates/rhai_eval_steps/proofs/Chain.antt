@@ -11,7 +11,7 @@ use Rattle.rhai_tree.specs.Layers.{ExprLayer, StmtLayer}
 use Rattle.rhai_tree.specs.Positions.{position_of, stmt_position_of}
 use Rattle.rhai_values.specs.declared.base.value.Dynamic.{Dynamic}
 use Rattle.rhai_state.specs.declared.scope.Scope.{Scope}
-use Rattle.rhai_state.specs.declared.state.GlobalRuntimeState.{GlobalRuntimeState}
+use Rattle.rhai_lookups.specs.declared.run.RunState.{RunState}
 use Rattle.rhai_errors.specs.declared.error.EvalAltResult.{EvalAltResult}
 use Rattle.rhai_errors.specs.declared.error.EvalAltResult.TheVariants as error
 use Rattle.rhai_machine.specs.machine.Machine.{Go}
@@ -64,14 +64,14 @@ has_some [] some = absurd (some refl)
 has_some (x ∷ xs) some = omega arith
 
 -- the state that a restoring list leaves
-pub left_state : {S H : Type 0} (t : S) (old new : GlobalRuntimeState H) (before after : Scope H) (held : Held H)
+pub left_state : {S H : Type 0} (t : S) (old new : RunState H) (before after : Scope H) (held : Held H)
     (saved : code.Saved) (kept : Saved) →
     saved_in saved ≡ kept → entries_of after ≡ take saved.scope_length (entries_of before) → new ≡ left_global saved old →
     state_of t new after held ≡ record (state_of t old before held) { local = restored_by kept (local_of old before held) }
 left_state t old new before after held saved kept is scope global = rw (← is, scope, global) refl
 
 module _ {S H : Type 0} (rules : Rules S H) where
-  module _ (t : S) (old mid : GlobalRuntimeState H) (scope : Scope H) (held : Held H)
+  module _ (t : S) (old mid : RunState H) (scope : Scope H) (held : Held H)
       (room : old.num_operations < limit_under rules) (charged : mid ≡ record old { num_operations = old.num_operations + 1 }) where
     -- a start that is charged opens the expression
     pub begins : (e : Expr) (o : ExprLayer) → out-Expr e ≡ o → (k : List (Frame H)) →
@@ -97,7 +97,7 @@ module _ {S H : Type 0} (rules : Rules S H) where
     unfolding Goes
     opens_stmt new r x restoring o runs is k = begins_stmt x restoring o is k ⨾ runs k
 
-  module _ (t : S) (old new : GlobalRuntimeState H) (scope : Scope H) (held : Held H) (pos : Position) (x : EvalAltResult H)
+  module _ (t : S) (old new : RunState H) (scope : Scope H) (held : Held H) (pos : Position) (x : EvalAltResult H)
       (r : Result (Dynamic H) (EvalAltResult H))
       (is : r ≡ Err x) (full : limit_under rules ≤ old.num_operations) (refused : x ≡ error.ErrorTooManyOperations pos)
       (same : new ≡ old) where

@@ -11,7 +11,7 @@ use Rattle.rhai_values.specs.Layers.{layer_of}
 use Rattle.rhai_errors.specs.declared.error.EvalAltResult.{EvalAltResult}
 use Rattle.rhai_errors.specs.declared.error.EvalAltResult.TheVariants as error
 use Rattle.rhai_state.specs.declared.scope.Scope.{Scope}
-use Rattle.rhai_state.specs.declared.state.GlobalRuntimeState.{GlobalRuntimeState}
+use Rattle.rhai_lookups.specs.declared.run.RunState.{RunState}
 use Rattle.rhai_state.specs.Scope.{entries_of}
 use Rattle.rhai_values.specs.Cells.{cells_of}
 use Rattle.rhai_errors.specs.Errors.{is_out_of_memory}
@@ -54,7 +54,7 @@ module _ {S H : Type 0} (rules : Rules S H) (loop : ForLoop) (k : List (Frame H)
   starts_not v w e l is none told = fails_on rules v (ForItems loop) k l e (λ y. refl) (λ m. rw (← is, none m, told m) refl)
 
   -- its variables are there, and its turns
-  pub starts : (v w : Dynamic H) (turns : Turns H) (t : S) (global : GlobalRuntimeState H) (old new : Scope H) (held : Held H)
+  pub starts : (v w : Dynamic H) (turns : Turns H) (t : S) (global : RunState H) (old new : Scope H) (held : Held H)
       (base : ℕ) →
       Ok w ≡ flat (cells_of global.cells) v (position_of loop.items) → turns_of (layer_of w) ≡ Some turns →
       entries_of new ≡ entries_of old ++ loop_entries loop → base ≡ length (entries_of old) →
@@ -66,7 +66,7 @@ module _ {S H : Type 0} (rules : Rules S H) (loop : ForLoop) (k : List (Frame H)
   -- ---- the end
 
   -- its variables are gone
-  pub leaves_scope : (r : Result (Dynamic H) (EvalAltResult H)) (base : ℕ) (t : S) (global : GlobalRuntimeState H) (old new : Scope H)
+  pub leaves_scope : (r : Result (Dynamic H) (EvalAltResult H)) (base : ℕ) (t : S) (global : RunState H) (old new : Scope H)
       (held : Held H) → entries_of new ≡ take base (entries_of old) →
       Leads (machine rules) (cut rules) (at (ended r) (RestoreScope base ∷ k) (state_of t global old held))
       (at (ended r) k (state_of t global new held))
@@ -82,14 +82,14 @@ module _ {S H : Type 0} (rules : Rules S H) (loop : ForLoop) (k : List (Frame H)
 
     module _ (left rest : Turns H) (item : Dynamic H) (is : next_turn left ≡ Some (item, rest)) (empty : loop.body.statements ≡ []) where
       -- an empty body is charged, or its charge is refused
-      pub empty_charged : (t : S) (old mid : GlobalRuntimeState H) (scope : Scope H) (held : Held H) →
+      pub empty_charged : (t : S) (old mid : RunState H) (scope : Scope H) (held : Held H) →
           old.num_operations < limit_under rules → mid ≡ record old { num_operations = old.num_operations + 1 } →
           Leads (machine rules) (cut rules) (at (ForTurn loop left turn base) k (state_of t old scope held))
           (at (ForTurn loop rest (turn + 1) base) k (state_of t mid scope held))
       unfolding after
       empty_charged t old mid scope held room charged = next (rw (is, empty, lt-ltb _ _ room, charged) here)
 
-      pub empty_refused : (t : S) (old new : GlobalRuntimeState H) (scope : Scope H) (held : Held H) (x : EvalAltResult H) →
+      pub empty_refused : (t : S) (old new : RunState H) (scope : Scope H) (held : Held H) (x : EvalAltResult H) →
           limit_under rules ≤ old.num_operations → x ≡ error.ErrorTooManyOperations loop.body.position → new ≡ old →
           Leads (machine rules) (cut rules) (at (ForTurn loop left turn base) k (state_of t old scope held))
           (at (Fail x) k (state_of t new scope held))

@@ -11,7 +11,7 @@ use Rattle.rhai_values.specs.declared.base.value.Dynamic.{Dynamic}
 use Rattle.rhai_values.specs.declared.base.value.Module.{Module}
 use Rattle.rhai_errors.specs.declared.error.EvalAltResult.{EvalAltResult}
 use Rattle.rhai_state.specs.declared.scope.Scope.{Scope}
-use Rattle.rhai_state.specs.declared.state.GlobalRuntimeState.{GlobalRuntimeState}
+use Rattle.rhai_lookups.specs.declared.run.RunState.{RunState}
 use Rattle.rhai_errors.specs.Errors.{is_out_of_memory}
 use Rattle.rhai_machine.specs.machine.Machine.{Go}
 use Rattle.rhai_machine.specs.machine.Memory.{here, Leads}
@@ -55,7 +55,7 @@ module _ {S H : Type 0} (rules : Rules S H) (path : Expr) (alias : Option Ident)
   begins_path is = step_by rules _ _ (Go (core (Eval path) (ImportPath alias (position_of path) (start_of path) ∷ k) l.local))
       (ap Go (evaluated_core full is)) here
 
-module _ {S H : Type 0} (rules : Rules S H) (t : S) (g entered : GlobalRuntimeState H) (scope : Scope H) (held : Held H)
+module _ {S H : Type 0} (rules : Rules S H) (t : S) (g entered : RunState H) (scope : Scope H) (held : Held H)
     (alias : Option Ident) (path_at starts_at : Position) (given : Dynamic H) (k : List (Frame H)) where
   abbrev frame : Frame H
   frame = ImportPath alias path_at starts_at

@@ -14,7 +14,7 @@ use Rattle.rhai_values.specs.declared.base.value.Dynamic.{Dynamic}
 use Rattle.rhai_errors.specs.declared.error.EvalAltResult.{EvalAltResult}
 use Rattle.rhai_errors.specs.declared.error.EvalAltResult.TheVariants as error
 use Rattle.rhai_state.specs.declared.scope.Scope.{Scope}
-use Rattle.rhai_state.specs.declared.state.GlobalRuntimeState.{GlobalRuntimeState}
+use Rattle.rhai_lookups.specs.declared.run.RunState.{RunState}
 use Rattle.rhai_errors.specs.Errors.{is_out_of_memory}
 use Rattle.rhai_machine.specs.machine.Machine.{Machine, Move, Halt, Go, Charge, Native, AskPure, below}
 use Rattle.rhai_machine.specs.machine.Point.{Point, moved, after}
@@ -120,7 +120,7 @@ module _ {S H : Type 0} (rules : Rules S H) where
         (rw is (entered body.statements l.local some)) here
 
     -- an empty body is charged, or its charge is refused
-    pub endless_charged : (t : S) (old mid : GlobalRuntimeState H) (scope : Scope H) (held : Held H) →
+    pub endless_charged : (t : S) (old mid : RunState H) (scope : Scope H) (held : Held H) →
         old.num_operations < limit_under rules → mid ≡ record old { num_operations = old.num_operations + 1 } →
         is_endless (out-Expr test) ≡ true → body.statements ≡ [] →
         Leads (machine rules) (cut rules) (at (WhileTurn test body) k (state_of t old scope held))
@@ -128,7 +128,7 @@ module _ {S H : Type 0} (rules : Rules S H) where
     unfolding after
     endless_charged t old mid scope held room charged is empty = next (rw (is, empty, lt-ltb _ _ room, charged) here)
 
-    pub endless_refused : (t : S) (old new : GlobalRuntimeState H) (scope : Scope H) (held : Held H) (x : EvalAltResult H) →
+    pub endless_refused : (t : S) (old new : RunState H) (scope : Scope H) (held : Held H) (x : EvalAltResult H) →
         limit_under rules ≤ old.num_operations → x ≡ error.ErrorTooManyOperations body.position → new ≡ old →
         is_endless (out-Expr test) ≡ true → body.statements ≡ [] →
         Leads (machine rules) (cut rules) (at (WhileTurn test body) k (state_of t old scope held))

@@ -4,7 +4,7 @@ use Rattle.std.proofs.Math.Seq.{take-append_seam}
 use Rattle.std.proofs.lemmas.List.{append-nil, length-map, map-append, take-map}
 use Rattle.rhai_tree.specs.Names.{Begins, Name}
 use Rattle.rhai_values.specs.declared.base.value.EncapsulatedEnviron.{EncapsulatedEnviron, out-EncapsulatedEnviron}
-use Rattle.rhai_state.specs.declared.state.GlobalRuntimeState.{GlobalRuntimeState}
+use Rattle.rhai_lookups.specs.declared.run.RunState.{RunState}
 use Rattle.rhai_state.specs.State.{import_name}
 use Rattle.rhai_machine.specs.language.Frames.{Control}
 use Rattle.rhai_machine.specs.language.Runs.{Steps}
@@ -29,24 +29,24 @@ names_back name_in old mid count is (added, e) =
 
 module _ {H : Type 0} where
   -- an environment's imports stand behind those that were there
-  entered_begins : (environ : Option (EncapsulatedEnviron H)) (level : ℕ) (old : GlobalRuntimeState H) →
-      Begins (imports_in old.imports) (imports_in (entered_global environ level old).imports)
-  entered_begins None level old = ([], sym (append-nil (imports_in old.imports)))
+  entered_begins : (environ : Option (EncapsulatedEnviron H)) (level : ℕ) (old : RunState H) →
+      Begins (imports_in old.lists.1) (imports_in (entered_global environ level old).lists.1)
+  entered_begins None level old = ([], sym (append-nil (imports_in old.lists.1)))
   entered_begins (Some environ) level old =
-      let e = out-EncapsulatedEnviron H environ in (imports_in e.imports, map-append import_name old.imports e.imports)
+      let e = out-EncapsulatedEnviron H environ in (imports_in e.imports, map-append import_name old.lists.1 e.imports)
 
   -- behind a function's body, which left what it was entered with
-  pub sight_closed : (old opened mid new : GlobalRuntimeState H) (environ : Option (EncapsulatedEnviron H)) (level : ℕ) (exit : CallExit) →
-      exit.imports_length ≡ length old.imports → opened ≡ entered_global environ level old → sight_of mid ≡ sight_of opened →
+  pub sight_closed : (old opened mid new : RunState H) (environ : Option (EncapsulatedEnviron H)) (level : ℕ) (exit : CallExit) →
+      exit.imports_length ≡ length old.lists.1 → opened ≡ entered_global environ level old → sight_of mid ≡ sight_of opened →
       new ≡ taken_back exit mid → sight_of new ≡ sight_of old
   sight_closed old opened mid new environ level exit count enters stays closes =
       let (added, begins) = entered_begins environ level old in
-      let names : imports_in mid.imports ≡ imports_in old.imports ++ added =
-      ap (λ (s : Sight). s.imports) stays ∙ ap (λ (global : GlobalRuntimeState H). imports_in global.imports) enters ∙ begins in
+      let names : imports_in mid.lists.1 ≡ imports_in old.lists.1 ++ added =
+      ap (λ (s : Sight). s.imports) stays ∙ ap (λ (global : RunState H). imports_in global.lists.1) enters ∙ begins in
       ap sight_of closes ∙ (λ i. record {
-        searched = (ap (λ (s : Sight). s.searched) stays ∙ ap (λ (global : GlobalRuntimeState H). global.always_search_scope) enters
+        searched = (ap (λ (s : Sight). s.searched) stays ∙ ap (λ (global : RunState H). global.always_search_scope) enters
             ∙ entered_search environ) i;
-        imports = names_back import_name old.imports mid.imports exit.imports_length count (added, names) i;
+        imports = names_back import_name old.lists.1 mid.lists.1 exit.imports_length count (added, names) i;
       })
     where
       entered_search : (environ : Option (EncapsulatedEnviron H)) →
@@ -55,13 +55,13 @@ module _ {H : Type 0} where
       entered_search (Some environ) = refl
 
   -- behind a list that restores
-  pub sight_left : (old mid new : GlobalRuntimeState H) (saved : Saved) → saved.imports_length ≡ length old.imports →
-      saved.always_search_scope ≡ old.always_search_scope → Begins (imports_in old.imports) (imports_in mid.imports) →
+  pub sight_left : (old mid new : RunState H) (saved : Saved) → saved.imports_length ≡ length old.lists.1 →
+      saved.always_search_scope ≡ old.always_search_scope → Begins (imports_in old.lists.1) (imports_in mid.lists.1) →
       new ≡ left_global saved mid → sight_of new ≡ sight_of old
   sight_left old mid new saved count searches begins left =
       ap sight_of left ∙ (λ i. record {
         searched = searches i;
-        imports = names_back import_name old.imports mid.imports saved.imports_length count begins i;
+        imports = names_back import_name old.lists.1 mid.lists.1 saved.imports_length count begins i;
       })
 
   -- a run only adds imports

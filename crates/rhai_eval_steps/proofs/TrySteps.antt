@@ -10,7 +10,7 @@ use Rattle.rhai_values.specs.declared.base.value.Dynamic.{Dynamic}
 use Rattle.rhai_errors.specs.declared.error.EvalAltResult.{EvalAltResult}
 use Rattle.rhai_errors.specs.declared.error.EvalAltResult.TheVariants as error
 use Rattle.rhai_state.specs.declared.scope.Scope.{Scope}
-use Rattle.rhai_state.specs.declared.state.GlobalRuntimeState.{GlobalRuntimeState}
+use Rattle.rhai_lookups.specs.declared.run.RunState.{RunState}
 use Rattle.rhai_state.specs.Scope.{entries_of, new_entry}
 use Rattle.rhai_values.specs.declared.base.value.AccessMode.TheVariants.{ReadWrite}
 use Rattle.rhai_errors.specs.Errors.{is_catchable, is_out_of_memory}
@@ -86,7 +86,7 @@ module _ {S H : Type 0} (rules : Rules S H) (k : List (Frame H)) where
     branch_not None e told = absurd (never e (told refl))
 
   -- it is there
-  module _ (caught : EvalAltResult H) (branch : StmtBlock) (t : S) (global : GlobalRuntimeState H) (old new : Scope H) (held : Held H)
+  module _ (caught : EvalAltResult H) (branch : StmtBlock) (t : S) (global : RunState H) (old new : Scope H) (held : Held H)
       (base : ℕ) (there : base ≡ length (entries_of old)) where
     with_bound : (full : Bool) (variable : Ident) (v : Dynamic H) → Ok tt ≡ room_for_caught {H = H} (Some variable) full →
         entries_of new ≡ entries_of old ++ new_entry variable.name ReadWrite v ∷ [] →
@@ -106,7 +106,7 @@ module _ {S H : Type 0} (rules : Rules S H) (k : List (Frame H)) where
     branch_on (Some variable) told is = with_bound _ variable _ told is
 
   -- and gone
-  pub scope_back : (o : Option Ident) (r : Result (Dynamic H) (EvalAltResult H)) (n : ℕ) (t : S) (global : GlobalRuntimeState H)
+  pub scope_back : (o : Option Ident) (r : Result (Dynamic H) (EvalAltResult H)) (n : ℕ) (t : S) (global : RunState H)
       (old new : Scope H) (held : Held H) → (o ≡ None → take n (entries_of old) ≡ entries_of old) →
       entries_of new ≡ take n (entries_of old) →
       Leads (machine rules) (cut rules) (at (ended r) (below o n) (state_of t global old held))

@@ -9,7 +9,7 @@ use Rattle.rhai_values.specs.Cells.{cells_of}
 use Rattle.rhai_values.specs.declared.base.value.Dynamic.{Dynamic}
 use Rattle.rhai_errors.specs.declared.error.EvalAltResult.{EvalAltResult}
 use Rattle.rhai_state.specs.declared.scope.Scope.{Scope}
-use Rattle.rhai_state.specs.declared.state.GlobalRuntimeState.{GlobalRuntimeState}
+use Rattle.rhai_lookups.specs.declared.run.RunState.{RunState}
 use Rattle.rhai_errors.specs.Errors.{is_out_of_memory}
 use Rattle.rhai_state.specs.Scope.{entries_of}
 use Rattle.rhai_machine.specs.machine.Machine.{Go}
@@ -27,7 +27,7 @@ use Rattle.rhai_context.specs.Ends.{came, error_in}
 use Rattle.rhai_stmt.specs.Declares.{Declares, Misses}
 use Rattle.rhai_eval_steps.proofs.Chain.{fails_on}
 
-module _ {S H : Type 0} (rules : Rules S H) (t : S) (g entered : GlobalRuntimeState H) (old new : Scope H) (held : Held H) (ident : Ident)
+module _ {S H : Type 0} (rules : Rules S H) (t : S) (g entered : RunState H) (old new : Scope H) (held : Held H) (ident : Ident)
     (index : Option NonZeroUsize) (options : ASTFlags) (restoring : Bool) (given v : Dynamic H) (value_at : Position)
     (k : List (Frame H)) where
   abbrev frame : Frame H

@@ -13,7 +13,7 @@ use Rattle.rhai_tree.specs.Layers.{StmtLayer}
 use Rattle.rhai_tree.proofs.Walk.{resolves-stmt}
 use Rattle.rhai_state.specs.declared.scope.Scope.{Scope}
 use Rattle.rhai_state.specs.declared.scope.ScopeEntry.{ScopeEntry}
-use Rattle.rhai_state.specs.declared.state.GlobalRuntimeState.{GlobalRuntimeState}
+use Rattle.rhai_lookups.specs.declared.run.RunState.{RunState}
 use Rattle.rhai_state.specs.Scope.{entries_of, name_of, names_in}
 use Rattle.rhai_machine.specs.machine.Point.{after}
 use Rattle.rhai_machine.specs.machine.Memory.{here, next, ◌⨾◌, Leads}
@@ -62,7 +62,7 @@ module _ {S H : Type 0} (rules : Rules S H) where
   unfolding after
   leaves saved k old new is = next (next (next (rw is here)))
 
-module _ {S H : Type 0} (rules : Rules S H) (t : S) (old new : GlobalRuntimeState H) (before later : Scope H) (held : Held H) (stmt : Stmt)
+module _ {S H : Type 0} (rules : Rules S H) (t : S) (old new : RunState H) (before later : Scope H) (held : Held H) (stmt : Stmt)
     (form : StmtLayer) (is : out-Stmt stmt ≡ form) (room : old.num_operations < limit_under rules)
     (charged : new ≡ record old { num_operations = old.num_operations + 3 }) (names : names_in later ≡ names_in before) where
   -- its statement is charged and opened, one level deeper
@@ -80,7 +80,7 @@ module _ {S H : Type 0} (rules : Rules S H) (t : S) (old new : GlobalRuntimeStat
   left = rw (
     charged,
     all_taken (entries_of later) (length (entries_of before)) (as_many (entries_of before) (entries_of later) names),
-    take-length old.imports,
+    take-length old.lists.1,
   ) refl
 
   pub alone : Runs rules (OpenStmt form true) (state_of t (charged_at (3 - 2) (deeper old.scope_level) old) before held) (Ok unit_value)

@@ -15,7 +15,7 @@ use Rattle.rhai_values.specs.declared.base.value.Union.TheVariants as value
 use Rattle.rhai_values.specs.Copy.{copy_of, copy_union, plain}
 use Rattle.rhai_errors.specs.declared.error.EvalAltResult.{EvalAltResult}
 use Rattle.rhai_state.specs.declared.scope.Scope.{Scope}
-use Rattle.rhai_state.specs.declared.state.GlobalRuntimeState.{GlobalRuntimeState}
+use Rattle.rhai_lookups.specs.declared.run.RunState.{RunState}
 use Rattle.rhai_state.specs.Scope.{entries_of}
 use Rattle.rhai_operators.specs.Direct.{integer_in}
 use Rattle.rhai_machine.specs.machine.Machine.{Charge, Go}
@@ -39,7 +39,7 @@ use Rattle.rhai_operands.proofs.Standing.{argument_goes, standing_plain}
 use Rattle.rhai_fast_assign.specs.Items.{charges_of, index_is_simple}
 
 -- a charge that leads to another stack
-pub charged_on : {S H : Type 0} (rules : Rules S H) (t : S) (old new : GlobalRuntimeState H) (scope : Scope H) (held : Held
+pub charged_on : {S H : Type 0} (rules : Rules S H) (t : S) (old new : RunState H) (scope : Scope H) (held : Held
     H) (c : Control H)
     (pos : Position) (k : List (Frame H)) (d : Local H → Core H) →
     move rules.setting (core c k (local_of old scope held)) ≡ Charge pos (d (local_of old scope held)) →
@@ -118,7 +118,7 @@ module _ {H : Type 0} (root index : Expr) (options : ASTFlags) (pos : Position) 
       indexed = ap (λ (u : Union H). plain (copy_union u)) holds
 
       -- one that is a variable is charged, after what stands behind the bracket
-      variable_comes : (old mid new_state : GlobalRuntimeState H) → old.num_operations < limit_under rules →
+      variable_comes : (old mid new_state : RunState H) → old.num_operations < limit_under rules →
           mid ≡ record old { num_operations = old.num_operations + 1 } → mid.num_operations < limit_under rules →
           new_state ≡ record mid { num_operations = mid.num_operations + 1 } → literal_of {H = H} (out-Expr index) ≡ None →
           Leads (machine rules) (cut rules) (at (OpenChain begun) k (state_of t old scope held)) (at (ChainRoot (indexed_by z)) k
@@ -140,33 +140,33 @@ module _ {H : Type 0} (root index : Expr) (options : ASTFlags) (pos : Position) 
           (standing_plain (out-Expr index) (entries_of scope) x stands))
           ∙ ap (λ (v : Dynamic H). Go (core (ChainRoot (record begun { args = v ∷ [] })) k (local_of new_state scope held))) indexed) here
 
-      abbrev index_goes : (extra : ℕ) → GlobalRuntimeState H → GlobalRuntimeState H → Type 0
+      abbrev index_goes : (extra : ℕ) → RunState H → RunState H → Type 0
       index_goes extra old new_state = old.num_operations + extra ≤ limit_under rules →
           new_state ≡ record old { num_operations = old.num_operations + extra } →
           Leads (machine rules) (cut rules) (at (OpenChain begun) k (state_of t old scope held)) (at (ChainRoot (indexed_by z)) k
           (state_of t new_state scope held))
 
       literal_goes : (n : ℤ) (where_it_is : Position) → out-Expr index ≡ layer.IntegerConstant n where_it_is →
-          (old new_state : GlobalRuntimeState H) → index_goes 0 old new_state
+          (old new_state : RunState H) → index_goes 0 old new_state
       literal_goes n where_it_is form old new_state room is =
           let same : plain (value.Int n) ≡ x =
           let found : Some (plain {H = H} (value.Int n)) ≡ Some x = rw form at stands in cc in
           let number : Some n ≡ Some z = ap (λ (v : Dynamic H). integer_in v.value) same ∙ ap (λ (u : Union H). integer_in u) holds in
           let equal : n ≡ z = cc in
           let stays : old ≡ new_state = ap (λ (m : ℕ). record old { num_operations = m }) (omega arith) ∙ sym is in
-          subst (λ (g : GlobalRuntimeState H). Leads (machine rules) (cut rules) (at (OpenChain begun) k (state_of t old scope held))
+          subst (λ (g : RunState H). Leads (machine rules) (cut rules) (at (OpenChain begun) k (state_of t old scope held))
           (at (ChainRoot (indexed_by z)) k (state_of t g scope held))) stays
           (subst (λ (m : ℤ). Leads (machine rules) (cut rules) (at (OpenChain begun) k (state_of t old scope held))
           (at (ChainRoot (indexed_by m)) k (state_of t old scope held))) equal
           (literal_comes n where_it_is form k (state_of t old scope held)))
 
-      variable_goes : literal_of {H = H} (out-Expr index) ≡ None → (old new_state : GlobalRuntimeState H) → index_goes 2 old new_state
+      variable_goes : literal_of {H = H} (out-Expr index) ≡ None → (old new_state : RunState H) → index_goes 2 old new_state
       variable_goes no_literal old new_state room is =
           variable_comes old (record old { num_operations = old.num_operations + 1 }) new_state (omega (arith, room)) refl
           (omega (arith, room))
           (is ∙ ap (λ (m : ℕ). record old { num_operations = m }) (omega arith)) no_literal
 
-      index_by : (form : ExprLayer) → out-Expr index ≡ form → index_is_simple form ≡ true → (old new_state : GlobalRuntimeState H) →
+      index_by : (form : ExprLayer) → out-Expr index ≡ form → index_is_simple form ≡ true → (old new_state : RunState H) →
           index_goes (extra_of form) old new_state
       index_by (layer.IntegerConstant n where_it_is) form is_alone old new_state room is =
           literal_goes n where_it_is form old new_state room is
@@ -175,5 +175,5 @@ module _ {H : Type 0} (root index : Expr) (options : ASTFlags) (pos : Position) 
       index_by _ form is_alone old new_state room is = cc
 
       -- the index comes, and the chain goes to its root
-      pub index_comes : (old new_state : GlobalRuntimeState H) → index_goes (extra_of (out-Expr index)) old new_state
+      pub index_comes : (old new_state : RunState H) → index_goes (extra_of (out-Expr index)) old new_state
       index_comes old new_state room is = index_by (out-Expr index) refl alone old new_state room is

@@ -17,7 +17,7 @@ use Rattle.rhai_values.specs.Cells.{cells_of}
 use Rattle.rhai_values.specs.Copy as values
 use Rattle.rhai_state.specs.declared.scope.Scope.{Scope}
 use Rattle.rhai_state.specs.declared.scope.ScopeEntry.{ScopeEntry}
-use Rattle.rhai_state.specs.declared.state.GlobalRuntimeState.{GlobalRuntimeState}
+use Rattle.rhai_lookups.specs.declared.run.RunState.{RunState}
 use Rattle.rhai_state.specs.declared.limits.Limits.{Limits}
 use Rattle.rhai_state.specs.Scope.{entries_of, revalued, value_of}
 use Rattle.rhai_operators.specs.Answers.{answer, op_assign_of}
@@ -107,7 +107,7 @@ module _ {H : Type 0} where
       ∙ ap (λ (b : Bool). if_found (unless_constant b name pos (target (InEntry i) v))) writable
 
   -- the integer is written to its entry
-  integer_written : (limits : Limits) (scope later : Scope H) (held : Held H) (g : GlobalRuntimeState H) (at : Position)
+  integer_written : (limits : Limits) (scope later : Scope H) (held : Held H) (g : RunState H) (at : Position)
       (i : ℕ) (w : Dynamic H) (z : ℤ) → w ≡ values.plain (value.Int z) →
       entries_of later ≡ revalued (entries_of scope) i (slice_get (entries_of scope) i) w →
       Becomes (written_core (applied limits (Ok w) at) (InEntry i)) (local_of g scope held) (Ok unit_value) (local_of g later held)
@@ -118,12 +118,12 @@ module _ {H : Type 0} where
 
 module _ {S H : Type 0} (rules : Rules S H) (t : S) (scope : Scope H) (held : Held H) (op : OpAssignment) (lhs rhs : Expr)
     (offset : Option NonZeroUsize) (name : Name) (namespace : Namespace) (pos : Position) (restoring : Bool)
-    (form : out-Expr lhs ≡ layer.Variable offset name namespace pos) (old new : GlobalRuntimeState H) (later : Scope H)
+    (form : out-Expr lhs ≡ layer.Variable offset name namespace pos) (old new : RunState H) (later : Scope H)
     (room : old.num_operations + 2 ≤ limit_under rules) (charges : new ≡ record old { num_operations = old.num_operations + 2 })
     (token : Token) (is_token : op.op ≡ Some token) (fast : rules.setting.offer.fast_operators ≡ true) (i : ℕ) (v w : Dynamic H)
     (at : entry_named namespace.path name (entries_of scope) ≡ Some i)
     (stands : option_map value_of (slice_get (entries_of scope) i) ≡ Some v) where
-  abbrev middle : GlobalRuntimeState H
+  abbrev middle : RunState H
   middle = record old { num_operations = old.num_operations + 1 }
 
   assigned_by : Knows token v (standing (out-Expr rhs) (entries_of scope)) w →
@@ -170,7 +170,7 @@ module _ {H : Type 0} (scope : Scope H) (cells : Cells H) (op : OpAssignment) (l
       (writable_in v) (integer_of (standing (out-Expr rhs) (entries_of scope))) refl refl known)
 
 -- it keeps what each assignment does
-pub integer_keeps : {H : Type 0} (old new : GlobalRuntimeState H) (scope later : Scope H) (charges i : ℕ) (w : Dynamic H) →
+pub integer_keeps : {H : Type 0} (old new : RunState H) (scope later : Scope H) (charges i : ℕ) (w : Dynamic H) →
     new ≡ record old { num_operations = old.num_operations + charges } →
     entries_of later ≡ revalued (entries_of scope) i (slice_get (entries_of scope) i) w → Keeps old new scope later
 integer_keeps old new scope later charges i w is put_there = record {
@@ -179,7 +179,7 @@ integer_keeps old new scope later charges i w is put_there = record {
 }
 
 -- both of its charges end so many charges later
-pub both_charged : {H : Type 0} (old new : GlobalRuntimeState H) (charges level : ℕ) → 2 ≤ charges →
+pub both_charged : {H : Type 0} (old new : RunState H) (charges level : ℕ) → 2 ≤ charges →
     new ≡ record old { num_operations = old.num_operations + charges } →
     record new { scope_level = level }
     ≡ record (charged_at (charges - 2) level old) { num_operations = (charged_at (charges - 2) level old).num_operations + 2 }

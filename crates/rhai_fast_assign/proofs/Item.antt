@@ -21,7 +21,7 @@ use Rattle.rhai_values.specs.Copy.{plain}
 use Rattle.rhai_values.specs.Layers.{UnionLayer, layer_of}
 use Rattle.rhai_errors.specs.declared.error.EvalAltResult.{EvalAltResult}
 use Rattle.rhai_state.specs.declared.scope.Scope.{Scope}
-use Rattle.rhai_state.specs.declared.state.GlobalRuntimeState.{GlobalRuntimeState}
+use Rattle.rhai_lookups.specs.declared.run.RunState.{RunState}
 use Rattle.rhai_state.specs.Scope.{entries_of, revalued, value_in}
 use Rattle.rhai_errors.specs.Errors.{root_name}
 use Rattle.rhai_spots.specs.declared.spot.Spot.{Spot}
@@ -116,7 +116,7 @@ module _ {S H : Type 0} (rules : Rules S H) (root index : Expr) (options : ASTFl
     abbrev lent : Held H → Held H
     lent held = record held { focus = Some v }
 
-    module _ (t : S) (old reached : GlobalRuntimeState H) (scope : Scope H) (held : Held H) (offset : Option NonZeroUsize) (name : Name)
+    module _ (t : S) (old reached : RunState H) (scope : Scope H) (held : Held H) (offset : Option NonZeroUsize) (name : Name)
         (namespace : Namespace) (root_pos : Position) (form : out-Expr root ≡ layer.Variable offset name namespace root_pos)
         (i : ℕ) (found_at : entry_named namespace.path name (entries_of scope) ≡ Some i)
         (stands : value_in (entries_of scope) (Some i) ≡ Some v) (room : old.num_operations < limit_under rules)
@@ -194,7 +194,7 @@ module _ {S H : Type 0} (rules : Rules S H) (root index : Expr) (options : ASTFl
             ∙ ap (λ (o : Option (Dynamic H)). assign_focus rules.setting root new below (focused_on o l)) there
 
     -- the link is charged, and what is assigned to is the item
-    pub item_comes : (t : S) (old reached : GlobalRuntimeState H) (scope : Scope H) (held : Held H) →
+    pub item_comes : (t : S) (old reached : RunState H) (scope : Scope H) (held : Held H) →
         old.num_operations < limit_under rules →
         reached ≡ record old { num_operations = old.num_operations + 1 } → (k : List (Frame H)) (n : ℕ) →
         index_in (length items) z ≡ Some n → (x : Dynamic H) → value_at v (spot.Item n) ≡ Some x →
@@ -249,7 +249,7 @@ module _ {S H : Type 0} (rules : Rules S H) (root : Expr) (new : NewValue H) (to
 
 -- ---- the way up
 
-module _ {S H : Type 0} (rules : Rules S H) (t : S) (g : GlobalRuntimeState H) (scope later : Scope H) (held : Held H) (v : Dynamic H)
+module _ {S H : Type 0} (rules : Rules S H) (t : S) (g : RunState H) (scope later : Scope H) (held : Held H) (v : Dynamic H)
     (n : ℕ) (r : ℤ) (pos : Position) (i : ℕ)
     (put_there : entries_of later ≡ revalued (entries_of scope) i (slice_get (entries_of scope) i)
     (with_value v (spot.Item n) (plain (value.Int r)))) (k : List (Frame H)) where

@@ -20,7 +20,7 @@ use Rattle.rhai_values.specs.Copy.{copy_of, plain}
 use Rattle.rhai_values.specs.Layers.{UnionLayer, layer_of}
 use Rattle.rhai_errors.specs.declared.error.EvalAltResult.{EvalAltResult}
 use Rattle.rhai_state.specs.declared.scope.Scope.{Scope}
-use Rattle.rhai_state.specs.declared.state.GlobalRuntimeState.{GlobalRuntimeState}
+use Rattle.rhai_lookups.specs.declared.run.RunState.{RunState}
 use Rattle.rhai_state.specs.Scope.{entries_of, name_of, revalued, value_in}
 use Rattle.rhai_spots.specs.declared.spot.Spot.TheVariants as spot
 use Rattle.rhai_spots.specs.Indexing.{index_in}
@@ -143,7 +143,7 @@ module _ {S H : Type 0} (rules : Rules S H) (t : S) (scope : Scope H) (held : He
     (token : Token) (is_token : op.op ≡ Some token) (fast : rules.setting.offer.fast_operators ≡ true) (i : ℕ) (v : Dynamic H)
     (found_at : entry_named namespace.path name (entries_of scope) ≡ Some i) (stands : value_in (entries_of scope) (Some i) ≡ Some v) where
   -- the value comes
-  value_comes : (y : Dynamic H) → standing (out-Expr rhs) (entries_of scope) ≡ Some y → (old mid : GlobalRuntimeState H) →
+  value_comes : (y : Dynamic H) → standing (out-Expr rhs) (entries_of scope) ≡ Some y → (old mid : RunState H) →
       old.num_operations < limit_under rules → mid ≡ record old { num_operations = old.num_operations + 1 } → (k : List (Frame H)) →
       Leads (machine rules) (cut rules) (at (OpenStmt (layer.Assignment op lhs rhs) restoring) k (state_of t old scope held))
       (at (OpenChain (begun root index options pos (record { op = op; value = copy_of y }))) (AssignedChain ∷ k) (state_of t
@@ -161,11 +161,11 @@ module _ {S H : Type 0} (rules : Rules S H) (t : S) (scope : Scope H) (held : He
       (flat_copy (local_of mid scope held).around.cells y.value (copy_of y) (position_of rhs)
       (standing_plain (out-Expr rhs) (entries_of scope) y given))) here
 
-  module _ (old last : GlobalRuntimeState H) (later : Scope H)
+  module _ (old last : RunState H) (later : Scope H)
       (room : old.num_operations + charges_of (out-Expr index) ≤ limit_under rules)
       (is : last ≡ record old { num_operations = old.num_operations + charges_of (out-Expr index) }) (n : ℕ) (w : Dynamic H)
       (put_there : entries_of later ≡ revalued (entries_of scope) i (slice_get (entries_of scope) i) (with_value v (spot.Item n) w)) where
-    abbrev counted : ℕ → GlobalRuntimeState H
+    abbrev counted : ℕ → RunState H
     counted n = record old { num_operations = old.num_operations + n }
 
     assigned_by : LeadsToItem (layer_of v) (standing (out-Expr index) (entries_of scope)) n →
@@ -198,7 +198,7 @@ module _ {S H : Type 0} (rules : Rules S H) (t : S) (scope : Scope H) (held : He
         (knows_by token (value_at v (spot.Item n)) (standing (out-Expr rhs) (entries_of scope)) w known)
 
 -- it keeps what each assignment does
-pub item_keeps : {H : Type 0} (old new : GlobalRuntimeState H) (scope later : Scope H) (i count : ℕ) (w : Dynamic H) →
+pub item_keeps : {H : Type 0} (old new : RunState H) (scope later : Scope H) (i count : ℕ) (w : Dynamic H) →
     new ≡ record old { num_operations = old.num_operations + count } →
     entries_of later ≡ revalued (entries_of scope) i (slice_get (entries_of scope) i) w → Keeps old new scope later
 item_keeps old new scope later i count w is put_there = record {

@@ -15,7 +15,7 @@ use Rattle.rhai_values.specs.declared.cells.CellStore.{CellStore}
 use Rattle.rhai_values.specs.Cells.{cells_of}
 use Rattle.rhai_values.specs.Copy.{copy_of}
 use Rattle.rhai_state.specs.declared.scope.Scope.{Scope}
-use Rattle.rhai_state.specs.declared.state.GlobalRuntimeState.{GlobalRuntimeState}
+use Rattle.rhai_lookups.specs.declared.run.RunState.{RunState}
 use Rattle.rhai_errors.specs.declared.error.EvalAltResult.{EvalAltResult}
 use Rattle.rhai_errors.specs.declared.error.EvalAltResult.TheVariants as error
 use Rattle.rhai_state.specs.Scope.{entries_of}
@@ -63,7 +63,7 @@ module _ {S H : Type 0} (rules : Rules S H) where
     assignment = assignment_to (variable_named name namespace pos) op
 
     -- the value is refused
-    pub value_stops : (old new : GlobalRuntimeState H) (e : EvalAltResult H) → limit_under rules ≤ old.num_operations →
+    pub value_stops : (old new : RunState H) (e : EvalAltResult H) → limit_under rules ≤ old.num_operations →
         e ≡ error.ErrorTooManyOperations (position_of rhs) → new ≡ old →
         Steps rules (OpenStmt (layer.Assignment op lhs rhs) restoring) (state_of t old scope held) (Fail e) (state_of t new scope held)
     unfolding after Goes
@@ -72,7 +72,7 @@ module _ {S H : Type 0} (rules : Rules S H) where
         ⨾ value_refused rules rhs y t old new scope held given e full is same (AssignValue assignment (position_of rhs) ∷ k)
         ⨾ next here
 
-    module _ (old mid : GlobalRuntimeState H) (room : old.num_operations < limit_under rules)
+    module _ (old mid : RunState H) (room : old.num_operations < limit_under rules)
         (is : mid ≡ record old { num_operations = old.num_operations + 1 }) where
       -- or there
       value_comes : (k : List (Frame H)) →
@@ -88,20 +88,20 @@ module _ {S H : Type 0} (rules : Rules S H) where
           (standing_plain (out-Expr rhs) (entries_of scope) y given))) here
 
       -- the target is refused
-      pub target_stops : (new : GlobalRuntimeState H) (e : EvalAltResult H) → limit_under rules ≤ mid.num_operations →
+      pub target_stops : (new : RunState H) (e : EvalAltResult H) → limit_under rules ≤ mid.num_operations →
           e ≡ error.ErrorTooManyOperations pos → new ≡ mid →
           Steps rules (OpenStmt (layer.Assignment op lhs rhs) restoring) (state_of t old scope held) (Fail e) (state_of t new scope held)
       unfolding Goes
       target_stops new e full refusal same k =
           value_comes k ⨾ refuses_assignment rules t mid new scope held assignment (copy_of y) e full refusal same k
 
-      module _ (second : GlobalRuntimeState H) (more : mid.num_operations < limit_under rules)
+      module _ (second : RunState H) (more : mid.num_operations < limit_under rules)
           (last : second ≡ record mid { num_operations = mid.num_operations + 1 }) (token : Token) (is_token : op.op ≡ Some token)
           (fast : rules.setting.offer.fast_operators ≡ true) where
         same_cells : second.cells ≡ old.cells
-        same_cells = ap (λ (g : GlobalRuntimeState H). g.cells) last ∙ ap (λ (g : GlobalRuntimeState H). g.cells) is
+        same_cells = ap (λ (g : RunState H). g.cells) last ∙ ap (λ (g : RunState H). g.cells) is
 
-        module _ (place : code.Place) (outcome result : Result (Dynamic H) (EvalAltResult H)) (new : GlobalRuntimeState H) (later :
+        module _ (place : code.Place) (outcome result : Result (Dynamic H) (EvalAltResult H)) (new : RunState H) (later :
             Scope H)
             (finds : named_target (cells_of old.cells) namespace.path name pos (entries_of scope)
             ≡ Some (target (place_in place) (standing_at place scope old.cells)))

@@ -10,7 +10,7 @@ use Rattle.rhai_values.specs.Cells.{cells_of}
 use Rattle.rhai_state.specs.declared.scope.Scope.{Scope}
 use Rattle.rhai_state.specs.Scope.{entries_of}
 use Rattle.rhai_state.specs.declared.scope.ScopeEntry.{ScopeEntry}
-use Rattle.rhai_state.specs.declared.state.GlobalRuntimeState.{GlobalRuntimeState}
+use Rattle.rhai_lookups.specs.declared.run.RunState.{RunState}
 use Rattle.rhai_operators.specs.Answers.{Answer, IsAnswer, op_assign_of}
 use Rattle.rhai_operators.specs.Direct.{integer_in}
 use Rattle.rhai_machine.specs.language.Places.{Target, is_constant, target}
@@ -46,5 +46,5 @@ module _ {H : Type 0} where
   assigned op lhs rhs entries cells = None
 
   -- a state after so many charges more, at a level
-  abbrev pub charged_at : (more level : ℕ) → GlobalRuntimeState H → GlobalRuntimeState H
+  abbrev pub charged_at : (more level : ℕ) → RunState H → RunState H
   charged_at more level global = record global { num_operations = global.num_operations + more; scope_level = level }

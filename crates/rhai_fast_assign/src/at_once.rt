@@ -16,9 +16,9 @@ use crate::items::assign_item;
 use rhai_context::ends::put_unit;
 use rhai_errors::error::EvalAltResult;
 use rhai_errors::table::NativeTable;
+use rhai_lookups::run::RunState;
 use rhai_state::scope::Scope;
 use rhai_state::session::Session;
-use rhai_state::state::GlobalRuntimeState;
 use rhai_tree::expr::Expr;
 use rhai_values::base::value::{Dynamic, Host};
 
@@ -31,7 +31,7 @@ use rhai_values::base::value::{Dynamic, Host};
 /// Those of `assign_in_place`.
 pub fn assign_at_once<H: Host, T: NativeTable<H>>(
     session: &Session<'_, H>,
-    global: &mut GlobalRuntimeState<H>,
+    global: &mut RunState<H>,
     table: &T,
     scope: &mut Scope<H>,
     out: &mut Dynamic<H>,

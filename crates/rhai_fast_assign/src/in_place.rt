@@ -26,12 +26,12 @@ use rhai_assign::write::write_outcome;
 use rhai_context::ends::{put_unit, settle, write_number};
 use rhai_errors::error::EvalAltResult;
 use rhai_errors::table::NativeTable;
+use rhai_lookups::run::RunState;
 use rhai_operands::operands::{integer_at, integer_in_place, operand_in_place};
 use rhai_operands::operators::compute_known;
 use rhai_operators::builtin_op_assign;
 use rhai_state::scope::Scope;
 use rhai_state::session::Session;
-use rhai_state::state::GlobalRuntimeState;
 use rhai_steps::charges::{charge_all, track_operation};
 use rhai_steps::variables::{Variable, index_by_offset};
 use rhai_tree::expr::{Expr, OpAssignment};
@@ -58,7 +58,7 @@ pub struct Assignment<'a> {
 /// variable or it may not be assigned to, the operand has to be evaluated, or there is no built-in for them.
 fn prepare<H: Host>(
     alloc: Global,
-    global: &GlobalRuntimeState<H>,
+    global: &RunState<H>,
     scope: &Scope<H>,
     token: Token,
     variable: &Variable<'_>,
@@ -96,7 +96,7 @@ fn writable_integer<H: Host>(value: &Dynamic<H>) -> Option<i64>
 #[inline(always)]
 pub(crate) fn assign_integer<H: Host, T: NativeTable<H>>(
     session: &Session<'_, H>,
-    global: &mut GlobalRuntimeState<H>,
+    global: &mut RunState<H>,
     _table: &T,
     scope: &mut Scope<H>,
     assignment: &Assignment<'_>,
@@ -159,7 +159,7 @@ pub(crate) fn assign_integer<H: Host, T: NativeTable<H>>(
 #[inline(never)]
 fn assign_values<H: Host, T: NativeTable<H>>(
     session: &Session<'_, H>,
-    global: &mut GlobalRuntimeState<H>,
+    global: &mut RunState<H>,
     _table: &T,
     scope: &mut Scope<H>,
     op: OpAssignment,
@@ -220,7 +220,7 @@ fn assign_values<H: Host, T: NativeTable<H>>(
 #[inline(never)]
 fn assign_others<H: Host, T: NativeTable<H>>(
     session: &Session<'_, H>,
-    global: &mut GlobalRuntimeState<H>,
+    global: &mut RunState<H>,
     _table: &T,
     scope: &mut Scope<H>,
     out: &mut Dynamic<H>,
@@ -265,7 +265,7 @@ fn assign_others<H: Host, T: NativeTable<H>>(
 #[inline(always)]
 pub fn assign_in_place<H: Host, T: NativeTable<H>>(
     session: &Session<'_, H>,
-    global: &mut GlobalRuntimeState<H>,
+    global: &mut RunState<H>,
     _table: &T,
     scope: &mut Scope<H>,
     out: &mut Dynamic<H>,

@@ -25,13 +25,13 @@ ghost use Rattle.rhai_fast_assign.specs.Items.{charges_of, parts_in, place_in_ar
 
 use rhai_context::ends::put_number;
 use rhai_errors::table::NativeTable;
+use rhai_lookups::run::RunState;
 use rhai_operands::operands::{integer_at, integer_in_place};
 use rhai_operands::operators::compute_known;
 use rhai_places::place::place_mut;
 use rhai_spots::spot::Spot;
 use rhai_state::scope::Scope;
 use rhai_state::session::Session;
-use rhai_state::state::GlobalRuntimeState;
 use rhai_steps::charges::charge_all;
 use rhai_steps::variables::index_by_offset;
 use rhai_tree::expr::{Expr, OpAssignment};
@@ -135,7 +135,7 @@ fn write_item<H: Host>(scope: &mut Scope<H>, entry: usize, at: usize, value: Dyn
 #[inline(never)]
 pub fn assign_item<H: Host, T: NativeTable<H>>(
     session: &Session<'_, H>,
-    global: &mut GlobalRuntimeState<H>,
+    global: &mut RunState<H>,
     _table: &T,
     scope: &mut Scope<H>,
     op: &OpAssignment,

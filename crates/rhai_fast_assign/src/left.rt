@@ -18,9 +18,9 @@ use rhai_context::ends::{settle, stop, take_value};
 use rhai_context::outcomes::charge;
 use rhai_errors::error::EvalAltResult;
 use rhai_errors::table::NativeTable;
+use rhai_lookups::run::RunState;
 use rhai_state::scope::Scope;
 use rhai_state::session::Session;
-use rhai_state::state::GlobalRuntimeState;
 use rhai_steps::variables::Variable;
 use rhai_tree::expr::OpAssignment;
 use rhai_tree::position::Position;
@@ -32,7 +32,7 @@ use rhai_values::base::value::{Dynamic, Host};
 /// Those of `assign_variable`.
 pub fn assign_from_run<H: Host, T: NativeTable<H>>(
     session: &Session<'_, H>,
-    global: &mut GlobalRuntimeState<H>,
+    global: &mut RunState<H>,
     table: &mut T,
     scope: &mut Scope<H>,
     out: &mut Dynamic<H>,
@@ -61,7 +61,7 @@ pub fn assign_from_run<H: Host, T: NativeTable<H>>(
 /// `this` any more, both at `this`, and those of `assign_this`.
 pub fn assign_this_from_run<H: Host, T: NativeTable<H>>(
     session: &Session<'_, H>,
-    global: &mut GlobalRuntimeState<H>,
+    global: &mut RunState<H>,
     table: &mut T,
     this: &mut Option<Dynamic<H>>,
     out: &mut Dynamic<H>,

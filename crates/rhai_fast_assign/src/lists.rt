@@ -15,9 +15,9 @@ ghost use Rattle.rhai_steps.specs.States.{state_of};
 
 use crate::in_place::{Assignment, assign_integer};
 use rhai_errors::table::NativeTable;
+use rhai_lookups::run::RunState;
 use rhai_state::scope::Scope;
 use rhai_state::session::Session;
-use rhai_state::state::GlobalRuntimeState;
 use rhai_steps::variables::{Saved, enter_list};
 use rhai_tree::expr::Stmt;
 use rhai_values::base::value::Host;
@@ -28,7 +28,7 @@ use rhai_values::base::value::Host;
 #[inline(always)]
 fn assign_alone<H: Host, T: NativeTable<H>>(
     session: &Session<'_, H>,
-    global: &mut GlobalRuntimeState<H>,
+    global: &mut RunState<H>,
     table: &T,
     scope: &mut Scope<H>,
     statements: &[Stmt],
@@ -72,7 +72,7 @@ fn assign_alone<H: Host, T: NativeTable<H>>(
 /// it is not empty. The table is not called.
 pub fn open_list<H: Host, T: NativeTable<H>>(
     session: &Session<'_, H>,
-    global: &mut GlobalRuntimeState<H>,
+    global: &mut RunState<H>,
     table: &T,
     scope: &mut Scope<H>,
     statements: &[Stmt],
@@ -93,6 +93,7 @@ pub fn open_list<H: Host, T: NativeTable<H>>(
         (Ok unit) (state_of (T.state table.now) global.new scope.new held) }
 {
     if assign_alone(session, global, table, scope, statements) {
+        global.lists.begin();
         return None;
     }
     Some(enter_list(global, scope))

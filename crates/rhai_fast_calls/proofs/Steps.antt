@@ -21,7 +21,7 @@ use Rattle.rhai_values.specs.Copy.{plain}
 use Rattle.rhai_errors.specs.declared.error.EvalAltResult.{EvalAltResult}
 use Rattle.rhai_state.specs.declared.scope.Scope.{Scope}
 use Rattle.rhai_state.specs.declared.scope.ScopeEntry.{ScopeEntry}
-use Rattle.rhai_state.specs.declared.state.GlobalRuntimeState.{GlobalRuntimeState}
+use Rattle.rhai_lookups.specs.declared.run.RunState.{RunState}
 use Rattle.rhai_state.specs.declared.limits.Limits.{Limits}
 use Rattle.rhai_errors.specs.Native.{Gives, MayLeave, Named, Obeys, Reply, request}
 use Rattle.rhai_state.specs.Scope.{entries_of, name_of, revalued, value_in}
@@ -74,7 +74,7 @@ module _ {S H : Type 0} (rules : Rules S H) where
   ended_plain c old new r q plain is runs k = rw (is, ← plain_ends r plain) (runs k)
 
 -- a value that goes back to its entry
-pub back_there : {S H : Type 0} (t : S) (global : GlobalRuntimeState H) (old new : Scope H) (held : Held H) (i : ℕ) (v : Dynamic H) →
+pub back_there : {S H : Type 0} (t : S) (global : RunState H) (old new : Scope H) (held : Held H) (i : ℕ) (v : Dynamic H) →
     entries_of new ≡ revalued (entries_of old) i (slice_get (entries_of old) i) v →
     back_in (Some (FromEntry i)) v (state_of t global old held) ≡ state_of t global new held
 back_there t global old new held i v is =
@@ -83,8 +83,8 @@ back_there t global old new held i v is =
     }) (sym is)
 
 -- so a native is called on the value of an entry
-pub asks_entry : {S H : Type 0} (rules : Rules S H) (operation : Operation) (i : ℕ) (v : Dynamic H) (t : S) (old : GlobalRuntimeState H)
-    (t' : S) (last : GlobalRuntimeState H) (scope later : Scope H) (held : Held H) (left : Dynamic H) →
+pub asks_entry : {S H : Type 0} (rules : Rules S H) (operation : Operation) (i : ℕ) (v : Dynamic H) (t : S) (old : RunState H)
+    (t' : S) (last : RunState H) (scope later : Scope H) (held : Held H) (left : Dynamic H) →
     entries_of later ≡ revalued (entries_of scope) i (slice_get (entries_of scope) i) left →
     (r : Result (Dynamic H × Bool) (EvalAltResult H)) (q : Result (Dynamic H) (EvalAltResult H)) →
     IfOk r (λ answer. false ≡ false → answer.1 ≡ false) → q ≡ without_changed r →
@@ -127,7 +127,7 @@ free_of_bar true pure is = cc
 
 -- it is charged, and the native of its name is asked with the value, which goes back to its entry
 pub asks_native : {S H : Type 0} (rules : Rules S H) (operation : Operation) (i : ℕ) (v : Dynamic H) → is_lendable v ≡ true → (t : S)
-    (old mid : GlobalRuntimeState H) (t' : S) (scope later : Scope H) (held : Held H) (left : Dynamic H) →
+    (old mid : RunState H) (t' : S) (scope later : Scope H) (held : Held H) (left : Dynamic H) →
     value_in (entries_of scope) (Some i) ≡ Some v →
     entries_of later ≡ revalued (entries_of scope) i (slice_get (entries_of scope) i) left →
     old.num_operations < limit_under rules → mid ≡ record old { num_operations = old.num_operations + 1 } →
@@ -208,7 +208,7 @@ module _ {H : Type 0} where
 
 module _ {S H : Type 0} (rules : Rules S H) (call : FnCallExpr) (arg : Expr) (lone : IsLone call arg) (pos : Position)
     (offset : Option NonZeroUsize) (name : List ℕ) (namespace : Namespace) (where_ : Position)
-    (form : out-Expr arg ≡ layer.Variable offset name namespace where_) (t : S) (old mid : GlobalRuntimeState H) (scope : Scope
+    (form : out-Expr arg ≡ layer.Variable offset name namespace where_) (t : S) (old mid : RunState H) (scope : Scope
     H) (held : Held H)
     (room : old.num_operations < limit_under rules) (charged : mid ≡ record old { num_operations = old.num_operations + 1 }) where
   abbrev operation : Operation

@@ -34,11 +34,10 @@ use rhai_context::outcomes::charge;
 use rhai_errors::error::EvalAltResult;
 use rhai_errors::table::{Answer, NativeTable};
 use rhai_functions::key::FnKey;
-use rhai_functions::lookup::find_function;
 use rhai_functions::words::has_own_meaning;
+use rhai_lookups::run::RunState;
 use rhai_state::scope::Scope;
 use rhai_state::session::{Offered, Session};
-use rhai_state::state::GlobalRuntimeState;
 use rhai_steps::charges::charge_one;
 use rhai_steps::operation::Operation;
 use rhai_steps::replies::replied;
@@ -76,28 +75,26 @@ fn lone_argument(call: &FnCallExpr) -> Option<&Expr>
 
 /// Tells whether a call by a name looks through no module.
 #[inline(always)]
-fn has_no_modules<H: Host>(offered: &Offered<'_, H>, global: &GlobalRuntimeState<H>) -> bool
-    ensures libraries { IsTrue result → global.now.lib ≡ [] }
+fn has_no_modules<H: Host>(offered: &Offered<'_, H>, global: &RunState<H>) -> bool
+    ensures libraries { IsTrue result → global.now.lists.0 ≡ [] }
     ensures modules { IsTrue result → offered.now.global_modules.now ≡ [] }
-    ensures imports { IsTrue result → global.now.imports ≡ [] }
+    ensures imports { IsTrue result → global.now.lists.1 ≡ [] }
     ensures named { IsTrue result → offered.now.global_sub_modules.now.1 ≡ [] }
 {
-    global.lib.is_empty()
+    global.lists.lib().is_empty()
         && offered.global_modules.is_empty()
-        && global.imports.is_empty()
+        && global.lists.imports().is_empty()
         && offered.global_sub_modules.values().is_empty()
 }
 
 /// Tells whether a function of a script has a name and one parameter.
 #[inline(always)]
-fn is_scripted<H: Host>(
-    session: &Session<'_, H>,
-    global: &GlobalRuntimeState<H>,
-    name: &str,
-) -> bool
-    ensures { result ≡ is_some (plain_found (offer_of session.now) (surroundings_of global.now) name.now 1) }
+fn is_scripted<H: Host>(session: &Session<'_, H>, global: &mut RunState<H>, name: &str) -> bool
+    ensures found { result ≡ is_some (plain_found (offer_of session.now) (surroundings_of global.old) name.now
+        1) }
+    ensures same { global.new ≡ global.old }
 {
-    if has_no_modules(&session.offered, global) {
+    if has_no_modules(&session.offered, &*global) {
         return false;
     }
     let key = FnKey {
@@ -105,14 +102,7 @@ fn is_scripted<H: Host>(
         arity: 1,
         this_type: None,
     };
-    let found = find_function(
-        key,
-        global.lib.as_slice(),
-        session.offered.global_modules,
-        global.imports.as_slice(),
-        session.offered.global_sub_modules.values(),
-    );
-    found.is_some()
+    global.lists.has(&key, &session.offered)
 }
 
 /// Tells whether a value is an integer that may be written.
@@ -201,7 +191,7 @@ fn ask<H: Host, T: NativeTable<H>>(
 #[inline(always)]
 fn call_entry<H: Host, T: NativeTable<H>>(
     session: &Session<'_, H>,
-    global: &mut GlobalRuntimeState<H>,
+    global: &mut RunState<H>,
     table: &mut T,
     scope: &mut Scope<H>,
     out: &mut Dynamic<H>,
@@ -244,7 +234,7 @@ fn call_entry<H: Host, T: NativeTable<H>>(
 #[inline(never)]
 pub fn call_at_once<H: Host, T: NativeTable<H>>(
     session: &Session<'_, H>,
-    global: &mut GlobalRuntimeState<H>,
+    global: &mut RunState<H>,
     table: &mut T,
     scope: &mut Scope<H>,
     out: &mut Dynamic<H>,

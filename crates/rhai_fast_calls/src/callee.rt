@@ -5,9 +5,7 @@ ghost use Rattle.rhai_tree.specs.Forms.{is_unqualified};
 ghost use Rattle.rhai_fast_calls.specs.Callees.{IsPlain, starts_by_value as by_value};
 
 use rhai_functions::key::FnKey;
-use rhai_functions::lookup::find_in_modules;
-use rhai_functions::words::has_own_meaning;
-use rhai_state::state::GlobalRuntimeState;
+use rhai_lookups::run::RunState;
 use rhai_steps::variables::is_plain;
 use rhai_tree::Shared;
 use rhai_tree::checked::CheckedFn;
@@ -39,13 +37,14 @@ pub fn is_by_name(call: &FnCallExpr) -> bool
 /// Finds the function of a run's libraries that a call means whatever its arguments come to. The answer has
 /// an owner of its own. None where the function is not known before they are evaluated: of an operator, a
 /// call behind a path, one that captures its caller's variables, one whose first argument is a variable or
-/// `this`, a name that means something besides functions, and a function with an environment. It takes no
-/// memory.
+/// `this`, a name that means something besides functions, and a function with an environment. What the lookup
+/// comes to is kept, where there is memory for it.
 pub fn plain_callee<H: Host>(
-    global: &GlobalRuntimeState<H>,
+    global: &mut RunState<H>,
     call: &FnCallExpr,
 ) -> Option<Shared<CheckedFn>>
-    ensures { IfSome result (λ def. IsPlain call.now global.now.lib def) }
+    ensures plain { IfSome result (λ def. IsPlain call.now global.old.lists.0 def) }
+    ensures same { global.new ≡ global.old }
 {
     if !is_by_name(call) {
         return None;
@@ -54,19 +53,15 @@ pub fn plain_callee<H: Host>(
     if !starts_by_value(args) {
         return None;
     }
-    let name = call.name.get().as_str();
     let key = FnKey {
-        name,
+        name: call.name.get().as_str(),
         arity: args.len(),
         this_type: None,
     };
-    let function = find_in_modules(global.lib.as_slice(), key)?;
-    if function.environ.is_some() || has_own_meaning(name) {
+    let def = global.lists.find_plain(&key)?;
+    let parameters = def.get().def().params.len();
+    if parameters != args.len() {
         return None;
     }
-    let def = &function.def;
-    if def.get().def().params.len() != args.len() {
-        return None;
-    }
-    def.share().ok()
+    Some(def)
 }

@@ -23,9 +23,9 @@ use rhai_context::ends::put_unit;
 use rhai_context::outcomes::charge;
 use rhai_context::{Caller, Context, enter_variables, leave_variables};
 use rhai_errors::error::EvalAltResult;
+use rhai_lookups::run::RunState;
 use rhai_state::limits::Limits;
 use rhai_state::scope::ScopeEntry;
-use rhai_state::state::GlobalRuntimeState;
 use rhai_tree::Items;
 use rhai_tree::expr::FnCallExpr;
 use rhai_tree::function::ScriptFuncDef;
@@ -67,7 +67,7 @@ pub fn stops_by_race<H: Host>(
 #[inline(always)]
 pub fn ends_before<H: Host>(
     limits: &Limits,
-    global: &mut GlobalRuntimeState<H>,
+    global: &mut RunState<H>,
     out: &mut Dynamic<H>,
     place: &mut Option<EvalAltResult<H>>,
     def: &ScriptFuncDef,

@@ -24,7 +24,7 @@ use Rattle.rhai_spots.specs.Targets.{part_at, place_at, shown}
 use Rattle.rhai_machine.specs.Types.{Dynamic, EvalAltResult}
 use Rattle.rhai_machine.specs.language.Setting.{Rules}
 use Rattle.rhai_machine.specs.language.State.{Held, State, HasMemory}
-use Rattle.rhai_steps.specs.States.{state_of}
+use Rattle.rhai_steps.specs.Callers.{state_of}
 use Rattle.rhai_fits.specs.Contents.{Contents, Both, OneValue, of_cells, of_maybe, of_result}
 use Rattle.rhai_fits.specs.Sealed.{AreSealed}
 use Rattle.rhai_laws.proofs.KeptLaws.{around_same}

@@ -24,7 +24,8 @@ use Rattle.rhai_fits.proofs.Values.{Fit, fit_reached, reached_is_fit}
 use Rattle.rhai_fits.proofs.Modules.{FitModule, module_reached, reached_module}
 use Rattle.rhai_fits.proofs.Fitting.{AllFit}
 use Rattle.rhai_laws.specs.Kept.{Around, CellsAdded, forgotten_cell}
-use Rattle.rhai_steps.specs.States.{holding, state_of, surroundings_of}
+use Rattle.rhai_steps.specs.Callers.{state_of, surroundings_of}
+use Rattle.rhai_steps.specs.States.{holding}
 use Rattle.rhai_fits_eval.specs.InHand.{of_state, IsInHand, IsThere, IsWithin, FitsAgain}
 use Rattle.rhai_fits_eval.specs.Together.{AreOthersThere, FitsTogetherAgain, FitsIsSealed}
 use Rattle.rhai_fits_eval.proofs.Ends.{fit_holds, holds_fit}

@@ -10,7 +10,8 @@ use Rattle.rhai_values.specs.ValueContents.{Reached}
 use Rattle.rhai_machine.specs.language.Setting.{Rules}
 use Rattle.rhai_fits.specs.Contents.{Contents, Both, of_maybe, of_offer, Has}
 use Rattle.rhai_fits.specs.Sealed.{AreSealed}
-use Rattle.rhai_steps.specs.States.{holding, state_of}
+use Rattle.rhai_steps.specs.Callers.{state_of}
+use Rattle.rhai_steps.specs.States.{holding}
 use Rattle.rhai_fits_eval.specs.InHand.{of_state, IsThere, FitsAgain}
 
 -- where a state and a scope fit together no cell has a bare handle, as the laws of calls ask

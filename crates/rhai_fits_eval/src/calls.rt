@@ -3,12 +3,15 @@
 ghost use Rattle.std.specs.Prelude.{◌≡◌, ◌∷◌, ◌||◌, IfSome, Some, false, true};
 ghost use Rattle.rhai_values.specs.Cells.{cells_of, IsNoHandle};
 ghost use Rattle.rhai_spots.specs.Targets.{shown};
+ghost use Rattle.rhai_lookups.specs.Levels.{CachesFit};
+ghost use Rattle.rhai_lookups.specs.Runs.{lists_of};
 ghost use Rattle.rhai_machine.specs.language.State.{HasMemory};
 ghost use Rattle.rhai_fits.specs.Contents.{Both, OneError, OneValue, of_result, of_values};
 ghost use Rattle.rhai_fits.specs.Sealed.{AreSealed};
 ghost use Rattle.rhai_calls.specs.Targets.{value_walked_on};
 ghost use Rattle.rhai_steps.specs.Sessions.{under as under_session};
-ghost use Rattle.rhai_steps.specs.States.{holding, state_of};
+ghost use Rattle.rhai_steps.specs.Callers.{state_of};
+ghost use Rattle.rhai_steps.specs.States.{holding};
 ghost use Rattle.rhai_eval.specs.States.{under};
 ghost use Rattle.rhai_fits_eval.specs.InHand.{FitsAgain, of_done, of_lent, of_changed, of_target};
 
@@ -16,9 +19,9 @@ use rhai_errors::error::EvalAltResult;
 use rhai_errors::table::NativeTable;
 use rhai_eval::engine::Engine;
 use rhai_index::indexing;
+use rhai_lookups::caches::Caches;
 use rhai_places::target::Target;
 use rhai_spots::spot::Access;
-use rhai_state::caches::Caches;
 use rhai_state::scope::Scope;
 use rhai_state::session::Session;
 use rhai_state::state::GlobalRuntimeState;
@@ -190,6 +193,7 @@ pub fn make_method_call<H: Host, T: NativeTable<H>>(
     first_arg_pos: Position,
     pos: Position,
 ) -> Result<(Dynamic<H>, bool), EvalAltResult<H>>
+    requires fit { CachesFit (lists_of global.old) caches.old }
     requires sealed { AreSealed (cells_of global.old.cells) }
     ensures fits { (scope : _) (this : _) → FitsAgain (under H.name_of engine.now T.natives)
         (Both (of_values call_args.old) (of_target target.old.part target.old.at.now))
@@ -264,6 +268,7 @@ pub fn exec_fn_call<H: Host, T: NativeTable<H>>(
     is_method_call: bool,
     position: Position,
 ) -> Result<(Dynamic<H>, bool), EvalAltResult<H>>
+    requires fit { CachesFit (lists_of global.old) caches.old }
     requires lent { (is_ref_mut || is_method_call) ≡ true }
     requires sealed { AreSealed (cells_of global.old.cells) }
     ensures fits { (this : _) → FitsAgain (under H.name_of engine.now T.natives)
@@ -303,6 +308,7 @@ pub fn exec_fn_call_by_value<H: Host, T: NativeTable<H>>(
     rest: &mut [Dynamic<H>],
     position: Position,
 ) -> Result<(Dynamic<H>, bool), EvalAltResult<H>>
+    requires fit { CachesFit (lists_of global.old) caches.old }
     requires sealed { AreSealed (cells_of global.old.cells) }
     ensures fits { (this : _) → FitsAgain (under H.name_of engine.now T.natives)
         (of_values (first.old ∷ rest.old))

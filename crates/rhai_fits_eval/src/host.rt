@@ -1,6 +1,8 @@
 //! What a host has of the laws: it asks once whether its state and scope fit together, and need not ask again.
 
 ghost use Rattle.std.specs.Prelude.{IfSome, IsTrue, None};
+ghost use Rattle.rhai_lookups.specs.Levels.{CachesFit};
+ghost use Rattle.rhai_lookups.specs.Runs.{lists_of};
 ghost use Rattle.rhai_fits.specs.Contents.{Nothing};
 ghost use Rattle.rhai_eval.specs.States.{under};
 ghost use Rattle.rhai_fits_eval.specs.Together.{AreOthersThere};
@@ -8,7 +10,7 @@ ghost use Rattle.rhai_fits_eval.specs.Together.{AreOthersThere};
 use crate::scripts;
 use rhai_errors::table::NativeTable;
 use rhai_eval::engine::Engine;
-use rhai_state::caches::Caches;
+use rhai_lookups::caches::Caches;
 use rhai_state::scope::Scope;
 use rhai_state::state::GlobalRuntimeState;
 use rhai_tree::checked::CheckedTree;
@@ -25,6 +27,7 @@ pub fn fits_before_and_behind<H: Host, T: NativeTable<H>>(
     scope: &mut Scope<H>,
     tree: &CheckedTree,
 ) -> Option<bool>
+    requires fit { CachesFit (lists_of global.old) caches.old }
     requires others { AreOthersThere (under H.name_of engine.now T.natives) Nothing (T.state table.old)
         global.old scope.old None }
     ensures again { IfSome result (λ fits. IsTrue fits) }

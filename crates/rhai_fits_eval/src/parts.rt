@@ -7,12 +7,15 @@ ghost use Rattle.rhai_tree.specs.Forms.{is_unqualified};
 ghost use Rattle.rhai_tree.specs.Frame.{all_resolve, all_resolve_exprs, resolves_call, resolves_expr};
 ghost use Rattle.rhai_tree.specs.Frame.{resolves_stmt, tests_of};
 ghost use Rattle.rhai_values.specs.Cells.{cells_of};
+ghost use Rattle.rhai_lookups.specs.Levels.{CachesFit};
+ghost use Rattle.rhai_lookups.specs.Runs.{lists_of};
 ghost use Rattle.rhai_machine.specs.language.Links.{first_in};
 ghost use Rattle.rhai_fits.specs.Contents.{Nothing, of_new, of_result};
 ghost use Rattle.rhai_fits.specs.Sealed.{AreSealed};
 ghost use Rattle.rhai_call_forms.specs.Leading.{all_args};
-ghost use Rattle.rhai_steps.specs.Agreement.{AgreesAt, call_leads, passes};
-ghost use Rattle.rhai_steps.specs.States.{holding, state_of};
+ghost use Rattle.rhai_steps.specs.Callers.{AgreesAt, state_of};
+ghost use Rattle.rhai_steps.specs.Agreement.{call_leads, passes};
+ghost use Rattle.rhai_steps.specs.States.{holding};
 ghost use Rattle.rhai_eval.specs.ArgumentValues.{value_with};
 ghost use Rattle.rhai_eval.specs.Chains.{assigned_in, AssignsNoHandle, chain_resolves};
 ghost use Rattle.rhai_eval.specs.States.{under};
@@ -21,7 +24,7 @@ ghost use Rattle.rhai_fits_eval.specs.InHand.{FitsAgain};
 use rhai_errors::error::EvalAltResult;
 use rhai_errors::table::NativeTable;
 use rhai_eval::engine::Engine;
-use rhai_state::caches::Caches;
+use rhai_lookups::caches::Caches;
 use rhai_state::scope::Scope;
 use rhai_state::state::GlobalRuntimeState;
 use rhai_tree::expr::{Expr, FnCallExpr, Namespace, OpAssignment, Stmt};
@@ -41,6 +44,7 @@ pub fn eval_expr<H: Host, T: NativeTable<H>>(
     this: &mut Dynamic<H>,
     expr: &Expr,
 ) -> Result<Dynamic<H>, EvalAltResult<H>>
+    requires fit { CachesFit (lists_of global.old) caches.old }
     requires resolves { AgreesAt global.old scope.old (resolves_expr expr.now) }
     requires sealed { AreSealed (cells_of global.old.cells) }
     ensures fits { FitsAgain (under H.name_of engine.now T.natives) Nothing
@@ -62,6 +66,7 @@ pub fn eval_stmt<H: Host, T: NativeTable<H>>(
     stmt: &Stmt,
     rewind_scope: bool,
 ) -> Result<Dynamic<H>, EvalAltResult<H>>
+    requires fit { CachesFit (lists_of global.old) caches.old }
     requires resolves { AgreesAt global.old scope.old (passes (resolves_stmt stmt.now)) }
     requires sealed { AreSealed (cells_of global.old.cells) }
     ensures fits { FitsAgain (under H.name_of engine.now T.natives) Nothing
@@ -92,6 +97,7 @@ pub fn eval_stmt_block<H: Host, T: NativeTable<H>>(
     statements: &[Stmt],
     restore_orig_state: bool,
 ) -> Result<Dynamic<H>, EvalAltResult<H>>
+    requires fit { CachesFit (lists_of global.old) caches.old }
     requires resolves { AgreesAt global.old scope.old
         (passes (all_resolve (map resolves_stmt statements.now))) }
     requires sealed { AreSealed (cells_of global.old.cells) }
@@ -123,6 +129,7 @@ pub fn eval_fn_call_expr<H: Host, T: NativeTable<H>>(
     expr: &FnCallExpr,
     pos: Position,
 ) -> Result<Dynamic<H>, EvalAltResult<H>>
+    requires fit { CachesFit (lists_of global.old) caches.old }
     requires resolves { AgreesAt global.old scope.old (resolves_call expr.now pos) }
     requires sealed { AreSealed (cells_of global.old.cells) }
     ensures fits { FitsAgain (under H.name_of engine.now T.natives) Nothing
@@ -143,6 +150,7 @@ pub fn get_arg_value<H: Host, T: NativeTable<H>>(
     this: &mut Dynamic<H>,
     arg_expr: &Expr,
 ) -> Result<(Dynamic<H>, Position), EvalAltResult<H>>
+    requires fit { CachesFit (lists_of global.old) caches.old }
     requires resolves { AgreesAt global.old scope.old (resolves_expr arg_expr.now) }
     requires sealed { AreSealed (cells_of global.old.cells) }
     ensures fits { FitsAgain (under H.name_of engine.now T.natives) Nothing
@@ -169,6 +177,7 @@ pub fn make_function_call<H: Host, T: NativeTable<H>>(
     capture_parent_scope: bool,
     pos: Position,
 ) -> Result<Dynamic<H>, EvalAltResult<H>>
+    requires fit { CachesFit (lists_of global.old) caches.old }
     requires resolves { AgreesAt global.old scope.old
         (all_resolve_exprs (map tests_of (all_args (option_copied first_arg) args_expr.now))) }
     requires sealed { AreSealed (cells_of global.old.cells) }
@@ -206,6 +215,7 @@ pub fn make_qualified_function_call<H: Host, T: NativeTable<H>>(
     args_expr: &[Expr],
     pos: Position,
 ) -> Result<Dynamic<H>, EvalAltResult<H>>
+    requires fit { CachesFit (lists_of global.old) caches.old }
     requires resolves { AgreesAt global.old scope.old (call_leads namespace.now args_expr.now) }
     requires behind { is_unqualified namespace.now.path ≡ false }
     requires sealed { AreSealed (cells_of global.old.cells) }
@@ -240,6 +250,7 @@ pub fn eval_dot_index_chain<H: Host, T: NativeTable<H>>(
     expr: &Expr,
     new_val: Option<(Dynamic<H>, &OpAssignment)>,
 ) -> Result<Dynamic<H>, EvalAltResult<H>>
+    requires fit { CachesFit (lists_of global.old) caches.old }
     requires chain { is_some (first_in (out-Expr expr.now)) ≡ true }
     requires resolves { AgreesAt global.old scope.old (chain_resolves (is_some new_val) expr.now) }
     requires value { AssignsNoHandle new_val }

@@ -3,16 +3,19 @@
 ghost use Rattle.std.specs.Option.{option_copied};
 ghost use Rattle.std.specs.Prelude.{None, Some};
 ghost use Rattle.rhai_values.specs.Cells.{cells_of};
+ghost use Rattle.rhai_lookups.specs.Levels.{CachesFit};
+ghost use Rattle.rhai_lookups.specs.Runs.{lists_of};
 ghost use Rattle.rhai_fits.specs.Contents.{Both, Nothing, of_environ, of_result, of_values};
 ghost use Rattle.rhai_fits.specs.Sealed.{AreSealed};
-ghost use Rattle.rhai_steps.specs.States.{holding, state_of};
+ghost use Rattle.rhai_steps.specs.Callers.{state_of};
+ghost use Rattle.rhai_steps.specs.States.{holding};
 ghost use Rattle.rhai_eval.specs.States.{under};
 ghost use Rattle.rhai_fits_eval.specs.InHand.{FitsAgain};
 
 use rhai_errors::error::EvalAltResult;
 use rhai_errors::table::NativeTable;
 use rhai_eval::engine::Engine;
-use rhai_state::caches::Caches;
+use rhai_lookups::caches::Caches;
 use rhai_state::scope::Scope;
 use rhai_state::state::GlobalRuntimeState;
 use rhai_tree::checked::{CheckedFn, CheckedTree};
@@ -31,6 +34,7 @@ pub fn eval_global_statements<H: Host, T: NativeTable<H>>(
     tree: &CheckedTree,
     map_exit_to_return_value: bool,
 ) -> Result<Dynamic<H>, EvalAltResult<H>>
+    requires fit { CachesFit (lists_of global.old) caches.old }
     requires sealed { AreSealed (cells_of global.old.cells) }
     ensures fits { FitsAgain (under H.name_of engine.now T.natives) Nothing
         (state_of (T.state table.old) global.old scope.old (holding None)) (of_result result)
@@ -63,6 +67,7 @@ pub fn call_script_fn<H: Host, T: NativeTable<H>>(
     rewind_scope: bool,
     pos: Position,
 ) -> Result<Dynamic<H>, EvalAltResult<H>>
+    requires fit { CachesFit (lists_of global.old) caches.old }
     requires sealed { AreSealed (cells_of global.old.cells) }
     ensures fits { FitsAgain (under H.name_of engine.now T.natives)
         (Both (of_values args.old) (of_environ (option_copied env.entry)))

@@ -22,7 +22,7 @@ use rhai_spots::part::Part;
 use rhai_spots::spot::Access;
 use rhai_state::session::Session;
 use rhai_state::state::GlobalRuntimeState;
-use rhai_steps::charges::track_operation;
+use rhai_steps::charges::charge_caller;
 use rhai_tree::position::Position;
 use rhai_values::base::value::{Dynamic, Host, Union};
 
@@ -74,11 +74,11 @@ pub fn get_indexed_mut<'t, H: Host, T: NativeTable<H>>(
     ensures indexes { Indexes session.now.limits H.name_of T.natives T.state how use_indexers
         global.old table.old target.old idx.old global.new table.new idx.new result }
 {
-    track_operation(&session.limits, global, Position::NONE)?;
+    charge_caller(&session.limits, global, Position::NONE)?;
     if !asks_indexer(target, use_indexers) {
         return indexing::get_indexed_mut(target, session.alloc, &global.cells, idx, how);
     }
-    track_operation(&session.limits, global, how.op_pos)?;
+    charge_caller(&session.limits, global, how.op_pos)?;
     let value = ask_get(session, &global.cells, table, target, idx, how.op_pos)?;
     Ok(Target {
         at: target,

@@ -1,3 +1,4 @@
 mod Choices
 pub mod Fitting
+pub mod Returned
 mod Stacks

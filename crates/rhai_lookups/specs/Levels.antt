@@ -1,5 +1,5 @@
 -- The caches of a run, and when they fit its libraries and imports.
-use Rattle.std.specs.Prelude.{◌≡◌, ℕ, Bool, true, false, List, [], ◌∷◌, ◌++◌, Option, Some, None, if◌then◌else◌, length}
+use Rattle.std.specs.Prelude.{◌≡◌, ◌≤◌, ℕ, max, Bool, true, false, List, [], ◌∷◌, ◌++◌, Option, Some, None, if◌then◌else◌, length}
 use Rattle.std.specs.List.{All}
 use Rattle.rhai_lookups.specs.declared.cache.FnResolutionCache.{FnResolutionCache}
 use Rattle.rhai_lookups.specs.declared.cache.FnResolutionCacheEntry.{FnResolutionCacheEntry}
@@ -126,3 +126,11 @@ module _ {H : Type 0} where
   -- each entry of the newest cache says what a lookup in these libraries and imports comes to
   abbrev pub EntriesRight : Lists H → Caches H → Type 0
   EntriesRight lists caches = All (IsRight (kept_of lists)) (entries_of caches)
+
+  -- the caches of a caller as a run over these libraries and imports leaves them
+  pub record CachesLeft (lists : Lists H) (old new : Caches H) : Type 0 where
+    pub fit : CachesFit lists new
+    pub right : EntriesRight lists new
+    pub below : below_of new ≡ below_of old
+    pub depth : depth_of new ≤ max 1 (depth_of old)
+    pub on : is_on new ≡ is_on old

@@ -3,3 +3,4 @@ pub mod Fits
 pub mod Keys
 pub mod Levels
 pub mod Lists
+pub mod Runs

@@ -308,6 +308,22 @@ impl<H> Model for Lists<H> {
     ghost invariant = { λ l. AllFit (l.lib, l.imports) l.caches.levels };
 }
 
+impl<H> Lists<H> {
+    /// Lends the libraries, first to last.
+    pub fn lib(&self) -> &[Shared<Module<H>>]
+        ensures { result.now ≡ self.now.0 }
+    {
+        self.lib.as_slice()
+    }
+
+    /// Lends the imports, the newest last.
+    pub fn imports(&self) -> &[Import<H>]
+        ensures { result.now ≡ self.now.1 }
+    {
+        self.imports.as_slice()
+    }
+}
+
 impl<H: Drop> Lists<H> {
     /// Takes a caller's libraries and imports, and its newest cache, in whose place one without entries
     /// stands until `into_parts`. It takes no memory.
@@ -354,18 +370,12 @@ impl<H: Drop> Lists<H> {
         (lib, imports)
     }
 
-    /// Lends the libraries, first to last.
-    pub fn lib(&self) -> &[Shared<Module<H>>]
-        ensures { result.now ≡ self.now.0 }
+    /// Finds a cache for a list of statements that is done at once, where they are on. It takes no memory.
+    #[inline(always)]
+    pub fn begin(&mut self)
+        ensures { self.new ≡ self.old }
     {
-        self.lib.as_slice()
-    }
-
-    /// Lends the imports, the newest last.
-    pub fn imports(&self) -> &[Import<H>]
-        ensures { result.now ≡ self.now.1 }
-    {
-        self.imports.as_slice()
+        self.caches.begin();
     }
 
     /// Begins a list of statements, which takes its imports back at its end or does not. It finds a cache,
@@ -385,11 +395,14 @@ impl<H: Drop> Lists<H> {
     }
 
     /// Ends a list of statements: the caches that were added since its start go.
+    #[inline(always)]
     pub fn end(&mut self, mark: Mark)
         ensures { self.new ≡ self.old }
     {
         self.found = mark.found;
-        self.caches.rewind(mark.depth);
+        if self.caches.len() > mark.depth {
+            self.caches.rewind(mark.depth);
+        }
     }
 
     /// Begins a call of a function with an environment, which gets a cache of its own before its libraries
@@ -471,12 +484,20 @@ impl<H: Drop> Lists<H> {
 
     /// Takes back all libraries from `libs` on and all imports from `imports` on. Caches that were made for
     /// more are emptied.
+    #[inline(always)]
     pub fn truncate(&mut self, libs: usize, imports: usize)
         ensures { self.new ≡ (take libs self.old.0, take imports self.old.1) }
     {
-        if libs >= self.lib.len() && imports >= self.imports.len() {
-            return;
+        if libs < self.lib.len() || imports < self.imports.len() {
+            self.cut(libs, imports);
         }
+    }
+
+    /// Takes back libraries and imports, of which there are some to take back.
+    #[inline(never)]
+    fn cut(&mut self, libs: usize, imports: usize)
+        ensures { self.new ≡ (take libs self.old.0, take imports self.old.1) }
+    {
         self.caches.cut(Extent { libs, imports });
         self.lib.truncate(libs);
         self.imports.truncate(imports);
@@ -530,6 +551,7 @@ impl<H: Drop> Lists<H> {
 
     /// Finds the function of a key that a library has, where it has no environment and its name means nothing
     /// besides functions. None also where it has too many owners.
+    #[inline(always)]
     pub fn find_plain(&mut self, key: &FnKey<'_>) -> Option<Shared<CheckedFn>>
         ensures found { IfSome result (λ def. option_map function_of (in_modules (function_key_of key.now)
             self.old.0)

@@ -1,7 +1,8 @@
 //! The state of a run.
 
-ghost use Rattle.std.specs.Prelude.{◌≡◌, ◌≤◌, max};
-ghost use Rattle.rhai_lookups.specs.Levels.{CachesFit, EntriesRight, below_of, depth_of, emptied, is_on};
+ghost use Rattle.std.specs.Prelude.{◌≡◌};
+ghost use Rattle.rhai_lookups.specs.Runs.{given_back, lists_of, run_of};
+ghost use Rattle.rhai_lookups.specs.Levels.{CachesFit, CachesLeft, emptied};
 ghost use Rattle.rhai_state.specs.Scope.{in_use};
 
 use crate::caches::Caches;
@@ -73,19 +74,8 @@ pub fn take_state<H: Drop>(
     global: &mut GlobalRuntimeState<H>,
     caches: &mut Caches<H>,
 ) -> RunState<H>
-    requires fit { CachesFit (global.old.lib, global.old.imports) caches.old }
-    ensures run { result ≡ record {
-      lists = (global.old.lib, global.old.imports);
-      constants = global.old.constants;
-      level = global.old.level;
-      scope_level = global.old.scope_level;
-      num_operations = global.old.num_operations;
-      num_modules_loaded = global.old.num_modules_loaded;
-      source = global.old.source;
-      always_search_scope = global.old.always_search_scope;
-      cells = global.old.cells;
-      constant_tables = global.old.constant_tables;
-    } }
+    requires fit { CachesFit (lists_of global.old) caches.old }
+    ensures run { result ≡ run_of global.old }
     ensures search { global.new.always_search_scope ≡ global.old.always_search_scope }
     ensures caches { caches.new ≡ record caches.old { levels = emptied caches.old.levels } }
 {
@@ -112,24 +102,8 @@ impl<H: Drop> RunState<H> {
     /// Puts the state of a run back in its caller's place, and the oldest of its caches in that of the
     /// caller's newest. No run changes whether its caller's variables are searched for. It takes no memory.
     pub fn give_state(self, global: &mut GlobalRuntimeState<H>, caches: &mut Caches<H>)
-        ensures global { global.new ≡ record {
-          lib = self.lists.0;
-          imports = self.lists.1;
-          constants = self.constants;
-          level = self.level;
-          scope_level = self.scope_level;
-          num_operations = self.num_operations;
-          num_modules_loaded = self.num_modules_loaded;
-          source = self.source;
-          always_search_scope = global.old.always_search_scope;
-          cells = self.cells;
-          constant_tables = self.constant_tables;
-        } }
-        ensures fit { CachesFit self.lists caches.new }
-        ensures right { EntriesRight self.lists caches.new }
-        ensures below { below_of caches.new ≡ below_of caches.old }
-        ensures depth { depth_of caches.new ≤ max 1 (depth_of caches.old) }
-        ensures on { is_on caches.new ≡ is_on caches.old }
+        ensures global { global.new ≡ given_back global.old.always_search_scope self }
+        ensures caches { CachesLeft self.lists caches.old caches.new }
     {
         let RunState {
             lists,

@@ -23,8 +23,8 @@ use rhai_errors::errors::data_race_by;
 use rhai_errors::table::NativeTable;
 use rhai_few::Few;
 use rhai_functions::function::Function;
+use rhai_lookups::run::RunState;
 use rhai_state::session::Session;
-use rhai_state::state::GlobalRuntimeState;
 use rhai_steps::operation::Operation;
 use rhai_tree::Items;
 use rhai_tree::literal::NativeId;
@@ -48,7 +48,7 @@ pub enum MethodEntry<H> {
 /// `rhai_calls::native::call_number_on`.
 fn number_on<H: Host, T: NativeTable<H>>(
     session: &Session<'_, H>,
-    global: &mut GlobalRuntimeState<H>,
+    global: &mut RunState<H>,
     table: &mut T,
     id: NativeId,
     operation: &Operation<'_>,
@@ -78,7 +78,7 @@ fn number_on<H: Host, T: NativeTable<H>>(
 /// Those of `rhai_calls::dispatch::pass_call`.
 pub fn call_named_on<H: Host, T: NativeTable<H>>(
     session: &Session<'_, H>,
-    global: &mut GlobalRuntimeState<H>,
+    global: &mut RunState<H>,
     table: &mut T,
     natives_alone: bool,
     operation: &Operation<'_>,
@@ -169,7 +169,7 @@ fn enter_by_itself<H: Host>(
 /// the name `called`.
 fn call_by_on<H: Host, T: NativeTable<H>>(
     session: &Session<'_, H>,
-    global: &mut GlobalRuntimeState<H>,
+    global: &mut RunState<H>,
     table: &mut T,
     number: Option<NativeId>,
     called: &str,
@@ -211,7 +211,7 @@ fn call_by_on<H: Host, T: NativeTable<H>>(
 /// none no list is made.
 pub fn call_on<H: Host, T: NativeTable<H>>(
     session: &Session<'_, H>,
-    global: &mut GlobalRuntimeState<H>,
+    global: &mut RunState<H>,
     table: &mut T,
     number: Option<NativeId>,
     called: &str,
@@ -256,7 +256,7 @@ pub fn call_on<H: Host, T: NativeTable<H>>(
 /// `rhai_calls::native::call_number`.
 fn call_number_by_itself<H: Host, T: NativeTable<H>>(
     session: &Session<'_, H>,
-    global: &mut GlobalRuntimeState<H>,
+    global: &mut RunState<H>,
     table: &mut T,
     id: NativeId,
     args: &mut [Dynamic<H>],
@@ -304,7 +304,7 @@ fn call_number_by_itself<H: Host, T: NativeTable<H>>(
 /// Makes a call by name, with nothing lent. The answer tells whether the native is not pure.
 fn call_named_by_itself<H: Host, T: NativeTable<H>>(
     session: &Session<'_, H>,
-    global: &mut GlobalRuntimeState<H>,
+    global: &mut RunState<H>,
     table: &mut T,
     name: &str,
     args: &mut [Dynamic<H>],
@@ -339,7 +339,7 @@ fn call_named_by_itself<H: Host, T: NativeTable<H>>(
 /// Calls a pointer by itself: a native by its number, or else the pointer's name.
 fn call_by_itself<H: Host, T: NativeTable<H>>(
     session: &Session<'_, H>,
-    global: &mut GlobalRuntimeState<H>,
+    global: &mut RunState<H>,
     table: &mut T,
     number: Option<NativeId>,
     name: &str,
@@ -365,7 +365,7 @@ fn call_by_itself<H: Host, T: NativeTable<H>>(
 /// Calls a pointer by itself, behind the values that it has already. Where it has none no list is made.
 pub fn call_alone<H: Host, T: NativeTable<H>>(
     session: &Session<'_, H>,
-    global: &mut GlobalRuntimeState<H>,
+    global: &mut RunState<H>,
     table: &mut T,
     number: Option<NativeId>,
     operation: &Operation<'_>,

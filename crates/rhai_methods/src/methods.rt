@@ -28,13 +28,13 @@ use rhai_errors::errors::data_race_by;
 use rhai_errors::table::NativeTable;
 use rhai_few::Few;
 use rhai_functions::function::Function;
+use rhai_lookups::lists::Lists;
+use rhai_lookups::run::RunState;
 use rhai_state::session::Session;
-use rhai_state::state::GlobalRuntimeState;
 use rhai_steps::operation::Operation;
 use rhai_steps::values::{bool_value, unit_value};
-use rhai_tree::Shared;
 use rhai_tree::position::Position;
-use rhai_values::base::value::{Dynamic, FnPtr, Host, Module};
+use rhai_values::base::value::{Dynamic, FnPtr, Host};
 use rhai_values::cells::CellStore;
 use std::alloc::{AllocError, Global};
 use std::mem::replace;
@@ -43,12 +43,13 @@ use std::mem::replace;
 fn linked_with<H: Host>(
     pointer: &FnPtr<H>,
     args: &[Dynamic<H>],
-    lib: &[Shared<Module<H>>],
+    lists: &mut Lists<H>,
 ) -> Result<Option<Function<H>>, AllocError>
-    ensures { IfOk result (λ found.
-        found ≡ linked_to pointer.now (length (all_of pointer.now args.now)) lib.now) }
+    ensures found { IfOk result (λ found.
+        found ≡ linked_to pointer.now (length (all_of pointer.now args.now)) lists.old.0) }
+    ensures same { lists.new ≡ lists.old }
 {
-    function_linked(pointer, args.len(), lib)
+    function_linked(pointer, args.len(), lists)
 }
 
 /// Gets all that a pointer is called with, for the function that it is linked to.
@@ -107,7 +108,7 @@ fn enter_linked_alone<H: Host>(
 /// Calls a pointer that is no function's by itself.
 fn unlinked_alone<H: Host, T: NativeTable<H>>(
     session: &Session<'_, H>,
-    global: &mut GlobalRuntimeState<H>,
+    global: &mut RunState<H>,
     table: &mut T,
     pointer: FnPtr<H>,
     args: &mut [Dynamic<H>],
@@ -142,7 +143,7 @@ fn unlinked_alone<H: Host, T: NativeTable<H>>(
 /// Calls the pointer that the focus is by itself, with all its arguments.
 fn call_pointer<H: Host, T: NativeTable<H>>(
     session: &Session<'_, H>,
-    global: &mut GlobalRuntimeState<H>,
+    global: &mut RunState<H>,
     table: &mut T,
     pointer: FnPtr<H>,
     args: &mut [Dynamic<H>],
@@ -155,7 +156,7 @@ fn call_pointer<H: Host, T: NativeTable<H>>(
         (state_of (T.state table.old) global.old scope held) (came_from pos result)
         (state_of (T.state table.new) global.new scope held) }
 {
-    match linked_with(&pointer, args, global.lib.as_slice()) {
+    match linked_with(&pointer, args, &mut global.lists) {
         Ok(Some(function)) => enter_linked_alone(
             session.alloc,
             &global.cells,
@@ -198,7 +199,7 @@ fn enter_linked_on<H: Host>(
 /// under the pointer's where there is none.
 fn unlinked_on<H: Host, T: NativeTable<H>>(
     session: &Session<'_, H>,
-    global: &mut GlobalRuntimeState<H>,
+    global: &mut RunState<H>,
     table: &mut T,
     pointer: FnPtr<H>,
     called: Option<&str>,
@@ -239,7 +240,7 @@ fn unlinked_on<H: Host, T: NativeTable<H>>(
 /// Calls a pointer on the focus, with the values that it has already before the arguments.
 fn call_pointer_on<H: Host, T: NativeTable<H>>(
     session: &Session<'_, H>,
-    global: &mut GlobalRuntimeState<H>,
+    global: &mut RunState<H>,
     table: &mut T,
     pointer: FnPtr<H>,
     called: Option<&str>,
@@ -255,7 +256,7 @@ fn call_pointer_on<H: Host, T: NativeTable<H>>(
         (state_of (T.state table.old) global.old scope (lending held target.old)) (came_from pos result)
         (state_of (T.state table.new) global.new scope (lending held target.new)) }
 {
-    match linked_with(&pointer, args, global.lib.as_slice()) {
+    match linked_with(&pointer, args, &mut global.lists) {
         Ok(Some(function)) => enter_linked_on(
             session.alloc,
             &global.cells,
@@ -275,7 +276,7 @@ fn call_pointer_on<H: Host, T: NativeTable<H>>(
 /// Evaluates `call` on what is no pointer: the first argument is one, which is called on the focus.
 fn call_argument<H: Host, T: NativeTable<H>>(
     session: &Session<'_, H>,
-    global: &mut GlobalRuntimeState<H>,
+    global: &mut RunState<H>,
     table: &mut T,
     target: &mut Dynamic<H>,
     args: &mut [Dynamic<H>],
@@ -316,7 +317,7 @@ fn call_argument<H: Host, T: NativeTable<H>>(
 /// is.
 fn call_word<H: Host, T: NativeTable<H>>(
     session: &Session<'_, H>,
-    global: &mut GlobalRuntimeState<H>,
+    global: &mut RunState<H>,
     table: &mut T,
     target: &mut Dynamic<H>,
     args: &mut [Dynamic<H>],
@@ -342,7 +343,7 @@ fn call_word<H: Host, T: NativeTable<H>>(
 /// is.
 fn call_plain<H: Host, T: NativeTable<H>>(
     session: &Session<'_, H>,
-    global: &mut GlobalRuntimeState<H>,
+    global: &mut RunState<H>,
     table: &mut T,
     name: &str,
     target: &mut Dynamic<H>,
@@ -393,7 +394,7 @@ fn call_plain<H: Host, T: NativeTable<H>>(
 /// `rhai_calls::dispatch::pass_call` and `rhai_calls::native::call_number_on`.
 pub fn call_method<H: Host, T: NativeTable<H>>(
     session: &Session<'_, H>,
-    global: &mut GlobalRuntimeState<H>,
+    global: &mut RunState<H>,
     table: &mut T,
     operation: &Operation<'_>,
     target: &mut Dynamic<H>,

@@ -9,7 +9,7 @@ use Rattle.rhai_tree.specs.declared.expr.FnCallExpr.{FnCallExpr}
 use Rattle.rhai_tree.specs.Positions.{position_of}
 use Rattle.rhai_values.specs.declared.base.value.Dynamic.{Dynamic}
 use Rattle.rhai_state.specs.declared.scope.Scope.{Scope}
-use Rattle.rhai_state.specs.declared.state.GlobalRuntimeState.{GlobalRuntimeState}
+use Rattle.rhai_lookups.specs.declared.run.RunState.{RunState}
 use Rattle.rhai_errors.specs.declared.error.EvalAltResult.{EvalAltResult}
 use Rattle.rhai_errors.specs.declared.error.EvalAltResult.TheVariants as error
 use Rattle.rhai_state.specs.Scope.{entries_of}
@@ -53,7 +53,7 @@ module _ {S H : Type 0} (rules : Rules S H) where
       (left_stands : standing (out-Expr left) (entries_of scope) ≡ Some x)
       (right_stands : standing (out-Expr right) (entries_of scope) ≡ Some y) where
     -- the condition is refused
-    pub test_refused : (old new : GlobalRuntimeState H) (e : EvalAltResult H) → limit_under rules ≤ old.num_operations →
+    pub test_refused : (old new : RunState H) (e : EvalAltResult H) → limit_under rules ≤ old.num_operations →
         e ≡ error.ErrorTooManyOperations pos → new ≡ old →
         Tests rules test (state_of t old scope held) (Err e) (state_of t new scope held)
     unfolding Tests Goes
@@ -62,7 +62,7 @@ module _ {S H : Type 0} (rules : Rules S H) where
         (f ∷ k)
         ⨾ passes_on f (position_of test) asks e k (state_of t new scope held)
 
-    module _ (old first : GlobalRuntimeState H) (room : old.num_operations < limit_under rules)
+    module _ (old first : RunState H) (room : old.num_operations < limit_under rules)
         (is : first ≡ record old { num_operations = old.num_operations + 1 }) where
       -- or begins
       test_begins : (k : List (Frame H)) →
@@ -73,7 +73,7 @@ module _ {S H : Type 0} (rules : Rules S H) where
           (λ k. rw form refl) room is k
 
       -- an operand is refused
-      pub test_left_refused : (new : GlobalRuntimeState H) (e : EvalAltResult H) → limit_under rules ≤ first.num_operations →
+      pub test_left_refused : (new : RunState H) (e : EvalAltResult H) → limit_under rules ≤ first.num_operations →
           e ≡ error.ErrorTooManyOperations (position_of left) → new ≡ first →
           Tests rules test (state_of t old scope held) (Err e) (state_of t new scope held)
       unfolding Tests Goes
@@ -84,9 +84,9 @@ module _ {S H : Type 0} (rules : Rules S H) where
           right_stands first new e full refusal same
           ⨾ passes_on f (position_of test) asks e k (state_of t new scope held)
 
-      module _ (second : GlobalRuntimeState H) (more : first.num_operations < limit_under rules)
+      module _ (second : RunState H) (more : first.num_operations < limit_under rules)
           (then : second ≡ record first { num_operations = first.num_operations + 1 }) where
-        pub test_right_refused : (new : GlobalRuntimeState H) (e : EvalAltResult H) → limit_under rules ≤ second.num_operations →
+        pub test_right_refused : (new : RunState H) (e : EvalAltResult H) → limit_under rules ≤ second.num_operations →
             e ≡ error.ErrorTooManyOperations (position_of right) → new ≡ second →
             Tests rules test (state_of t old scope held) (Err e) (state_of t new scope held)
         unfolding Tests Goes
@@ -97,7 +97,7 @@ module _ {S H : Type 0} (rules : Rules S H) where
             ⨾ passes_on f (position_of test) asks e k (state_of t new scope held)
 
         -- or the operator says whether it holds
-        pub test_holds : (new : GlobalRuntimeState H) → second.num_operations < limit_under rules →
+        pub test_holds : (new : RunState H) → second.num_operations < limit_under rules →
             new ≡ record second { num_operations = second.num_operations + 1 } →
             (holds : Bool) → binary_of token x y ≡ Some (Ok (bool_value holds)) →
             Tests rules test (state_of t old scope held) (Ok holds) (state_of t new scope held)
@@ -109,7 +109,7 @@ module _ {S H : Type 0} (rules : Rules S H) where
             ⨾ next here
 
     -- the operator says whether it holds, and its charge and those of its operands are taken at once
-    pub test_holds_at_once : (old new : GlobalRuntimeState H) → old.num_operations + 3 ≤ limit_under rules →
+    pub test_holds_at_once : (old new : RunState H) → old.num_operations + 3 ≤ limit_under rules →
         new ≡ record old { num_operations = old.num_operations + 3 } → (holds : Bool) → binary_of token x y ≡ Some (Ok (bool_value holds)) →
         Tests rules test (state_of t old scope held) (Ok holds) (state_of t new scope held)
     test_holds_at_once old new room is holds says =
@@ -119,9 +119,9 @@ module _ {S H : Type 0} (rules : Rules S H) where
         (is ∙ ap (λ (n : ℕ). record old { num_operations = n }) (omega arith)) holds says
 
   -- what starts in a state that is the same
-  pub from_same : (t : S) (scope : Scope H) (held : Held H) (test : Expr) (old mid new : GlobalRuntimeState H) (r : Result Bool
+  pub from_same : (t : S) (scope : Scope H) (held : Held H) (test : Expr) (old mid new : RunState H) (r : Result Bool
       (EvalAltResult H)) →
       mid ≡ old → Tests rules test (state_of t mid scope held) r (state_of t new scope held) →
       Tests rules test (state_of t old scope held) r (state_of t new scope held)
   from_same t scope held test old mid new r is tests =
-      subst (λ (g : GlobalRuntimeState H). Tests rules test (state_of t g scope held) r (state_of t new scope held)) is tests
+      subst (λ (g : RunState H). Tests rules test (state_of t g scope held) r (state_of t new scope held)) is tests

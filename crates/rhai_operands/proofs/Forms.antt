@@ -7,7 +7,7 @@ use Rattle.rhai_tree.specs.Position.{none}
 use Rattle.rhai_values.specs.declared.base.value.Dynamic.{Dynamic}
 use Rattle.rhai_errors.specs.declared.error.EvalAltResult.{EvalAltResult}
 use Rattle.rhai_state.specs.declared.scope.Scope.{Scope}
-use Rattle.rhai_state.specs.declared.state.GlobalRuntimeState.{GlobalRuntimeState}
+use Rattle.rhai_lookups.specs.declared.run.RunState.{RunState}
 use Rattle.rhai_state.specs.declared.session.Offered.{Offered}
 use Rattle.rhai_machine.specs.machine.Point.{after}
 use Rattle.rhai_machine.specs.machine.Memory.{next, out_before_step}
@@ -22,7 +22,7 @@ use Rattle.rhai_steps.proofs.Pieces.{told}
 use Rattle.rhai_operands.specs.Reading.{read_as}
 
 module _ {S H : Type 0} (rules : Rules S H) where
-  module _ (t : S) (global : GlobalRuntimeState H) (scope : Scope H) (held : Held H) (e : Expr) (r : Result (Dynamic H) (EvalAltResult H))
+  module _ (t : S) (global : RunState H) (scope : Scope H) (held : Held H) (e : Expr) (r : Result (Dynamic H) (EvalAltResult H))
     where
       form_runs : (form : ExprLayer) → Answers r (read_as (globals_of rules.setting.offer) (local_of global scope held) form) →
           Runs rules (OpenExpr form) (state_of t global scope held) r (state_of t global scope held)

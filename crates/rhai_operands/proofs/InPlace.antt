@@ -18,7 +18,7 @@ use Rattle.rhai_values.specs.Copy.{copy_of, copy_union, plain}
 use Rattle.rhai_values.specs.DataSize.{data_sizes, exceeded, fault_text, is_above, sizes, too_large}
 use Rattle.rhai_values.specs.declared.base.size.DataSizes.{DataSizes}
 use Rattle.rhai_state.specs.declared.scope.Scope.{Scope}
-use Rattle.rhai_state.specs.declared.state.GlobalRuntimeState.{GlobalRuntimeState}
+use Rattle.rhai_lookups.specs.declared.run.RunState.{RunState}
 use Rattle.rhai_errors.specs.declared.error.EvalAltResult.{EvalAltResult}
 use Rattle.rhai_errors.specs.declared.error.EvalAltResult.TheVariants as error
 use Rattle.rhai_state.specs.declared.limits.Limits.{Limits}
@@ -236,7 +236,7 @@ module _ {S H : Type 0} (rules : Rules S H) (t : S) (scope : Scope H) (held : He
     abbrev made : Call H
     made = call_at call.name token pos (copy_of x ∷ copy_of y ∷ [])
 
-    module _ (old new : GlobalRuntimeState H) where
+    module _ (old new : RunState H) where
       -- the left operand is refused
       pub left_refused : (e : EvalAltResult H) → limit_under rules ≤ old.num_operations →
           e ≡ error.ErrorTooManyOperations (position_of left) → new ≡ old →
@@ -262,7 +262,7 @@ module _ {S H : Type 0} (rules : Rules S H) (t : S) (scope : Scope H) (held : He
           (position_of left)
           (standing_plain (out-Expr left) (entries_of scope) x left_stands))) here
 
-    module _ (old mid new : GlobalRuntimeState H) (room : old.num_operations < limit_under rules)
+    module _ (old mid new : RunState H) (room : old.num_operations < limit_under rules)
         (is : mid ≡ record old { num_operations = old.num_operations + 1 }) where
       -- the right operand is refused
       pub right_refused : (e : EvalAltResult H) → limit_under rules ≤ mid.num_operations →

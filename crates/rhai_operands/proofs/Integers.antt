@@ -12,7 +12,7 @@ use Rattle.rhai_values.specs.declared.base.value.Union.{Union}
 use Rattle.rhai_values.specs.declared.base.value.Union.TheVariants as value
 use Rattle.rhai_values.specs.Copy.{plain}
 use Rattle.rhai_state.specs.declared.scope.Scope.{Scope}
-use Rattle.rhai_state.specs.declared.state.GlobalRuntimeState.{GlobalRuntimeState}
+use Rattle.rhai_lookups.specs.declared.run.RunState.{RunState}
 use Rattle.rhai_state.specs.Scope.{entries_of}
 use Rattle.rhai_operators.specs.Answers.{answer, binary_of}
 use Rattle.rhai_operators.specs.Direct.{integer_given, integer_in}
@@ -103,7 +103,7 @@ module _ {S H : Type 0} (rules : Rules S H) (t : S) (scope : Scope H) (held : He
     Some y)
   where
     -- both operands are charged, and the integer comes back
-    pub operates_at_once : (old new : GlobalRuntimeState H) → old.num_operations + 2 ≤ limit_under rules →
+    pub operates_at_once : (old new : RunState H) → old.num_operations + 2 ≤ limit_under rules →
         new ≡ record old { num_operations = old.num_operations + 2 } → (v : Dynamic H) (z : ℤ) → v ≡ plain (value.Int z) →
         binary_of token x y ≡ Some (Ok v) →
         Leads (machine rules) (cut rules) (at (OpenExpr (layer.Expr::FnCall call pos)) k (state_of t old scope held))

@@ -4,7 +4,7 @@ use Rattle.rhai_tree.specs.declared.expr.Expr.{Expr, out-Expr}
 use Rattle.rhai_tree.specs.Positions.{start_of}
 use Rattle.rhai_values.specs.declared.base.value.Dynamic.{Dynamic}
 use Rattle.rhai_state.specs.declared.scope.Scope.{Scope}
-use Rattle.rhai_state.specs.declared.state.GlobalRuntimeState.{GlobalRuntimeState}
+use Rattle.rhai_lookups.specs.declared.run.RunState.{RunState}
 use Rattle.rhai_errors.specs.declared.error.EvalAltResult.{EvalAltResult}
 use Rattle.rhai_errors.specs.declared.error.EvalAltResult.TheVariants as error
 use Rattle.rhai_machine.specs.machine.Memory.{◌⨾◌}
@@ -16,7 +16,7 @@ use Rattle.rhai_machine.specs.language.Runs.{Runs, Goes}
 use Rattle.rhai_steps.specs.States.{state_of}
 use Rattle.rhai_steps.proofs.Pieces.{charged, refused, told}
 
-module _ {S H : Type 0} (rules : Rules S H) (t : S) (old new : GlobalRuntimeState H) (scope : Scope H) (held : Held H)
+module _ {S H : Type 0} (rules : Rules S H) (t : S) (old new : RunState H) (scope : Scope H) (held : Held H)
     (e : Expr) where
   literal_goes : (v : Dynamic H) → literal_of (out-Expr e) ≡ Some v → old.num_operations < limit_under rules →
       new ≡ record old { num_operations = old.num_operations + 1 } → (r : Result (Dynamic H) (EvalAltResult H)) → Answers r (Ok v) →

@@ -13,7 +13,7 @@ use Rattle.rhai_values.specs.declared.base.value.Union.TheVariants as value
 use Rattle.rhai_values.specs.Copy.{copy_of, plain}
 use Rattle.rhai_state.specs.declared.scope.Scope.{Scope}
 use Rattle.rhai_state.specs.declared.scope.ScopeEntry.{ScopeEntry}
-use Rattle.rhai_state.specs.declared.state.GlobalRuntimeState.{GlobalRuntimeState}
+use Rattle.rhai_lookups.specs.declared.run.RunState.{RunState}
 use Rattle.rhai_errors.specs.declared.error.EvalAltResult.{EvalAltResult}
 use Rattle.rhai_errors.specs.declared.error.EvalAltResult.TheVariants as error
 use Rattle.rhai_state.specs.Scope.{entries_of, value_in}
@@ -91,7 +91,7 @@ literal_starts e _ w is literal = cc
 
 module _ {S H : Type 0} (rules : Rules S H) where
   -- its form, once it is charged, gives its value
-  opens_standing : (form : ExprLayer) (v : Dynamic H) (k : List (Frame H)) (t : S) (g : GlobalRuntimeState H) (scope : Scope H)
+  opens_standing : (form : ExprLayer) (v : Dynamic H) (k : List (Frame H)) (t : S) (g : RunState H) (scope : Scope H)
       (held : Held H) → standing form (entries_of scope) ≡ Some v →
       Leads (machine rules) (cut rules) (at (OpenExpr form) k (state_of t g scope held)) (at (Back (copy_of v)) k (state_of t g scope held))
   unfolding after
@@ -108,7 +108,7 @@ module _ {S H : Type 0} (rules : Rules S H) where
       (variable_named name namespace pos) v stands)) here
   opens_standing _ v k t g scope held stands = cc
 
-  module _ (e : Expr) (v : Dynamic H) (t : S) (old new : GlobalRuntimeState H) (scope : Scope H) (held : Held H)
+  module _ (e : Expr) (v : Dynamic H) (t : S) (old new : RunState H) (scope : Scope H) (held : Held H)
       (stands : standing (out-Expr e) (entries_of scope) ≡ Some v) where
     module _ (room : old.num_operations < limit_under rules) (is : new ≡ record old { num_operations = old.num_operations + 1 }) where
       -- an expression that stands is charged, and there

@@ -14,8 +14,8 @@ ghost use Rattle.rhai_context.specs.Ends.{came};
 use rhai_context::ends::{settle, stop};
 use rhai_errors::error::EvalAltResult;
 use rhai_errors::table::NativeTable;
+use rhai_lookups::run::RunState;
 use rhai_state::session::Session;
-use rhai_state::state::GlobalRuntimeState;
 use rhai_steps::charges::charge_one;
 use rhai_steps::values::{
     bool_value, char_value, constant_value, int_value, text_value, unit_value,
@@ -66,7 +66,7 @@ fn literal_value<H: Host>(
 #[inline(never)]
 fn charge_literal<H: Host, T: NativeTable<H>>(
     session: &Session<'_, H>,
-    global: &mut GlobalRuntimeState<H>,
+    global: &mut RunState<H>,
     _table: &T,
     out: &mut Dynamic<H>,
     place: &mut Option<EvalAltResult<H>>,
@@ -103,7 +103,7 @@ fn charge_literal<H: Host, T: NativeTable<H>>(
 #[inline(always)]
 pub fn read_literal<H: Host, T: NativeTable<H>>(
     session: &Session<'_, H>,
-    global: &mut GlobalRuntimeState<H>,
+    global: &mut RunState<H>,
     _table: &T,
     out: &mut Dynamic<H>,
     place: &mut Option<EvalAltResult<H>>,

@@ -9,8 +9,8 @@ ghost use Rattle.rhai_operators.specs.Direct.{integer_in};
 ghost use Rattle.rhai_steps.specs.Agreement.{AgreesAt};
 ghost use Rattle.rhai_operands.specs.Standing.{integer_of, standing, operand_pair, value_of};
 
+use rhai_lookups::run::RunState;
 use rhai_state::scope::Scope;
-use rhai_state::state::GlobalRuntimeState;
 use rhai_steps::values::{bool_value, char_value, int_value, is_bare_handle, unit_value};
 use rhai_steps::variables::{entry_of_variable, index_by_offset};
 use rhai_tree::expr::{Expr, FnCallExpr};
@@ -41,7 +41,7 @@ impl<'a, H> Operand<'a, H> {
 /// a path, that no entry has or that is a handle, and for any other expression. Asked: the expression
 /// resolves to the variables of the scope.
 pub fn operand_in_place<'a, H: Host>(
-    global: &GlobalRuntimeState<H>,
+    global: &RunState<H>,
     scope: &'a Scope<H>,
     expr: &Expr,
 ) -> Option<Operand<'a, H>>
@@ -85,11 +85,7 @@ pub fn integer_at<H>(value: &Dynamic<H>) -> Option<i64>
 /// or is a variable behind a path or one that is to be searched for. Asked: the expression resolves to the
 /// variables of the scope.
 #[inline(always)]
-pub fn integer_in_place<H: Host>(
-    global: &GlobalRuntimeState<H>,
-    scope: &Scope<H>,
-    expr: &Expr,
-) -> Option<i64>
+pub fn integer_in_place<H: Host>(global: &RunState<H>, scope: &Scope<H>, expr: &Expr) -> Option<i64>
     requires { AgreesAt global.now scope.now (resolves_expr expr.now) }
     ensures { IfSome result (λ number.
         integer_of (standing (out-Expr expr.now) (entries_of scope.now)) ≡ Some number) }

@@ -24,12 +24,12 @@ use rhai_context::ends::{put_number, settle};
 use rhai_context::outcomes::charge;
 use rhai_errors::error::EvalAltResult;
 use rhai_errors::table::NativeTable;
+use rhai_lookups::run::RunState;
 use rhai_operators::builtin_binary;
 use rhai_operators::direct::{assign_integers, compare_integers};
 use rhai_state::limits::Limits;
 use rhai_state::scope::Scope;
 use rhai_state::session::Session;
-use rhai_state::state::GlobalRuntimeState;
 use rhai_steps::charges::{charge_all, track_operation};
 use rhai_steps::replies::applied;
 use rhai_tree::expr::{Expr, FnCallExpr};
@@ -62,7 +62,7 @@ pub fn compute_known<H: Host>(token: Token, x: Option<i64>, y: Option<i64>) -> O
 #[inline(never)]
 fn operate_values<H: Host, T: NativeTable<H>>(
     session: &Session<'_, H>,
-    global: &mut GlobalRuntimeState<H>,
+    global: &mut RunState<H>,
     _table: &T,
     scope: &Scope<H>,
     binary: BinaryCall<'_>,
@@ -101,7 +101,7 @@ fn operate_values<H: Host, T: NativeTable<H>>(
 #[inline(never)]
 fn operate_others<H: Host, T: NativeTable<H>>(
     session: &Session<'_, H>,
-    global: &mut GlobalRuntimeState<H>,
+    global: &mut RunState<H>,
     _table: &T,
     scope: &Scope<H>,
     out: &mut Dynamic<H>,
@@ -151,7 +151,7 @@ fn may_stand<H>(expr: &Expr) -> bool
 #[inline(always)]
 fn operate_integers<H: Host>(
     limits: &Limits,
-    global: &mut GlobalRuntimeState<H>,
+    global: &mut RunState<H>,
     scope: &Scope<H>,
     out: &mut Dynamic<H>,
     token: Token,
@@ -198,7 +198,7 @@ fn operate_integers<H: Host>(
 #[inline(always)]
 pub fn operate_in_place<H: Host, T: NativeTable<H>>(
     session: &Session<'_, H>,
-    global: &mut GlobalRuntimeState<H>,
+    global: &mut RunState<H>,
     _table: &T,
     scope: &Scope<H>,
     out: &mut Dynamic<H>,
@@ -276,7 +276,7 @@ fn truth_given<H: Host>(outcome: &Result<Dynamic<H>, EvalAltResult<H>>) -> Optio
 /// where the operator gives no truth value.
 #[inline(always)]
 fn compare_known<H: Host>(
-    global: &GlobalRuntimeState<H>,
+    global: &RunState<H>,
     scope: &Scope<H>,
     token: Token,
     left: &Expr,
@@ -298,7 +298,7 @@ fn compare_known<H: Host>(
 #[inline(never)]
 fn compare_values<H: Host>(
     alloc: Global,
-    global: &GlobalRuntimeState<H>,
+    global: &RunState<H>,
     scope: &Scope<H>,
     token: Token,
     left: &Expr,
@@ -322,7 +322,7 @@ fn compare_values<H: Host>(
 #[inline(always)]
 fn compare_in_place<H: Host>(
     alloc: Global,
-    global: &GlobalRuntimeState<H>,
+    global: &RunState<H>,
     scope: &Scope<H>,
     token: Token,
     left: &Expr,
@@ -348,7 +348,7 @@ fn compare_in_place<H: Host>(
 #[inline(always)]
 pub fn truth_in_place<H: Host, T: NativeTable<H>>(
     session: &Session<'_, H>,
-    global: &mut GlobalRuntimeState<H>,
+    global: &mut RunState<H>,
     _table: &T,
     scope: &Scope<H>,
     place: &mut Option<EvalAltResult<H>>,
@@ -396,7 +396,7 @@ pub fn truth_in_place<H: Host, T: NativeTable<H>>(
 #[inline(always)]
 pub fn holds_at_once<H: Host, T: NativeTable<H>>(
     session: &Session<'_, H>,
-    global: &mut GlobalRuntimeState<H>,
+    global: &mut RunState<H>,
     table: &T,
     scope: &Scope<H>,
     place: &mut Option<EvalAltResult<H>>,

@@ -16,9 +16,9 @@ ghost use Rattle.rhai_operands.specs.Reading.{asks_read, read_as};
 use crate::operands::integer_in_place;
 use rhai_context::ends::{put, put_number, put_truth, put_unit, settle, stop};
 use rhai_errors::error::EvalAltResult;
+use rhai_lookups::run::RunState;
 use rhai_state::scope::Scope;
 use rhai_state::session::Session;
-use rhai_state::state::GlobalRuntimeState;
 use rhai_steps::values::{char_value, constant_value, int_value, text_value};
 use rhai_steps::variables::{Variable, read_this, read_variable};
 use rhai_tree::expr::Expr;
@@ -31,7 +31,7 @@ use rhai_values::base::value::{Dynamic, Host};
 #[inline(never)]
 fn read_any<H: Host>(
     session: &Session<'_, H>,
-    global: &GlobalRuntimeState<H>,
+    global: &RunState<H>,
     scope: &Scope<H>,
     this: &Option<Dynamic<H>>,
     out: &mut Dynamic<H>,
@@ -104,7 +104,7 @@ fn read_any<H: Host>(
 #[inline(never)]
 pub fn read_expr<H: Host>(
     session: &Session<'_, H>,
-    global: &GlobalRuntimeState<H>,
+    global: &RunState<H>,
     scope: &Scope<H>,
     this: &Option<Dynamic<H>>,
     out: &mut Dynamic<H>,

@@ -1,5 +1,8 @@
 //! What runs scripts, as all that is proved beside the evaluator knows it.
 
+ghost use Rattle.rhai_lookups.specs.Levels.{CachesFit};
+ghost use Rattle.rhai_lookups.specs.Runs.{lists_of};
+
 use crate::entry::{Entry, Listener};
 use crate::outcome::Outcome;
 use crate::sample::Script;
@@ -41,5 +44,7 @@ pub trait Runner {
         table: &mut BenchTable,
         scope: &mut Scope<Pair>,
         tree: &CheckedTree,
-    ) -> Result<Result<Dynamic<Pair>, EvalAltResult<Pair>>, AllocError>;
+    ) -> Result<Result<Dynamic<Pair>, EvalAltResult<Pair>>, AllocError>
+        requires fit { CachesFit (lists_of global.old) caches.old }
+        ensures fit { CachesFit (lists_of global.new) caches.new };
 }

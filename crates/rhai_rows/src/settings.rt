@@ -1,11 +1,11 @@
 //! What is set for a run.
 
 ghost use Rattle.std.specs.Prelude.{◌≡◌};
-ghost use Rattle.rhai_state.specs.Caches.{depth_of, is_on};
+ghost use Rattle.rhai_lookups.specs.Levels.{CachesFit, depth_of, is_on};
 ghost use Rattle.rhai_rows.specs.Settings.{settings_of, usual, usual_limits, with_modules, with_odd_natives};
 
 use crate::start::Start;
-use rhai_state::caches::Caches;
+use rhai_lookups::caches::Caches;
 use rhai_state::limits::{Limits, operation_limit};
 use rhai_tables::host::Pair;
 use std::alloc::Global;
@@ -316,6 +316,7 @@ impl Way {
     pub fn caches(self, alloc: Global) -> Caches<Pair>
         ensures on { is_on result ≡ self.keeps_functions }
         ensures depth { depth_of result ≡ 0 }
+        ensures fit { (lists : _) → CachesFit lists result }
     {
         if self.keeps_functions {
             Caches::new(alloc)

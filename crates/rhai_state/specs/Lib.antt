@@ -1,4 +1,3 @@
-pub mod Caches
 pub mod Deciding
 pub mod Fitting
 pub mod Lends

@@ -1,7 +1,6 @@
-//! What an evaluation runs on: scopes, caches, the state of a run, and its limits.
+//! What an evaluation runs on: scopes, the state of a caller, and the limits of a run.
 #![tactic(auto)]
 
-pub mod caches;
 mod contents;
 mod fitting;
 pub mod limits;

@@ -6,7 +6,7 @@ use Rattle.std.specs.Result.{IsErr, IsErrAnd}
 use Rattle.rhai_tree.specs.declared.position.Position.{Position}
 use Rattle.rhai_values.specs.declared.base.value.Dynamic.{Dynamic}
 use Rattle.rhai_state.specs.declared.scope.Scope.{Scope}
-use Rattle.rhai_state.specs.declared.state.GlobalRuntimeState.{GlobalRuntimeState}
+use Rattle.rhai_lookups.specs.declared.run.RunState.{RunState}
 use Rattle.rhai_errors.specs.declared.error.EvalAltResult.{EvalAltResult}
 use Rattle.rhai_errors.specs.declared.error.EvalAltResult.TheVariants as error
 use Rattle.rhai_errors.specs.Errors.{is_out_of_memory}
@@ -55,7 +55,7 @@ module _ {S H : Type 0} (rules : Rules S H) where
       Leads (machine rules) (cut rules) (at (Fail x) k s) (at (Fail e) k s)
   faulted e x a k s = or_runs_out (Fail x) k s e (λ m. rw (a m) here)
 
-  module _ (t : S) (old new : GlobalRuntimeState H) (scope : Scope H) (held : Held H) (c d : Control H) (pos : Position)
+  module _ (t : S) (old new : RunState H) (scope : Scope H) (held : Held H) (c d : Control H) (pos : Position)
       (charges : (k : List (Frame H)) → move rules.setting (at {S = S} c k (state_of t old scope held)).core ≡ Charge pos
       (core d k (state_of t old scope held).local)) where
     -- a charge that is let through

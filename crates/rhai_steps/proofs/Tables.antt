@@ -3,7 +3,7 @@ use Rattle.std.proofs.Common.{◌≡◌, ℕ, zero, suc, Bool, true, List, [], �
 use Rattle.rhai_values.specs.declared.base.value.Dynamic.{Dynamic}
 use Rattle.rhai_values.specs.Copy.{copy_of}
 use Rattle.rhai_state.specs.declared.scope.Scope.{Scope}
-use Rattle.rhai_state.specs.declared.state.GlobalRuntimeState.{GlobalRuntimeState}
+use Rattle.rhai_lookups.specs.declared.run.RunState.{RunState}
 use Rattle.rhai_machine.specs.language.State.{Held}
 use Rattle.rhai_machine.specs.language.Statements.{constant_core, with_entry_at}
 use Rattle.rhai_steps.specs.States.{local_of}
@@ -14,7 +14,7 @@ set_again [] at x y is there = refl
 set_again (z ∷ zs) zero x y is there = let same : z ≡ x = cc in rw (is, same) refl
 set_again (z ∷ zs) (suc at) x y is there = ap (λ rest. z ∷ rest) (set_again zs at x y is there)
 
-module _ {H : Type 0} (old new : GlobalRuntimeState H) (scope : Scope H) (held : Held H) (name : List ℕ) (v : Dynamic H) where
+module _ {H : Type 0} (old new : RunState H) (scope : Scope H) (held : Held H) (name : List ℕ) (v : Dynamic H) where
   -- a constant is entered into the current table
   pub enters_table : {E : Type 0} (r : Result (Unit {0}) E) (enters : Bool) → enters ≡ true →
       OnOk r (new ≡ record old {

@@ -8,7 +8,7 @@ use Rattle.rhai_tree.specs.declared.expr.Expr.{Expr}
 use Rattle.rhai_tree.specs.declared.expr.Namespace.{Namespace}
 use Rattle.rhai_values.specs.declared.base.value.Import.{Import}
 use Rattle.rhai_state.specs.declared.scope.Scope.{Scope}
-use Rattle.rhai_state.specs.declared.state.GlobalRuntimeState.{GlobalRuntimeState}
+use Rattle.rhai_lookups.specs.declared.run.RunState.{RunState}
 use Rattle.rhai_state.specs.Scope.{names_in, in_use}
 use Rattle.rhai_state.specs.State.{import_name}
 
@@ -79,26 +79,26 @@ module _ {H : Type 0} where
   imports_in imports = map import_name imports
 
   -- what a checker knows of this state
-  abbrev pub sight_of : GlobalRuntimeState H → Sight
-  sight_of global = record { searched = global.always_search_scope; imports = imports_in global.imports }
+  abbrev pub sight_of : RunState H → Sight
+  sight_of global = record { searched = global.always_search_scope; imports = imports_in global.lists.1 }
 
   -- the frame of a state and a scope
-  abbrev pub frame_of : GlobalRuntimeState H → Scope H → Frame
+  abbrev pub frame_of : RunState H → Scope H → Frame
   frame_of global scope = framed (sight_of global) (names_in scope)
 
   -- a test agrees with the frame of a state and a scope
-  abbrev pub AgreesAt : GlobalRuntimeState H → Scope H → Test → Type 0
+  abbrev pub AgreesAt : RunState H → Scope H → Test → Type 0
   AgreesAt global scope test = Agrees (sight_of global) (names_in scope) test
 
   -- the index of a path is not in use, or it is that of the newest import of its root's name
-  abbrev pub RootStands : GlobalRuntimeState H → Namespace → Type 0
+  abbrev pub RootStands : RunState H → Namespace → Type 0
   RootStands global namespace =
-      IsTrue (is_good_root (in_use global.always_search_scope namespace.index) namespace.path (imports_in global.imports))
+      IsTrue (is_good_root (in_use global.always_search_scope namespace.index) namespace.path (imports_in global.lists.1))
 
   -- what neither imports nor searches leaves what a checker knows of the state
-  abbrev pub KeepsSight : (old new : GlobalRuntimeState H) → Type 0
+  abbrev pub KeepsSight : (old new : RunState H) → Type 0
   KeepsSight old new = sight_of new ≡ sight_of old
 
   -- what imports under a name adds that name to what a checker knows of the state
-  abbrev pub AddsImport : Name → (old new : GlobalRuntimeState H) → Type 0
-  AddsImport name old new = sight_of new ≡ record (sight_of old) { imports = imports_in old.imports ++ name ∷ [] }
+  abbrev pub AddsImport : Name → (old new : RunState H) → Type 0
+  AddsImport name old new = sight_of new ≡ record (sight_of old) { imports = imports_in old.lists.1 ++ name ∷ [] }

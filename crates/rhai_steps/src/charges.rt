@@ -5,6 +5,7 @@ ghost use Rattle.rhai_errors.specs.declared.error.EvalAltResult.TheVariants as e
 ghost use Rattle.rhai_steps.specs.Agreement.{KeepsSight};
 
 use rhai_errors::error::EvalAltResult;
+use rhai_lookups::run::RunState;
 use rhai_state::limits::Limits;
 use rhai_state::state::GlobalRuntimeState;
 use rhai_tree::position::Position;
@@ -14,7 +15,7 @@ use rhai_values::base::value::Host;
 /// stays.
 pub fn track_operation<H: Host>(
     limits: &Limits,
-    global: &mut GlobalRuntimeState<H>,
+    global: &mut RunState<H>,
     pos: Position,
 ) -> Result<(), EvalAltResult<H>>
     ensures room { OnOk result (global.old.num_operations < limits.now.max_operations) }
@@ -33,9 +34,31 @@ pub fn track_operation<H: Host>(
     Ok(())
 }
 
+/// Charges one operation of a caller's state, or refuses it where the count has reached the limit; the count
+/// then stays.
+pub fn charge_caller<H: Host>(
+    limits: &Limits,
+    global: &mut GlobalRuntimeState<H>,
+    pos: Position,
+) -> Result<(), EvalAltResult<H>>
+    ensures room { OnOk result (global.old.num_operations < limits.now.max_operations) }
+    ensures charged { OnOk result (global.new ≡ record global.old
+        { num_operations = global.old.num_operations + 1 }) }
+    ensures full { IfErr result (λ _. limits.now.max_operations ≤ global.old.num_operations) }
+    ensures refused { IfErr result (λ e. e ≡ error.ErrorTooManyOperations pos) }
+    ensures same { IfErr result (λ _. global.new ≡ global.old) }
+{
+    let is_spent = global.num_operations >= limits.max_operations;
+    if is_spent {
+        return Err(EvalAltResult::ErrorTooManyOperations(pos));
+    }
+    global.num_operations += 1;
+    Ok(())
+}
+
 /// Charges one operation. Where the count has reached the limit it charges none and answers false.
 #[inline(always)]
-pub fn charge_one<H: Host>(limits: &Limits, global: &mut GlobalRuntimeState<H>) -> bool
+pub fn charge_one<H: Host>(limits: &Limits, global: &mut RunState<H>) -> bool
     ensures room { result ≡ true → global.old.num_operations < limits.now.max_operations }
     ensures charged { result ≡ true → global.new ≡ record global.old
         { num_operations = global.old.num_operations + 1 } }
@@ -54,7 +77,7 @@ pub fn charge_one<H: Host>(limits: &Limits, global: &mut GlobalRuntimeState<H>) 
 /// Charges several operations at once where the limit has room for all of them. Else it charges none
 /// and answers false.
 #[inline(always)]
-pub fn charge_all<H: Host>(limits: &Limits, global: &mut GlobalRuntimeState<H>, count: u64) -> bool
+pub fn charge_all<H: Host>(limits: &Limits, global: &mut RunState<H>, count: u64) -> bool
     ensures room { result ≡ true →
         global.old.num_operations + count ≤ limits.now.max_operations }
     ensures charged { result ≡ true → global.new ≡ record global.old

@@ -13,7 +13,7 @@ ghost use Rattle.rhai_steps.specs.States.{local_of};
 use crate::values::copy;
 use bitflags::Flags;
 use rhai_errors::error::EvalAltResult;
-use rhai_state::state::GlobalRuntimeState;
+use rhai_lookups::run::RunState;
 use rhai_tree::flags::ASTFlags;
 use rhai_tree::position::Position;
 use rhai_tree::{Shared, Text};
@@ -41,19 +41,19 @@ fn any_has_some<H>(lib: &[Shared<Module<H>>]) -> bool
 
 /// Tells whether a variable with these options is entered. That is a constant at the top of a script that has
 /// a library.
-fn enters<H>(global: &GlobalRuntimeState<H>, options: ASTFlags, restoring: bool) -> bool
+fn enters<H>(global: &RunState<H>, options: ASTFlags, restoring: bool) -> bool
     ensures { (scope : _) (held : _) → result ≡ enters_in options restoring (local_of global.now scope held) }
 {
     options.contains(ASTFlags::CONSTANT)
         && !restoring
         && global.scope_level == 0
-        && any_has_some(global.lib.as_slice())
+        && any_has_some(global.lists.lib())
 }
 
 /// Copies a value into the current table of constants, under a name.
 fn add_constant<H: Host>(
     alloc: Global,
-    global: &mut GlobalRuntimeState<H>,
+    global: &mut RunState<H>,
     name: &Shared<Text>,
     value: &Dynamic<H>,
     pos: Position,
@@ -90,7 +90,7 @@ fn add_constant<H: Host>(
 /// `ErrorOutOfMemory` at the position alone, and then nothing is entered.
 pub fn enter_constant<H: Host>(
     alloc: Global,
-    global: &mut GlobalRuntimeState<H>,
+    global: &mut RunState<H>,
     name: &Shared<Text>,
     value: &Dynamic<H>,
     options: ASTFlags,

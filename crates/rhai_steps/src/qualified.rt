@@ -19,8 +19,8 @@ use crate::roots::root_of;
 use crate::values::copy;
 use rhai_errors::error::EvalAltResult;
 use rhai_functions::paths::{find_constant, find_down};
+use rhai_lookups::run::RunState;
 use rhai_state::session::Session;
-use rhai_state::state::GlobalRuntimeState;
 use rhai_tree::expr::Namespace;
 use rhai_tree::position::Position;
 use rhai_tree::{Shared, Text};
@@ -137,7 +137,7 @@ fn is_global(path: &[Shared<Text>]) -> bool
 }
 
 /// Finds the constant of a name in the table that is the state's own.
-fn find_own_constant<'g, H>(global: &'g GlobalRuntimeState<H>, name: &str) -> Option<&'g Dynamic<H>>
+fn find_own_constant<'g, H>(global: &'g RunState<H>, name: &str) -> Option<&'g Dynamic<H>>
     ensures { option_copied result ≡ value_of name.now (own_constants (surroundings_of global.now)) }
 {
     let at = global.constants;
@@ -159,11 +159,11 @@ fn find_own_constant<'g, H>(global: &'g GlobalRuntimeState<H>, name: &str) -> Op
 /// with the path and the name.
 pub fn search_path<H: Host>(
     session: &Session<'_, H>,
-    global: &GlobalRuntimeState<H>,
+    global: &RunState<H>,
     namespace: &Namespace,
     name: &str,
 ) -> Result<Dynamic<H>, EvalAltResult<H>>
-    requires { Fits (in_use global.now.always_search_scope namespace.now.index) (length global.now.imports) }
+    requires { Fits (in_use global.now.always_search_scope namespace.now.index) (length global.now.lists.1) }
     ensures { Answers result (path_searched (globals_in session.now.offered) (surroundings_of global.now)
         (in_use global.now.always_search_scope namespace.now.index) namespace.now.path name.now
         namespace.now.position) }
@@ -173,7 +173,13 @@ pub fn search_path<H: Host>(
     let [_root, rest @ ..] = path else {
         return Err(no_module(session.alloc, path, pos));
     };
-    match root_of(global, session.offered.global_sub_modules, namespace) {
+    let index = global.offset_in_use(namespace.index);
+    match root_of(
+        global.lists.imports(),
+        session.offered.global_sub_modules,
+        index,
+        path,
+    ) {
         Some(root) => {
             let found = match find_down(root, rest) {
                 Some(within) => find_constant(within, name),

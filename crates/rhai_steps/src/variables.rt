@@ -33,6 +33,8 @@ use rhai_errors::error::EvalAltResult;
 use rhai_errors::errors::{data_race_of, variable_exists, variable_not_found};
 use rhai_functions::named::arity_named;
 use rhai_functions::paths::find_global_constant;
+use rhai_lookups::lists::Mark;
+use rhai_lookups::run::RunState;
 use rhai_state::limits::Limits;
 use rhai_state::scope::Scope;
 use rhai_state::session::Session;
@@ -60,7 +62,7 @@ pub struct Variable<'a> {
 /// name; where none is given or variables are searched for, the newest of the name. Asked: the offset is at
 /// most the number of variables.
 pub fn index_of_variable<H: Host>(
-    global: &GlobalRuntimeState<H>,
+    global: &RunState<H>,
     scope: &Scope<H>,
     offset: Option<NonZeroUsize>,
     name: &Shared<Text>,
@@ -86,7 +88,7 @@ pub fn is_plain(namespace: &Namespace) -> bool
 /// for one that no entry has. Asked: the offset leads to the newest variable of the name.
 #[inline(always)]
 pub fn entry_of_variable<H: Host>(
-    global: &GlobalRuntimeState<H>,
+    global: &RunState<H>,
     scope: &Scope<H>,
     offset: Option<NonZeroUsize>,
     name: &Shared<Text>,
@@ -115,7 +117,7 @@ pub fn entry_of_variable<H: Host>(
 /// name.
 #[inline(always)]
 pub fn index_by_offset<H: Host>(
-    global: &GlobalRuntimeState<H>,
+    global: &RunState<H>,
     scope: &Scope<H>,
     offset: Option<NonZeroUsize>,
     name: &Shared<Text>,
@@ -205,7 +207,7 @@ pub fn read_global<H: Host>(
 /// `ErrorVariableNotFound` at the name where it stands by itself, and those of `search_path` at the path.
 pub fn read_beside<H: Host>(
     session: &Session<'_, H>,
-    global: &GlobalRuntimeState<H>,
+    global: &RunState<H>,
     name: &Shared<Text>,
     namespace: &Namespace,
     pos: Position,
@@ -215,7 +217,7 @@ pub fn read_beside<H: Host>(
         (variable_named name.now namespace.now pos)) }
 {
     if is_plain(namespace) {
-        return read_global(session, global.lib.as_slice(), name, pos);
+        return read_global(session, global.lists.lib(), name, pos);
     }
     search_path(session, global, namespace, name.get().as_str())
 }
@@ -225,7 +227,7 @@ pub fn read_beside<H: Host>(
 /// asks the same of the index of its path.
 pub fn read_variable<H: Host>(
     session: &Session<'_, H>,
-    global: &GlobalRuntimeState<H>,
+    global: &RunState<H>,
     scope: &Scope<H>,
     variable: &Variable<'_>,
 ) -> Result<Dynamic<H>, EvalAltResult<H>>
@@ -417,6 +419,7 @@ pub fn define_variable<H: Host>(
 /// What a restoring list takes back as it ends.
 #[derive(Clone, Copy)]
 pub struct Saved {
+    mark: Mark,
     scope_length: usize,
     imports_length: usize,
     scope_level: usize,
@@ -424,14 +427,15 @@ pub struct Saved {
 }
 
 /// Enters a restoring list, one level deeper.
-pub fn enter_list<H: Host>(global: &mut GlobalRuntimeState<H>, scope: &Scope<H>) -> Saved
+pub fn enter_list<H: Host>(global: &mut RunState<H>, scope: &Scope<H>) -> Saved
     ensures saved { saved_in result ≡ saved_now global.old scope.now }
     ensures search { result.always_search_scope ≡ global.old.always_search_scope }
     ensures deeper { global.new ≡ record global.old { scope_level = deeper global.old.scope_level } }
 {
     let saved = Saved {
+        mark: global.lists.begin_list(true),
         scope_length: scope.len(),
-        imports_length: global.imports.len(),
+        imports_length: global.lists.imports().len(),
         scope_level: global.scope_level,
         always_search_scope: global.always_search_scope,
     };
@@ -440,12 +444,27 @@ pub fn enter_list<H: Host>(global: &mut GlobalRuntimeState<H>, scope: &Scope<H>)
 }
 
 /// Leaves a restoring list, on every way out.
-pub fn leave_list<H: Host>(global: &mut GlobalRuntimeState<H>, scope: &mut Scope<H>, saved: Saved)
+pub fn leave_list<H: Host>(global: &mut RunState<H>, scope: &mut Scope<H>, saved: Saved)
     ensures scope { entries_of scope.new ≡ take saved.scope_length (entries_of scope.old) }
     ensures global { global.new ≡ left_global saved global.old }
 {
     scope.rewind(saved.scope_length);
-    global.truncate_imports(saved.imports_length);
+    global.lists.end(saved.mark);
+    global.lists.truncate_imports(saved.imports_length);
     global.scope_level = saved.scope_level;
     global.always_search_scope = saved.always_search_scope;
+}
+
+/// Begins a list that restores nothing.
+pub fn enter_plain_list<H: Host>(global: &mut RunState<H>) -> Mark
+    ensures { global.new ≡ global.old }
+{
+    global.lists.begin_list(false)
+}
+
+/// Ends a list that restores nothing, on every way out.
+pub fn leave_plain_list<H: Host>(global: &mut RunState<H>, mark: Mark)
+    ensures { global.new ≡ global.old }
+{
+    global.lists.end(mark);
 }

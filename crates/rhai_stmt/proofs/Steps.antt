@@ -12,7 +12,7 @@ use Rattle.rhai_values.specs.declared.base.value.Dynamic.{Dynamic}
 use Rattle.rhai_errors.specs.declared.error.EvalAltResult.{EvalAltResult}
 use Rattle.rhai_errors.specs.declared.error.EvalAltResult.TheVariants as error
 use Rattle.rhai_state.specs.declared.scope.Scope.{Scope}
-use Rattle.rhai_state.specs.declared.state.GlobalRuntimeState.{GlobalRuntimeState}
+use Rattle.rhai_lookups.specs.declared.run.RunState.{RunState}
 use Rattle.rhai_errors.specs.Errors.{is_out_of_memory}
 use Rattle.rhai_state.specs.Scope.{index_of, value_in}
 use Rattle.rhai_machine.specs.machine.Machine.{Go}
@@ -55,11 +55,11 @@ shared_agrees variables i variable sight names lt is h =
     (shared_at variables i variable frame lt good)) h)
 
 -- what becomes of a state of which a part writes its variables and cells alone
-pub left_so : {S H : Type 0} (t : S) (old new : GlobalRuntimeState H) (before behind : Scope H) (held : Held H) (m : Local H) →
+pub left_so : {S H : Type 0} (t : S) (old new : RunState H) (before behind : Scope H) (held : Held H) (m : Local H) →
     new ≡ record old { cells = new.cells } → local_of new behind held ≡ m →
     state_of t new behind held ≡ record (state_of t old before held) { local = m }
 left_so {H = H} t old new before behind held m rest is =
-    rw (is, ap (λ (global : GlobalRuntimeState H). global.num_operations) rest) refl
+    rw (is, ap (λ (global : RunState H). global.num_operations) rest) refl
 
 module _ {S H : Type 0} (rules : Rules S H) (k : List (Frame H)) where
   pub shares_none : (l : State S H) → Leads (machine rules) (cut rules) (at (Share []) k l) (at (Back unit_value) k l)

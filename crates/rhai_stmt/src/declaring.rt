@@ -19,9 +19,9 @@ ghost use Rattle.rhai_stmt.specs.Declares.{own_alias, Declares, Misses};
 
 use rhai_context::ends::{stop, take_value};
 use rhai_errors::error::EvalAltResult;
+use rhai_lookups::run::RunState;
 use rhai_state::limits::Limits;
 use rhai_state::scope::Scope;
-use rhai_state::state::GlobalRuntimeState;
 use rhai_steps::constants::enter_constant;
 use rhai_steps::variables::{
     define_variable, index_of_variable, is_exported, may_declare, mode_of,
@@ -107,7 +107,7 @@ fn add_own_alias<H: Host>(
 /// `ErrorOutOfMemory` at the position alone.
 fn publish<H: Host>(
     alloc: Global,
-    global: &mut GlobalRuntimeState<H>,
+    global: &mut RunState<H>,
     scope: &mut Scope<H>,
     at: usize,
     declaration: &Declaration<'_>,
@@ -156,7 +156,7 @@ fn publish<H: Host>(
 /// `ErrorOutOfMemory` at the position alone.
 fn add_variable<H: Host>(
     alloc: Global,
-    global: &mut GlobalRuntimeState<H>,
+    global: &mut RunState<H>,
     scope: &mut Scope<H>,
     value: Dynamic<H>,
     declaration: &Declaration<'_>,
@@ -196,7 +196,7 @@ fn add_variable<H: Host>(
 #[inline(never)]
 fn overwrite_none<H: Host>(
     alloc: Global,
-    global: &mut GlobalRuntimeState<H>,
+    global: &mut RunState<H>,
     value: &Dynamic<H>,
     declaration: &Declaration<'_>,
 ) -> Result<(), EvalAltResult<H>>
@@ -247,7 +247,7 @@ fn overwrite_none<H: Host>(
 /// it is to be exported.
 fn overwrite_variable<H: Host>(
     alloc: Global,
-    global: &mut GlobalRuntimeState<H>,
+    global: &mut RunState<H>,
     scope: &mut Scope<H>,
     mut value: Dynamic<H>,
     declaration: &Declaration<'_>,
@@ -290,7 +290,7 @@ fn overwrite_variable<H: Host>(
 /// another and to be exported, where no variable has it.
 pub fn declare<H: Host>(
     alloc: Global,
-    global: &mut GlobalRuntimeState<H>,
+    global: &mut RunState<H>,
     scope: &mut Scope<H>,
     out: &mut Dynamic<H>,
     place: &mut Option<EvalAltResult<H>>,

@@ -24,9 +24,9 @@ use rhai_context::ends::stop;
 use rhai_errors::error::EvalAltResult;
 use rhai_errors::errors::shared_text;
 use rhai_errors::table::NativeTable;
+use rhai_lookups::run::RunState;
 use rhai_state::scope::Scope;
 use rhai_state::session::Session;
-use rhai_state::state::GlobalRuntimeState;
 use rhai_steps::values::{flatten, is_bare_handle, let_go};
 use rhai_tree::position::Position;
 use rhai_values::base::value::{Dynamic, Host, Union};
@@ -77,7 +77,7 @@ fn integer_of(turn: u64) -> Option<i64>
 /// `write_variable`.
 fn count_turn<H: Host>(
     alloc: Global,
-    global: &mut GlobalRuntimeState<H>,
+    global: &mut RunState<H>,
     scope: &mut Scope<H>,
     place: &mut Option<EvalAltResult<H>>,
     parts: ForParts<'_>,
@@ -127,7 +127,7 @@ fn count_turn<H: Host>(
 #[inline(never)]
 fn enter_handle<H: Host>(
     alloc: Global,
-    global: &mut GlobalRuntimeState<H>,
+    global: &mut RunState<H>,
     scope: &mut Scope<H>,
     place: &mut Option<EvalAltResult<H>>,
     parts: ForParts<'_>,
@@ -173,7 +173,7 @@ fn enter_handle<H: Host>(
 /// `ErrorDataRace` where the item leads to a cell that is held, and those of `write_variable`.
 fn enter_item<H: Host>(
     alloc: Global,
-    global: &mut GlobalRuntimeState<H>,
+    global: &mut RunState<H>,
     scope: &mut Scope<H>,
     place: &mut Option<EvalAltResult<H>>,
     parts: ForParts<'_>,
@@ -219,7 +219,7 @@ fn enter_item<H: Host>(
 /// Those of `count_turn`, and then those of `enter_item`.
 pub fn enter_turn<H: Host, T: NativeTable<H>>(
     session: &Session<'_, H>,
-    global: &mut GlobalRuntimeState<H>,
+    global: &mut RunState<H>,
     table: &T,
     scope: &mut Scope<H>,
     place: &mut Option<EvalAltResult<H>>,

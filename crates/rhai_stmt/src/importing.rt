@@ -16,8 +16,8 @@ ghost use Rattle.rhai_stmt.specs.Imports.{Imports, importable};
 use rhai_call_forms::pointers::text_of;
 use rhai_context::ends::{stop, take_value};
 use rhai_errors::error::EvalAltResult;
+use rhai_lookups::run::RunState;
 use rhai_state::limits::Limits;
-use rhai_state::state::GlobalRuntimeState;
 use rhai_tree::expr::{Expr, Ident};
 use rhai_tree::position::Position;
 use rhai_tree::{Shared, Text};
@@ -30,7 +30,7 @@ use std::alloc::{AllocError, Global};
 /// `ErrorTooManyModules` at the position, where as many are loaded as may be.
 pub fn may_import<H: Host>(
     limits: &Limits,
-    global: &GlobalRuntimeState<H>,
+    global: &RunState<H>,
     place: &mut Option<EvalAltResult<H>>,
     pos: Position,
 ) -> bool
@@ -57,7 +57,7 @@ fn name_of(alloc: Global, alias: &Option<Ident>) -> Result<Shared<Text>, AllocEr
 /// nothing is changed.
 fn push_module<H: Host>(
     alloc: Global,
-    global: &mut GlobalRuntimeState<H>,
+    global: &mut RunState<H>,
     alias: &Option<Ident>,
     found: &Shared<Module<H>>,
 ) -> Result<(), AllocError>
@@ -69,7 +69,7 @@ fn push_module<H: Host>(
 {
     let name = name_of(alloc, alias)?;
     let module = found.share()?;
-    global.imports.push(Import { name, module })?;
+    global.lists.push_import(Import { name, module })?;
     global.num_modules_loaded = global.num_modules_loaded.saturating_add(1);
     Ok(())
 }
@@ -83,7 +83,7 @@ fn push_module<H: Host>(
 pub fn import_module<H: Host>(
     alloc: Global,
     modules: &ModuleTable<H>,
-    global: &mut GlobalRuntimeState<H>,
+    global: &mut RunState<H>,
     out: &mut Dynamic<H>,
     place: &mut Option<EvalAltResult<H>>,
     path: &Expr,

@@ -19,9 +19,9 @@ use rhai_context::ends::settle;
 use rhai_errors::error::EvalAltResult;
 use rhai_errors::errors::variable_not_found;
 use rhai_errors::table::NativeTable;
+use rhai_lookups::run::RunState;
 use rhai_state::scope::Scope;
 use rhai_state::session::Session;
-use rhai_state::state::GlobalRuntimeState;
 use rhai_steps::values::unit_value;
 use rhai_steps::variables::index_of_variable;
 use rhai_tree::expr::SharedVariable;
@@ -52,7 +52,7 @@ fn handle_of<H: Host>(id: CellId, mode: AccessMode) -> Dynamic<H>
 /// # Errors
 /// `ErrorOutOfMemory` at the position. Then nothing was changed.
 fn share_value<H: Host>(
-    global: &mut GlobalRuntimeState<H>,
+    global: &mut RunState<H>,
     scope: &mut Scope<H>,
     index: usize,
     pos: Position,
@@ -83,7 +83,7 @@ fn share_value<H: Host>(
 /// Shares variables, one after the other, each the newest of its name. The table is not called.
 fn share_each<H: Host, T: NativeTable<H>>(
     session: &Session<'_, H>,
-    global: &mut GlobalRuntimeState<H>,
+    global: &mut RunState<H>,
     table: &T,
     scope: &mut Scope<H>,
     variables: &[SharedVariable],
@@ -115,7 +115,7 @@ fn share_each<H: Host, T: NativeTable<H>>(
 #[inline(never)]
 pub fn share_variables<H: Host, T: NativeTable<H>>(
     session: &Session<'_, H>,
-    global: &mut GlobalRuntimeState<H>,
+    global: &mut RunState<H>,
     table: &T,
     scope: &mut Scope<H>,
     out: &mut Dynamic<H>,

@@ -165,7 +165,9 @@ impl<T: Drop> Items<T> {
     pub fn truncate(&mut self, count: usize)
         ensures { self.new ≡ take count self.old }
     {
-        self.items.truncate(count);
+        if count < self.items.len() {
+            self.items.truncate(count);
+        }
     }
 
     /// Replaces the item at an index by another.

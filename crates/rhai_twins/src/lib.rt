@@ -6,7 +6,6 @@
 
 pub mod bits;
 pub mod boxed;
-pub mod caches;
 pub mod cells;
 pub mod check;
 pub mod errors;

@@ -3,7 +3,7 @@ use Rattle.std.proofs.Common.{◌≡◌, Bool, ap, ◌∙◌}
 use Rattle.rhai_state.specs.declared.scope.Scope.{Scope}
 use Rattle.rhai_state.specs.declared.state.GlobalRuntimeState.{GlobalRuntimeState}
 use Rattle.rhai_machine.specs.language.State.{Held, State}
-use Rattle.rhai_steps.specs.States.{state_of}
+use Rattle.rhai_steps.specs.Callers.{state_of}
 
 module _ {S H : Type 0} where
   -- states made of the same are one

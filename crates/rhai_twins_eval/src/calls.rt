@@ -3,17 +3,20 @@
 ghost use Rattle.std.specs.Prelude.{◌≡◌, Some};
 ghost use Rattle.rhai_values.specs.Cells.{IsNoHandle};
 ghost use Rattle.rhai_spots.specs.Targets.{shown};
+ghost use Rattle.rhai_lookups.specs.Levels.{CachesFit, is_on};
+ghost use Rattle.rhai_lookups.specs.Runs.{lists_of};
 ghost use Rattle.rhai_machine.specs.language.State.{HasMemory};
 ghost use Rattle.rhai_calls.specs.Targets.{value_walked_on};
 ghost use Rattle.rhai_eval.specs.Places.{with_place};
-ghost use Rattle.rhai_steps.specs.States.{holding, state_of};
+ghost use Rattle.rhai_steps.specs.Callers.{state_of};
+ghost use Rattle.rhai_steps.specs.States.{holding};
 ghost use Rattle.rhai_twins_eval.specs.Same.{Same};
 
 use rhai_errors::error::EvalAltResult;
 use rhai_errors::table::NativeTable;
 use rhai_eval::engine::Engine;
+use rhai_lookups::caches::Caches;
 use rhai_places::target::Target;
-use rhai_state::caches::Caches;
 use rhai_state::scope::Scope;
 use rhai_state::state::GlobalRuntimeState;
 use rhai_tree::expr::{Expr, OpAssignment};
@@ -205,7 +208,8 @@ pub fn make_method_call<H: Host, T: NativeTable<H>>(
     Result<(Dynamic<H>, bool), EvalAltResult<H>>,
 )
     requires global { global.old ≡ also_global.old }
-    requires caches { caches.old ≡ also_caches.old }
+    requires fit { CachesFit (lists_of global.old) caches.old }
+    requires also_fit { CachesFit (lists_of also_global.old) also_caches.old }
     requires table { T.state table.old ≡ T.state also_table.old }
     requires place { target.old.at.now ≡ also_target.old.at.now }
     requires part { target.old.part ≡ also_target.old.part }
@@ -218,7 +222,7 @@ pub fn make_method_call<H: Host, T: NativeTable<H>>(
     ensures shown { HasMemory result.0 → HasMemory result.1 → shown target.new.part target.new.at.now
         ≡ shown also_target.new.part also_target.new.at.now }
     ensures call_args { call_args.new ≡ also_call_args.new }
-    ensures caches { caches.new ≡ also_caches.new }
+    ensures on { is_on caches.old ≡ is_on also_caches.old → is_on caches.new ≡ is_on also_caches.new }
     ensures search { global.new.always_search_scope ≡ also_global.new.always_search_scope }
 {
     (
@@ -322,7 +326,8 @@ pub fn exec_fn_call<H: Host, T: NativeTable<H>>(
     Result<(Dynamic<H>, bool), EvalAltResult<H>>,
 )
     requires global { global.old ≡ also_global.old }
-    requires caches { caches.old ≡ also_caches.old }
+    requires fit { CachesFit (lists_of global.old) caches.old }
+    requires also_fit { CachesFit (lists_of also_global.old) also_caches.old }
     requires table { T.state table.old ≡ T.state also_table.old }
     requires scope { scope.old ≡ also_scope.old }
     requires first { first.old ≡ also_first.old }
@@ -332,7 +337,7 @@ pub fn exec_fn_call<H: Host, T: NativeTable<H>>(
         (state_of (T.state also_table.new) also_global.new also_scope.new
         (with_place this (Some also_first.new))) }
     ensures rest { rest.new ≡ also_rest.new }
-    ensures caches { caches.new ≡ also_caches.new }
+    ensures on { is_on caches.old ≡ is_on also_caches.old → is_on caches.new ≡ is_on also_caches.new }
     ensures search { global.new.always_search_scope ≡ also_global.new.always_search_scope }
 {
     (
@@ -392,7 +397,8 @@ pub fn exec_fn_call_by_value<H: Host, T: NativeTable<H>>(
     Result<(Dynamic<H>, bool), EvalAltResult<H>>,
 )
     requires global { global.old ≡ also_global.old }
-    requires caches { caches.old ≡ also_caches.old }
+    requires fit { CachesFit (lists_of global.old) caches.old }
+    requires also_fit { CachesFit (lists_of also_global.old) also_caches.old }
     requires table { T.state table.old ≡ T.state also_table.old }
     requires scope { scope.old ≡ also_scope.old }
     requires first { first.old ≡ also_first.old }
@@ -402,7 +408,7 @@ pub fn exec_fn_call_by_value<H: Host, T: NativeTable<H>>(
         (state_of (T.state also_table.new) also_global.new also_scope.new (held)) }
     ensures first { first.new ≡ also_first.new }
     ensures rest { rest.new ≡ also_rest.new }
-    ensures caches { caches.new ≡ also_caches.new }
+    ensures on { is_on caches.old ≡ is_on also_caches.old → is_on caches.new ≡ is_on also_caches.new }
     ensures search { global.new.always_search_scope ≡ also_global.new.always_search_scope }
 {
     (

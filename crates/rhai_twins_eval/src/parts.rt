@@ -6,17 +6,20 @@ ghost use Rattle.rhai_tree.specs.declared.expr.Expr.{out-Expr};
 ghost use Rattle.rhai_tree.specs.Forms.{is_unqualified};
 ghost use Rattle.rhai_tree.specs.Frame.{all_resolve, all_resolve_exprs, resolves_call, resolves_expr};
 ghost use Rattle.rhai_tree.specs.Frame.{resolves_stmt, tests_of};
+ghost use Rattle.rhai_lookups.specs.Levels.{CachesFit, is_on};
+ghost use Rattle.rhai_lookups.specs.Runs.{lists_of};
 ghost use Rattle.rhai_machine.specs.language.Links.{first_in};
 ghost use Rattle.rhai_call_forms.specs.Leading.{all_args};
 ghost use Rattle.rhai_eval.specs.Chains.{AssignsNoHandle, chain_resolves};
-ghost use Rattle.rhai_steps.specs.Agreement.{AgreesAt, call_leads, passes};
-ghost use Rattle.rhai_steps.specs.States.{holding, state_of};
+ghost use Rattle.rhai_steps.specs.Callers.{AgreesAt, state_of};
+ghost use Rattle.rhai_steps.specs.Agreement.{call_leads, passes};
+ghost use Rattle.rhai_steps.specs.States.{holding};
 ghost use Rattle.rhai_twins_eval.specs.Same.{Same};
 
 use rhai_errors::error::EvalAltResult;
 use rhai_errors::table::NativeTable;
 use rhai_eval::engine::Engine;
-use rhai_state::caches::Caches;
+use rhai_lookups::caches::Caches;
 use rhai_state::scope::Scope;
 use rhai_state::state::GlobalRuntimeState;
 use rhai_tree::expr::{Expr, FnCallExpr, Namespace, OpAssignment, Stmt};
@@ -45,7 +48,8 @@ pub fn eval_expr<H: Host, T: NativeTable<H>>(
     Result<Dynamic<H>, EvalAltResult<H>>,
 )
     requires global { global.old ≡ also_global.old }
-    requires caches { caches.old ≡ also_caches.old }
+    requires fit { CachesFit (lists_of global.old) caches.old }
+    requires also_fit { CachesFit (lists_of also_global.old) also_caches.old }
     requires table { T.state table.old ≡ T.state also_table.old }
     requires scope { scope.old ≡ also_scope.old }
     requires this { this.old ≡ also_this.old }
@@ -53,7 +57,7 @@ pub fn eval_expr<H: Host, T: NativeTable<H>>(
     ensures run { Same result.0 result.1
         (state_of (T.state table.new) global.new scope.new (holding (Some this.new)))
         (state_of (T.state also_table.new) also_global.new also_scope.new (holding (Some also_this.new))) }
-    ensures caches { caches.new ≡ also_caches.new }
+    ensures on { is_on caches.old ≡ is_on also_caches.old → is_on caches.new ≡ is_on also_caches.new }
     ensures search { global.new.always_search_scope ≡ also_global.new.always_search_scope }
 {
     (
@@ -91,7 +95,8 @@ pub fn eval_stmt<H: Host, T: NativeTable<H>>(
     Result<Dynamic<H>, EvalAltResult<H>>,
 )
     requires global { global.old ≡ also_global.old }
-    requires caches { caches.old ≡ also_caches.old }
+    requires fit { CachesFit (lists_of global.old) caches.old }
+    requires also_fit { CachesFit (lists_of also_global.old) also_caches.old }
     requires table { T.state table.old ≡ T.state also_table.old }
     requires scope { scope.old ≡ also_scope.old }
     requires this { this.old ≡ also_this.old }
@@ -99,7 +104,7 @@ pub fn eval_stmt<H: Host, T: NativeTable<H>>(
     ensures run { Same result.0 result.1
         (state_of (T.state table.new) global.new scope.new (holding (Some this.new)))
         (state_of (T.state also_table.new) also_global.new also_scope.new (holding (Some also_this.new))) }
-    ensures caches { caches.new ≡ also_caches.new }
+    ensures on { is_on caches.old ≡ is_on also_caches.old → is_on caches.new ≡ is_on also_caches.new }
     ensures search { global.new.always_search_scope ≡ also_global.new.always_search_scope }
 {
     (
@@ -147,7 +152,8 @@ pub fn eval_stmt_block<H: Host, T: NativeTable<H>>(
     Result<Dynamic<H>, EvalAltResult<H>>,
 )
     requires global { global.old ≡ also_global.old }
-    requires caches { caches.old ≡ also_caches.old }
+    requires fit { CachesFit (lists_of global.old) caches.old }
+    requires also_fit { CachesFit (lists_of also_global.old) also_caches.old }
     requires table { T.state table.old ≡ T.state also_table.old }
     requires scope { scope.old ≡ also_scope.old }
     requires this { this.old ≡ also_this.old }
@@ -156,7 +162,7 @@ pub fn eval_stmt_block<H: Host, T: NativeTable<H>>(
     ensures run { Same result.0 result.1
         (state_of (T.state table.new) global.new scope.new (holding (Some this.new)))
         (state_of (T.state also_table.new) also_global.new also_scope.new (holding (Some also_this.new))) }
-    ensures caches { caches.new ≡ also_caches.new }
+    ensures on { is_on caches.old ≡ is_on also_caches.old → is_on caches.new ≡ is_on also_caches.new }
     ensures search { global.new.always_search_scope ≡ also_global.new.always_search_scope }
 {
     (
@@ -204,7 +210,8 @@ pub fn eval_fn_call_expr<H: Host, T: NativeTable<H>>(
     Result<Dynamic<H>, EvalAltResult<H>>,
 )
     requires global { global.old ≡ also_global.old }
-    requires caches { caches.old ≡ also_caches.old }
+    requires fit { CachesFit (lists_of global.old) caches.old }
+    requires also_fit { CachesFit (lists_of also_global.old) also_caches.old }
     requires table { T.state table.old ≡ T.state also_table.old }
     requires scope { scope.old ≡ also_scope.old }
     requires this { this.old ≡ also_this.old }
@@ -212,7 +219,7 @@ pub fn eval_fn_call_expr<H: Host, T: NativeTable<H>>(
     ensures run { Same result.0 result.1
         (state_of (T.state table.new) global.new scope.new (holding (Some this.new)))
         (state_of (T.state also_table.new) also_global.new also_scope.new (holding (Some also_this.new))) }
-    ensures caches { caches.new ≡ also_caches.new }
+    ensures on { is_on caches.old ≡ is_on also_caches.old → is_on caches.new ≡ is_on also_caches.new }
     ensures search { global.new.always_search_scope ≡ also_global.new.always_search_scope }
 {
     (
@@ -250,7 +257,8 @@ pub fn get_arg_value<H: Host, T: NativeTable<H>>(
     Result<(Dynamic<H>, Position), EvalAltResult<H>>,
 )
     requires global { global.old ≡ also_global.old }
-    requires caches { caches.old ≡ also_caches.old }
+    requires fit { CachesFit (lists_of global.old) caches.old }
+    requires also_fit { CachesFit (lists_of also_global.old) also_caches.old }
     requires table { T.state table.old ≡ T.state also_table.old }
     requires scope { scope.old ≡ also_scope.old }
     requires this { this.old ≡ also_this.old }
@@ -258,7 +266,7 @@ pub fn get_arg_value<H: Host, T: NativeTable<H>>(
     ensures run { Same result.0 result.1
         (state_of (T.state table.new) global.new scope.new (holding (Some this.new)))
         (state_of (T.state also_table.new) also_global.new also_scope.new (holding (Some also_this.new))) }
-    ensures caches { caches.new ≡ also_caches.new }
+    ensures on { is_on caches.old ≡ is_on also_caches.old → is_on caches.new ≡ is_on also_caches.new }
     ensures search { global.new.always_search_scope ≡ also_global.new.always_search_scope }
 {
     (
@@ -300,7 +308,8 @@ pub fn make_function_call<H: Host, T: NativeTable<H>>(
     Result<Dynamic<H>, EvalAltResult<H>>,
 )
     requires global { global.old ≡ also_global.old }
-    requires caches { caches.old ≡ also_caches.old }
+    requires fit { CachesFit (lists_of global.old) caches.old }
+    requires also_fit { CachesFit (lists_of also_global.old) also_caches.old }
     requires table { T.state table.old ≡ T.state also_table.old }
     requires scope { scope.old ≡ also_scope.old }
     requires this { this.old ≡ also_this.old }
@@ -309,7 +318,7 @@ pub fn make_function_call<H: Host, T: NativeTable<H>>(
     ensures run { Same result.0 result.1
         (state_of (T.state table.new) global.new scope.new (holding (Some this.new)))
         (state_of (T.state also_table.new) also_global.new also_scope.new (holding (Some also_this.new))) }
-    ensures caches { caches.new ≡ also_caches.new }
+    ensures on { is_on caches.old ≡ is_on also_caches.old → is_on caches.new ≡ is_on also_caches.new }
     ensures search { global.new.always_search_scope ≡ also_global.new.always_search_scope }
 {
     (
@@ -367,7 +376,8 @@ pub fn make_qualified_function_call<H: Host, T: NativeTable<H>>(
     Result<Dynamic<H>, EvalAltResult<H>>,
 )
     requires global { global.old ≡ also_global.old }
-    requires caches { caches.old ≡ also_caches.old }
+    requires fit { CachesFit (lists_of global.old) caches.old }
+    requires also_fit { CachesFit (lists_of also_global.old) also_caches.old }
     requires table { T.state table.old ≡ T.state also_table.old }
     requires scope { scope.old ≡ also_scope.old }
     requires this { this.old ≡ also_this.old }
@@ -376,7 +386,7 @@ pub fn make_qualified_function_call<H: Host, T: NativeTable<H>>(
     ensures run { Same result.0 result.1
         (state_of (T.state table.new) global.new scope.new (holding (Some this.new)))
         (state_of (T.state also_table.new) also_global.new also_scope.new (holding (Some also_this.new))) }
-    ensures caches { caches.new ≡ also_caches.new }
+    ensures on { is_on caches.old ≡ is_on also_caches.old → is_on caches.new ≡ is_on also_caches.new }
     ensures search { global.new.always_search_scope ≡ also_global.new.always_search_scope }
 {
     (
@@ -429,7 +439,8 @@ pub fn eval_dot_index_chain<'a, H: Host, T: NativeTable<H>>(
     Result<Dynamic<H>, EvalAltResult<H>>,
 )
     requires global { global.old ≡ also_global.old }
-    requires caches { caches.old ≡ also_caches.old }
+    requires fit { CachesFit (lists_of global.old) caches.old }
+    requires also_fit { CachesFit (lists_of also_global.old) also_caches.old }
     requires table { T.state table.old ≡ T.state also_table.old }
     requires scope { scope.old ≡ also_scope.old }
     requires this { this.old ≡ also_this.old }
@@ -440,7 +451,7 @@ pub fn eval_dot_index_chain<'a, H: Host, T: NativeTable<H>>(
     ensures run { Same result.0 result.1
         (state_of (T.state table.new) global.new scope.new (holding (Some this.new)))
         (state_of (T.state also_table.new) also_global.new also_scope.new (holding (Some also_this.new))) }
-    ensures caches { caches.new ≡ also_caches.new }
+    ensures on { is_on caches.old ≡ is_on also_caches.old → is_on caches.new ≡ is_on also_caches.new }
     ensures search { global.new.always_search_scope ≡ also_global.new.always_search_scope }
 {
     (

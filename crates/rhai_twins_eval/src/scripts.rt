@@ -1,15 +1,18 @@
 //! Whole scripts and functions of scripts.
 
 ghost use Rattle.std.specs.Prelude.{◌≡◌, None, Some};
+ghost use Rattle.rhai_lookups.specs.Levels.{CachesFit, is_on};
+ghost use Rattle.rhai_lookups.specs.Runs.{lists_of};
 ghost use Rattle.rhai_twins_eval.specs.Same.{SameEnd};
-ghost use Rattle.rhai_steps.specs.States.{holding, state_of};
+ghost use Rattle.rhai_steps.specs.Callers.{state_of};
+ghost use Rattle.rhai_steps.specs.States.{holding};
 ghost use Rattle.rhai_twins_eval.specs.Same.{Same};
 
 use rhai_errors::error::EvalAltResult;
 use rhai_errors::table::NativeTable;
 use rhai_eval::engine::Engine;
 use rhai_functions::key::FnKey;
-use rhai_state::caches::Caches;
+use rhai_lookups::caches::Caches;
 use rhai_state::scope::Scope;
 use rhai_state::state::GlobalRuntimeState;
 use rhai_tree::checked::{CheckedFn, CheckedTree};
@@ -36,13 +39,14 @@ pub fn eval_global_statements<H: Host, T: NativeTable<H>>(
     Result<Dynamic<H>, EvalAltResult<H>>,
 )
     requires global { global.old ≡ also_global.old }
-    requires caches { caches.old ≡ also_caches.old }
+    requires fit { CachesFit (lists_of global.old) caches.old }
+    requires also_fit { CachesFit (lists_of also_global.old) also_caches.old }
     requires table { T.state table.old ≡ T.state also_table.old }
     requires scope { scope.old ≡ also_scope.old }
     ensures run { Same result.0 result.1
         (state_of (T.state table.new) global.new scope.new (holding None))
         (state_of (T.state also_table.new) also_global.new also_scope.new (holding None)) }
-    ensures caches { caches.new ≡ also_caches.new }
+    ensures on { is_on caches.old ≡ is_on also_caches.old → is_on caches.new ≡ is_on also_caches.new }
     ensures search { global.new.always_search_scope ≡ also_global.new.always_search_scope }
     ensures global { SameEnd result.0 result.1 global.new also_global.new }
     ensures scope { SameEnd result.0 result.1 scope.new also_scope.new }
@@ -96,7 +100,8 @@ pub fn call_script_fn<H: Host, T: NativeTable<H>>(
     Result<Dynamic<H>, EvalAltResult<H>>,
 )
     requires global { global.old ≡ also_global.old }
-    requires caches { caches.old ≡ also_caches.old }
+    requires fit { CachesFit (lists_of global.old) caches.old }
+    requires also_fit { CachesFit (lists_of also_global.old) also_caches.old }
     requires table { T.state table.old ≡ T.state also_table.old }
     requires scope { scope.old ≡ also_scope.old }
     requires this { this.old ≡ also_this.old }
@@ -105,7 +110,7 @@ pub fn call_script_fn<H: Host, T: NativeTable<H>>(
         (state_of (T.state table.new) global.new scope.new (holding (Some this.new)))
         (state_of (T.state also_table.new) also_global.new also_scope.new (holding (Some also_this.new))) }
     ensures args { SameEnd result.0 result.1 args.new also_args.new }
-    ensures caches { caches.new ≡ also_caches.new }
+    ensures on { is_on caches.old ≡ is_on also_caches.old → is_on caches.new ≡ is_on also_caches.new }
     ensures search { global.new.always_search_scope ≡ also_global.new.always_search_scope }
 {
     (
@@ -146,9 +151,10 @@ pub fn has_script_fn<H: Host>(
     also_caches: &mut Caches<H>,
     key: FnKey<'_>,
 ) -> (bool, bool)
-    requires { caches.old ≡ also_caches.old }
+    requires fit { CachesFit (lists_of state.now) caches.old }
+    requires also_fit { CachesFit (lists_of state.now) also_caches.old }
     ensures result { result.0 ≡ result.1 }
-    ensures caches { caches.new ≡ also_caches.new }
+    ensures on { is_on caches.old ≡ is_on also_caches.old → is_on caches.new ≡ is_on also_caches.new }
 {
     (
         engine.has_script_fn(state, caches, key),

@@ -120,6 +120,15 @@ pub fn truncate_imports<H: Drop>(one: &mut Lists<H>, other: &mut Lists<H>, impor
     other.truncate_imports(imports);
 }
 
+/// Shows that `Lists::begin` leaves equal lists equal.
+pub fn begin<H: Drop>(one: &mut Lists<H>, other: &mut Lists<H>)
+    requires { one.old ≡ other.old }
+    ensures { one.new ≡ other.new }
+{
+    one.begin();
+    other.begin();
+}
+
 /// Shows that `Lists::begin_list` leaves equal lists equal.
 pub fn begin_list<H: Drop>(one: &mut Lists<H>, other: &mut Lists<H>, restores: bool) -> (Mark, Mark)
     requires { one.old ≡ other.old }

@@ -5,7 +5,8 @@ ghost use Rattle.rhai_tree.specs.declared.expr.Expr.{out-Expr};
 ghost use Rattle.rhai_tree.specs.declared.expr.Stmt.{out-Stmt};
 ghost use Rattle.rhai_tree.specs.Frame.{all_resolve, resolves_stmt};
 ghost use Rattle.rhai_laws.specs.Kept.{is_import};
-ghost use Rattle.rhai_steps.specs.Agreement.{AgreesAt, Leads, changes, frame_of, passes, sight_of};
+ghost use Rattle.rhai_steps.specs.Callers.{AgreesAt, frame_of, sight_of};
+ghost use Rattle.rhai_steps.specs.Agreement.{Leads, changes, passes};
 ghost use Rattle.rhai_state.specs.Scope.{in_use, names_in, Fits};
 ghost use Rattle.rhai_values.specs.Cells.{IsNoHandle};
 ghost use Rattle.rhai_steps.specs.Offsets.{index_in, offset_in};
@@ -186,6 +187,7 @@ impl Host {
             (changes (resolves_stmt stmt.now) (frame_of self.old.global self.old.scope))
             (sight_of self.new.global) (names_in self.new.scope)) }
     {
+        self.caches.clear();
         self.engine.eval_stmt(
             alloc,
             &mut self.global,
@@ -203,6 +205,7 @@ impl Host {
         requires { AgreesAt self.old.global self.old.scope
             (passes (all_resolve (map resolves_stmt statements.now))) }
     {
+        self.caches.clear();
         self.engine.eval_stmt_block(
             alloc,
             &mut self.global,

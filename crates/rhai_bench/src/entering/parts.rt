@@ -4,7 +4,8 @@ ghost use Rattle.std.specs.Prelude.{◌≡◌, is_some};
 ghost use Rattle.rhai_tree.specs.declared.expr.Expr.{out-Expr};
 ghost use Rattle.rhai_tree.specs.Frame.{resolves_call, resolves_expr, resolves_stmt, target_resolves, tests_of};
 ghost use Rattle.rhai_machine.specs.language.Links.{first_in};
-ghost use Rattle.rhai_steps.specs.Agreement.{AgreesAt, passes};
+ghost use Rattle.rhai_steps.specs.Callers.{AgreesAt};
+ghost use Rattle.rhai_steps.specs.Agreement.{passes};
 ghost use Rattle.rhai_values.specs.Cells.{IsNoHandle};
 ghost use Rattle.rhai_eval.specs.Chains.{AssignsNoHandle, chain_resolves};
 
@@ -55,6 +56,7 @@ fn literal(expr: &Expr) -> Dynamic<Pair>
 fn eval(host: &mut Host, alloc: Global, expr: &Expr) -> Answer
     requires { AgreesAt host.old.global host.old.scope (resolves_expr expr.now) }
 {
+    host.caches.clear();
     host.engine.eval_expr(
         alloc,
         &mut host.global,
@@ -70,6 +72,7 @@ fn eval(host: &mut Host, alloc: Global, expr: &Expr) -> Answer
 fn eval_argument(host: &mut Host, alloc: Global, expr: &Expr) -> Answer
     requires { AgreesAt host.old.global host.old.scope (resolves_expr expr.now) }
 {
+    host.caches.clear();
     let argument = host.engine.get_arg_value(
         alloc,
         &mut host.global,
@@ -133,6 +136,7 @@ fn enter_call(
 ) -> Answer
     requires { AgreesAt host.old.global host.old.scope (resolves_call call.now pos) }
 {
+    host.caches.clear();
     match entry {
         Entry::FnCallExpr => host.engine.eval_fn_call_expr(
             alloc,
@@ -215,6 +219,7 @@ fn enter_chain<L: Listener>(
         drop(new);
         return no_part();
     }
+    host.caches.clear();
     listener.enters(alloc);
     let answer = host.engine.eval_dot_index_chain(
         alloc,

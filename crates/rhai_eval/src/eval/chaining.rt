@@ -5,9 +5,11 @@ ghost use Rattle.std.specs.Prelude.{◌≡◌, IfSome, OnOk, is_some, true};
 ghost use Rattle.rhai_tree.specs.declared.expr.Expr.{out-Expr};
 ghost use Rattle.rhai_errors.specs.Native.{left_by, lent_value};
 ghost use Rattle.rhai_state.specs.Scope.{names_in};
+ghost use Rattle.rhai_lookups.specs.Levels.{CachesFit, CachesLeft};
+ghost use Rattle.rhai_lookups.specs.Runs.{lists_of};
 ghost use Rattle.rhai_machine.specs.language.Links.{first_in};
-ghost use Rattle.rhai_steps.specs.Agreement.{AgreesAt};
-ghost use Rattle.rhai_steps.specs.States.{holding, state_of};
+ghost use Rattle.rhai_steps.specs.Callers.{AgreesAt, state_of};
+ghost use Rattle.rhai_steps.specs.States.{holding};
 ghost use Rattle.rhai_laws.specs.Kept.{Kept};
 ghost use Rattle.rhai_chains.specs.Chains.{new_of};
 ghost use Rattle.rhai_eval.specs.Chains.{assigned_in, chain_type, whole_chain};
@@ -23,7 +25,7 @@ use rhai_context::ends::finish;
 use rhai_context::{give_back, take};
 use rhai_errors::error::EvalAltResult;
 use rhai_errors::table::NativeTable;
-use rhai_state::caches::Caches;
+use rhai_lookups::caches::Caches;
 use rhai_state::scope::Scope;
 use rhai_state::state::GlobalRuntimeState;
 use rhai_tree::expr::{Expr, OpAssignment};
@@ -90,13 +92,14 @@ impl<H: Host> Engine<H> {
         &self,
         alloc: Global,
         global: &mut GlobalRuntimeState<H>,
-        _caches: &mut Caches<H>,
+        caches: &mut Caches<H>,
         table: &mut T,
         scope: &mut Scope<H>,
         this: Option<&mut Dynamic<H>>,
         expr: &Expr,
         new_val: Option<(Dynamic<H>, &OpAssignment)>,
     ) -> Result<Dynamic<H>, EvalAltResult<H>>
+        requires fit { CachesFit (lists_of global.old) caches.old }
         requires chain { is_some (first_in (out-Expr expr.now)) ≡ true }
         requires resolves { AgreesAt global.old scope.old (chain_resolves (is_some new_val) expr.now) }
         requires value { AssignsNoHandle new_val }
@@ -112,7 +115,7 @@ impl<H: Host> Engine<H> {
             (state_of (T.state table.old) global.old scope.old (holding (lent_value this.entry)))
             (state_of (T.state table.new) global.new scope.new (holding (left_by this.exit))))) }
         ensures names { names_in scope.new ≡ names_in scope.old }
-        ensures caches { _caches.new ≡ _caches.old }
+        ensures caches { CachesLeft (lists_of global.new) caches.old caches.new }
         ensures search { global.new.always_search_scope ≡ global.old.always_search_scope }
     {
         let Some(root) = first_of(expr) else {
@@ -122,17 +125,17 @@ impl<H: Host> Engine<H> {
         let evaluator = self.evaluator(alloc);
         match this {
             Some(place) => {
-                let mut run = take_with_this(alloc, global, scope, place);
+                let mut run = take_with_this(alloc, global, caches, scope, place);
                 let done = evaluator.run_chain(&mut run, table, root, expr, new);
                 let result = finish(done, &mut run.value, &mut run.error);
-                give_back_with_this(run, global, scope, place);
+                give_back_with_this(run, global, caches, scope, place);
                 result
             }
             None => {
-                let mut run = take(alloc, global, scope);
+                let mut run = take(alloc, global, caches, scope);
                 let done = evaluator.run_chain(&mut run, table, root, expr, new);
                 let result = finish(done, &mut run.value, &mut run.error);
-                give_back(run, global, scope);
+                give_back(run, global, caches, scope);
                 result
             }
         }

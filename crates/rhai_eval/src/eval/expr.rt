@@ -7,12 +7,14 @@ ghost use Rattle.rhai_errors.specs.Errors.{is_out_of_memory};
 ghost use Rattle.rhai_errors.specs.Native.{left_by, lent_value};
 ghost use Rattle.std.specs.Option.{option_copied};
 ghost use Rattle.rhai_state.specs.Scope.{entries_of, in_use, names_in, Fits};
+ghost use Rattle.rhai_lookups.specs.Levels.{CachesFit, CachesLeft};
+ghost use Rattle.rhai_lookups.specs.Runs.{lists_of};
 ghost use Rattle.rhai_machine.specs.language.Frames.{Eval};
 ghost use Rattle.rhai_machine.specs.language.Setting.{globals_of};
-ghost use Rattle.rhai_steps.specs.Agreement.{AgreesAt};
+ghost use Rattle.rhai_steps.specs.Callers.{AgreesAt, state_of, surroundings_of};
 ghost use Rattle.rhai_steps.specs.Offsets.{index_at_offset, index_in, offset_in};
 ghost use Rattle.rhai_steps.specs.Roots.{root_searched};
-ghost use Rattle.rhai_steps.specs.States.{holding, state_of, surroundings_of};
+ghost use Rattle.rhai_steps.specs.States.{holding};
 ghost use Rattle.rhai_laws.specs.Kept.{Kept};
 ghost use Rattle.rhai_eval.specs.Ends.{EndsAs};
 ghost use Rattle.rhai_eval.specs.Search.{found_behind, is_variable, names_variable, searched};
@@ -25,9 +27,9 @@ use rhai_context::ends::finish;
 use rhai_context::{give_back, take};
 use rhai_errors::error::EvalAltResult;
 use rhai_errors::table::NativeTable;
+use rhai_lookups::caches::Caches;
 use rhai_places::target::Target;
 use rhai_spots::part::Part;
-use rhai_state::caches::Caches;
 use rhai_state::scope::Scope;
 use rhai_state::state::GlobalRuntimeState;
 use rhai_steps::roots::root_of;
@@ -163,7 +165,13 @@ impl<H: Host> Engine<H> {
             (in_use global.now.always_search_scope namespace.now.index) namespace.now.path global.now.imports
             self.now.global_sub_modules }
     {
-        root_of(global, &self.global_sub_modules, namespace)
+        let index = global.offset_in_use(namespace.index);
+        root_of(
+            global.imports.as_slice(),
+            &self.global_sub_modules,
+            index,
+            namespace.path.as_slice(),
+        )
     }
 
     /// Evaluates an expression, charged first at its position. Ports upstream's `eval_expr`.
@@ -174,12 +182,13 @@ impl<H: Host> Engine<H> {
         &self,
         alloc: Global,
         global: &mut GlobalRuntimeState<H>,
-        _caches: &mut Caches<H>,
+        caches: &mut Caches<H>,
         table: &mut T,
         scope: &mut Scope<H>,
         this: Option<&mut Dynamic<H>>,
         expr: &Expr,
     ) -> Result<Dynamic<H>, EvalAltResult<H>>
+        requires fit { CachesFit (lists_of global.old) caches.old }
         requires resolves { AgreesAt global.old scope.old (resolves_expr expr.now) }
         ensures ends { EndsAs (under H.name_of self.now T.natives) (Eval expr.now)
             (state_of (T.state table.old) global.old scope.old (holding (lent_value this.entry))) result
@@ -188,23 +197,23 @@ impl<H: Host> Engine<H> {
             (state_of (T.state table.old) global.old scope.old (holding (lent_value this.entry)))
             (state_of (T.state table.new) global.new scope.new (holding (left_by this.exit))) }
         ensures names { names_in scope.new ≡ names_in scope.old }
-        ensures caches { _caches.new ≡ _caches.old }
+        ensures caches { CachesLeft (lists_of global.new) caches.old caches.new }
         ensures search { global.new.always_search_scope ≡ global.old.always_search_scope }
     {
         let evaluator = self.evaluator(alloc);
         match this {
             Some(place) => {
-                let mut run = take_with_this(alloc, global, scope, place);
+                let mut run = take_with_this(alloc, global, caches, scope, place);
                 let done = evaluator.run_expr(&mut run, table, expr);
                 let result = finish(done, &mut run.value, &mut run.error);
-                give_back_with_this(run, global, scope, place);
+                give_back_with_this(run, global, caches, scope, place);
                 result
             }
             None => {
-                let mut run = take(alloc, global, scope);
+                let mut run = take(alloc, global, caches, scope);
                 let done = evaluator.run_expr(&mut run, table, expr);
                 let result = finish(done, &mut run.value, &mut run.error);
-                give_back(run, global, scope);
+                give_back(run, global, caches, scope);
                 result
             }
         }

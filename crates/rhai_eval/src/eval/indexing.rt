@@ -8,7 +8,8 @@ ghost use Rattle.rhai_machine.specs.language.Frames.{Ask, ended_or_changed};
 ghost use Rattle.rhai_machine.specs.language.Members.{get_core, get_item, set_core, set_item};
 ghost use Rattle.rhai_machine.specs.language.Runs.{Runs, Steps};
 ghost use Rattle.rhai_steps.specs.Sessions.{under as under_session};
-ghost use Rattle.rhai_steps.specs.States.{state_of};
+ghost use Rattle.rhai_steps.specs.Callers.{state_of};
+ghost use Rattle.rhai_steps.specs.States.{state_of as run_state};
 ghost use Rattle.rhai_steps.specs.OnFocus.{lending};
 ghost use Rattle.rhai_index.specs.Indexes.{Indexes};
 ghost use Rattle.rhai_laws.specs.Kept.{Kept};
@@ -19,13 +20,15 @@ ghost use Rattle.rhai_eval.specs.States.{limits_of, under};
 
 use crate::engine::Engine;
 use rhai_calls::native::{Passing, call_native, pass_native};
+use rhai_context::{lend_state, return_state};
 use rhai_errors::error::EvalAltResult;
 use rhai_errors::table::NativeTable;
 use rhai_few::Few;
 use rhai_index::indexing;
+use rhai_lookups::caches::Caches;
+use rhai_lookups::run::RunState;
 use rhai_places::target::Target;
 use rhai_spots::spot::Access;
-use rhai_state::caches::Caches;
 use rhai_state::session::Session;
 use rhai_state::state::GlobalRuntimeState;
 use rhai_steps::operation::Operation;
@@ -91,7 +94,7 @@ fn put_both<H: Host>(both: (Dynamic<H>, Dynamic<H>), index: &mut Dynamic<H>, new
 /// Asks the indexer that reads, which `object` is lent to. A constant is kept from one that is not pure.
 fn ask_get<H: Host, T: NativeTable<H>>(
     session: &Session<'_, H>,
-    global: &mut GlobalRuntimeState<H>,
+    global: &mut RunState<H>,
     table: &mut T,
     object: &mut Dynamic<H>,
     index: &mut Dynamic<H>,
@@ -99,8 +102,8 @@ fn ask_get<H: Host, T: NativeTable<H>>(
 ) -> Result<Dynamic<H>, EvalAltResult<H>>
     ensures runs { (scope : _) (held : _) →
         Runs (under_session H.name_of session.now T.natives) (Ask (get_item pos object.old index.old))
-        (state_of (T.state table.old) global.old scope (lending held object.old))
-        result (state_of (T.state table.new) global.new scope (lending held object.new)) }
+        (run_state (T.state table.old) global.old scope (lending held object.old))
+        result (run_state (T.state table.new) global.new scope (lending held object.new)) }
     ensures index { index.new ≡ index.old }
 {
     let guarded = true;
@@ -135,7 +138,7 @@ fn ask_get<H: Host, T: NativeTable<H>>(
 /// Asks the indexer that writes, which `object` is lent to.
 fn ask_set<H: Host, T: NativeTable<H>>(
     session: &Session<'_, H>,
-    global: &mut GlobalRuntimeState<H>,
+    global: &mut RunState<H>,
     table: &mut T,
     object: &mut Dynamic<H>,
     index: &mut Dynamic<H>,
@@ -146,8 +149,8 @@ fn ask_set<H: Host, T: NativeTable<H>>(
     ensures runs { (scope : _) (held : _) →
         Steps (under_session H.name_of session.now T.natives)
         (Ask (set_item pos guarded object.old index.old new.old))
-        (state_of (T.state table.old) global.old scope (lending held object.old)) (ended_or_changed result)
-        (state_of (T.state table.new) global.new scope (lending held object.new)) }
+        (run_state (T.state table.old) global.old scope (lending held object.old)) (ended_or_changed result)
+        (run_state (T.state table.new) global.new scope (lending held object.new)) }
     ensures index { index.new ≡ index.old }
     ensures new { new.new ≡ new.old }
 {
@@ -269,9 +272,9 @@ impl<H: Host> Engine<H> {
         ensures search { global.new.always_search_scope ≡ global.old.always_search_scope }
     {
         let session = self.session(alloc);
-        let search = global.always_search_scope;
-        let result = ask_get(&session, global, table, object, index, pos);
-        global.always_search_scope = search;
+        let mut run = lend_state(alloc, global);
+        let result = ask_get(&session, &mut run, table, object, index, pos);
+        return_state(alloc, run, global);
         result
     }
 
@@ -308,11 +311,11 @@ impl<H: Host> Engine<H> {
         ensures search { global.new.always_search_scope ≡ global.old.always_search_scope }
     {
         let session = self.session(alloc);
-        let search = global.always_search_scope;
+        let mut run = lend_state(alloc, global);
         let result = ask_set(
-            &session, global, table, object, index, new_val, is_ref_mut, pos,
+            &session, &mut run, table, object, index, new_val, is_ref_mut, pos,
         );
-        global.always_search_scope = search;
+        return_state(alloc, run, global);
         result
     }
 }

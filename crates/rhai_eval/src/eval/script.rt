@@ -4,10 +4,13 @@ ghost use Rattle.std.specs.Prelude.{◌≡◌, ◌≤◌, length, true, None, If
 ghost use Rattle.rhai_tree.specs.Names.{Begins};
 ghost use Rattle.rhai_errors.specs.Errors.{is_out_of_memory};
 ghost use Rattle.rhai_state.specs.Scope.{names_in};
+ghost use Rattle.rhai_lookups.specs.Levels.{CachesFit, CachesLeft};
+ghost use Rattle.rhai_lookups.specs.Runs.{lists_of};
 ghost use Rattle.rhai_machine.specs.language.Memory.{UpToMemory};
 ghost use Rattle.rhai_machine.specs.language.Script.{EndsAsMachine, AgreesWithHigherLimits, start_of_script};
 ghost use Rattle.rhai_machine.specs.language.Script.{end_of_script};
-ghost use Rattle.rhai_steps.specs.States.{holding, state_of};
+ghost use Rattle.rhai_steps.specs.Callers.{state_of};
+ghost use Rattle.rhai_steps.specs.States.{holding};
 ghost use Rattle.rhai_laws.specs.Kept.{Grown};
 ghost use Rattle.rhai_eval_steps.specs.Memory.{may_ask};
 ghost use Rattle.rhai_eval.specs.States.{under};
@@ -17,7 +20,7 @@ use rhai_context::ends::finish;
 use rhai_context::{give_back, take};
 use rhai_errors::error::EvalAltResult;
 use rhai_errors::table::NativeTable;
-use rhai_state::caches::Caches;
+use rhai_lookups::caches::Caches;
 use rhai_state::scope::Scope;
 use rhai_state::state::GlobalRuntimeState;
 use rhai_steps::outcome::end_script;
@@ -38,12 +41,13 @@ impl<H: Host> Engine<H> {
         &self,
         alloc: Global,
         global: &mut GlobalRuntimeState<H>,
-        _caches: &mut Caches<H>,
+        caches: &mut Caches<H>,
         table: &mut T,
         scope: &mut Scope<H>,
         tree: &CheckedTree,
         map_exit_to_return_value: bool,
     ) -> Result<Dynamic<H>, EvalAltResult<H>>
+        requires fit { CachesFit (lists_of global.old) caches.old }
         ensures ends { EndsAsMachine (under H.name_of self.now T.natives) tree.now.0 map_exit_to_return_value
             (state_of (T.state table.old) global.old scope.old (holding None)) result
             (state_of (T.state table.new) global.new scope.new (holding None)) }
@@ -62,14 +66,14 @@ impl<H: Host> Engine<H> {
         ensures begins { Begins (names_in scope.old) (names_in scope.new) }
         ensures variables { length (names_in scope.old) ≤ self.now.max_variables →
             length (names_in scope.new) ≤ self.now.max_variables }
-        ensures caches { _caches.new ≡ _caches.old }
+        ensures caches { CachesLeft (lists_of global.new) caches.old caches.new }
         ensures search { global.new.always_search_scope ≡ global.old.always_search_scope }
     {
-        let mut run = take(alloc, global, scope);
+        let mut run = take(alloc, global, caches, scope);
         let evaluator = self.evaluator(alloc);
         let done = evaluator.run_stmt_block(&mut run, table, tree.statements(), false);
         let outcome = finish(done, &mut run.value, &mut run.error);
-        give_back(run, global, scope);
+        give_back(run, global, caches, scope);
         end_script(outcome, map_exit_to_return_value)
     }
 }

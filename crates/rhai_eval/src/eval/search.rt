@@ -10,12 +10,15 @@ ghost use Rattle.rhai_state.specs.Scope.{entries_of, Fits};
 ghost use Rattle.rhai_steps.specs.Lends.{lends_variable};
 ghost use Rattle.rhai_steps.specs.Offers.{globals_in};
 ghost use Rattle.rhai_steps.specs.Offsets.{index_in, offset_in};
-ghost use Rattle.rhai_steps.specs.States.{surroundings_of};
+ghost use Rattle.rhai_steps.specs.Callers.{surroundings_of};
+ghost use Rattle.rhai_steps.specs.States.{surroundings_of as surroundings_in};
 ghost use Rattle.rhai_eval.specs.Lends.{with_variable};
 ghost use Rattle.rhai_eval.specs.Search.{is_variable, names_variable, value_there, variable_searched};
 ghost use Rattle.rhai_eval.specs.Search.{IsBehind, IsBeside};
 
+use rhai_context::{lend_state, return_state};
 use rhai_errors::error::EvalAltResult;
+use rhai_lookups::run::RunState;
 use rhai_state::scope::Scope;
 use rhai_state::session::Session;
 use rhai_state::state::GlobalRuntimeState;
@@ -122,29 +125,51 @@ pub(crate) fn value_alone<H: Host>(
     }
 }
 
-/// Reads what a name behind a path means, as `rhai_steps::qualified::search_path` reads it, which asks the
-/// same of the path's index.
+/// Reads what a name behind a path means in a run, as `rhai_steps::qualified::search_path` reads it, which asks
+/// the same of the path's index.
 ///
 /// # Errors
 /// Those of `search_path`.
-pub(crate) fn value_behind<H: Host>(
+fn value_in_run<H: Host>(
     session: &Session<'_, H>,
-    global: &GlobalRuntimeState<H>,
+    run: &RunState<H>,
     expr: &Expr,
 ) -> Result<Dynamic<H>, EvalAltResult<H>>
     requires variable { names_variable (out-Expr expr.now) ≡ true }
     requires behind { is_variable (out-Expr expr.now) ≡ false }
-    requires fits { Fits (index_in global.now.always_search_scope (out-Expr expr.now))
-        (length global.now.imports) }
-    ensures { IsBehind global.now.always_search_scope (globals_in session.now.offered)
-        (surroundings_of global.now) (out-Expr expr.now) result }
+    requires fits { Fits (index_in run.now.always_search_scope (out-Expr expr.now)) (length run.now.lists.1) }
+    ensures { IsBehind run.now.always_search_scope (globals_in session.now.offered)
+        (surroundings_in run.now) (out-Expr expr.now) result }
 {
     match expr {
         Expr::Variable {
             name,
             namespace,
             ..
-        } => search_path(session, global, namespace, name.get().as_str()),
+        } => search_path(session, run, namespace, name.get().as_str()),
         _ => unreachable!(),
     }
+}
+
+/// Reads what a name behind a path means. The state is as it was then.
+///
+/// # Errors
+/// Those of `value_in_run`.
+pub(crate) fn value_behind<H: Host>(
+    session: &Session<'_, H>,
+    global: &mut GlobalRuntimeState<H>,
+    expr: &Expr,
+) -> Result<Dynamic<H>, EvalAltResult<H>>
+    requires variable { names_variable (out-Expr expr.now) ≡ true }
+    requires behind { is_variable (out-Expr expr.now) ≡ false }
+    requires fits { Fits (index_in global.old.always_search_scope (out-Expr expr.now))
+        (length global.old.imports) }
+    ensures found { IsBehind global.old.always_search_scope (globals_in session.now.offered)
+        (surroundings_of global.old) (out-Expr expr.now) result }
+    ensures same { global.new ≡ global.old }
+{
+    let run = lend_state(session.alloc, global);
+    let found = value_in_run(session, &run, expr);
+    return_state(session.alloc, run, global);
+    found
 }

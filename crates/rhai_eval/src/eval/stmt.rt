@@ -7,13 +7,16 @@ ghost use Rattle.rhai_tree.specs.Names.{Begins};
 ghost use Rattle.rhai_values.specs.Cells.{IsNoHandle};
 ghost use Rattle.rhai_errors.specs.Native.{left_by, lent_value};
 ghost use Rattle.rhai_state.specs.Scope.{names_in};
+ghost use Rattle.rhai_lookups.specs.Levels.{CachesFit, CachesLeft};
+ghost use Rattle.rhai_lookups.specs.Runs.{lists_of};
 ghost use Rattle.rhai_machine.specs.language.Frames.{Exec, Enter, ended_or_changed};
 ghost use Rattle.rhai_steps.specs.Sessions.{under as under_session};
 ghost use Rattle.rhai_machine.specs.language.State.{HasMemory};
 ghost use Rattle.rhai_machine.specs.language.Chains.{assign_focus};
 ghost use Rattle.rhai_spots.specs.Targets.{shown};
-ghost use Rattle.rhai_steps.specs.Agreement.{AgreesAt, frame_of, passes};
-ghost use Rattle.rhai_steps.specs.States.{holding, state_of};
+ghost use Rattle.rhai_steps.specs.Callers.{AgreesAt, frame_of, state_of};
+ghost use Rattle.rhai_steps.specs.Agreement.{passes};
+ghost use Rattle.rhai_steps.specs.States.{holding, state_of as run_state};
 ghost use Rattle.rhai_tree.specs.declared.expr.Stmt.{out-Stmt};
 ghost use Rattle.rhai_laws.specs.Kept.{Grown, Kept, declares, is_import};
 ghost use Rattle.rhai_steps.specs.OnFocus.{lending};
@@ -28,12 +31,13 @@ use crate::engine::Engine;
 use crate::this::{give_back_with_this, take_with_this};
 use rhai_assign::focus::assign_focus;
 use rhai_context::ends::finish;
-use rhai_context::{give_back, take};
+use rhai_context::{give_back, lend_state, return_state, take};
 use rhai_errors::error::EvalAltResult;
 use rhai_errors::table::NativeTable;
+use rhai_lookups::caches::Caches;
+use rhai_lookups::run::RunState;
 use rhai_places::target::Target;
 use rhai_spots::part::Part;
-use rhai_state::caches::Caches;
 use rhai_state::scope::Scope;
 use rhai_state::session::Session;
 use rhai_state::state::GlobalRuntimeState;
@@ -61,7 +65,7 @@ fn without_answer<H: Host>(
 /// Assigns to a value where it stands.
 fn assign_value<H: Host, T: NativeTable<H>>(
     session: &Session<'_, H>,
-    global: &mut GlobalRuntimeState<H>,
+    global: &mut RunState<H>,
     table: &mut T,
     place: &mut Dynamic<H>,
     root: &Expr,
@@ -72,8 +76,8 @@ fn assign_value<H: Host, T: NativeTable<H>>(
         let rules = under_session H.name_of session.now T.natives in
         Follows rules ended_or_changed
         (value_assigned rules.setting root.now (record { op = op; value = value }))
-        (state_of (T.state table.old) global.old scope (lending held place.old)) (assigned result)
-        (state_of (T.state table.new) global.new scope (lending held place.new)) }
+        (run_state (T.state table.old) global.old scope (lending held place.old)) (assigned result)
+        (run_state (T.state table.new) global.new scope (lending held place.new)) }
 {
     let answer = assign_focus(session, global, table, place, root, op, value);
     without_answer(answer)
@@ -100,7 +104,7 @@ fn put_assigned<H: Host>(
 /// Assigns to what a target shows, and puts a part back into its place.
 fn assign_target<H: Host, T: NativeTable<H>>(
     session: &Session<'_, H>,
-    global: &mut GlobalRuntimeState<H>,
+    global: &mut RunState<H>,
     table: &mut T,
     target: &mut Target<'_, H>,
     root: &Expr,
@@ -113,15 +117,15 @@ fn assign_target<H: Host, T: NativeTable<H>>(
         let rules = under_session H.name_of session.now T.natives in
         Follows rules ended_or_changed
         (target_assigned rules.setting root.now (record { op = op; value = value }) target.old.part target.old.at.now)
-        (state_of (T.state table.old) global.old scope (lending held (value_walked_on target.old.part target.old.at.now)))
+        (run_state (T.state table.old) global.old scope (lending held (value_walked_on target.old.part target.old.at.now)))
         (assigned result)
-        (state_of (T.state table.new) global.new scope (lending held (value_walked_on target.new.part target.new.at.now))) }
+        (run_state (T.state table.new) global.new scope (lending held (value_walked_on target.new.part target.new.at.now))) }
     ensures shows { (scope : _) (held : _) → HasMemory result →
         let rules = under_session H.name_of session.now T.natives in
         EndsAlone rules (value_assigned rules.setting root.now (record { op = op; value = value }))
-        (state_of (T.state table.old) global.old scope
+        (run_state (T.state table.old) global.old scope
         (lending held (shown target.old.part target.old.at.now)))
-        (state_of (T.state table.new) global.new scope
+        (run_state (T.state table.new) global.new scope
         (lending held (shown target.new.part target.new.at.now))) }
 {
     match &mut target.part {
@@ -196,9 +200,9 @@ impl<H: Host> Engine<H> {
     {
         let session = self.session(alloc);
         let op = *op_info;
-        let search = global.always_search_scope;
-        let result = assign_target(&session, global, table, target, root, op, new_val);
-        global.always_search_scope = search;
+        let mut run = lend_state(alloc, global);
+        let result = assign_target(&session, &mut run, table, target, root, op, new_val);
+        return_state(alloc, run, global);
         result
     }
 
@@ -211,13 +215,14 @@ impl<H: Host> Engine<H> {
         &self,
         alloc: Global,
         global: &mut GlobalRuntimeState<H>,
-        _caches: &mut Caches<H>,
+        caches: &mut Caches<H>,
         table: &mut T,
         scope: &mut Scope<H>,
         this: Option<&mut Dynamic<H>>,
         stmt: &Stmt,
         rewind_scope: bool,
     ) -> Result<Dynamic<H>, EvalAltResult<H>>
+        requires fit { CachesFit (lists_of global.old) caches.old }
         requires resolves { AgreesAt global.old scope.old (passes (resolves_stmt stmt.now)) }
         ensures ends { EndsAs (under H.name_of self.now T.natives) (Exec stmt.now rewind_scope)
             (state_of (T.state table.old) global.old scope.old (holding (lent_value this.entry))) result
@@ -232,23 +237,23 @@ impl<H: Host> Engine<H> {
         ensures imports { is_import (out-Stmt stmt.now) ≡ false → global.new.imports ≡ global.old.imports }
         ensures variables { length (names_in scope.old) ≤ self.now.max_variables →
             length (names_in scope.new) ≤ self.now.max_variables }
-        ensures caches { _caches.new ≡ _caches.old }
+        ensures caches { CachesLeft (lists_of global.new) caches.old caches.new }
         ensures search { global.new.always_search_scope ≡ global.old.always_search_scope }
     {
         let evaluator = self.evaluator(alloc);
         match this {
             Some(place) => {
-                let mut run = take_with_this(alloc, global, scope, place);
+                let mut run = take_with_this(alloc, global, caches, scope, place);
                 let done = evaluator.run_stmt(&mut run, table, stmt, rewind_scope);
                 let result = finish(done, &mut run.value, &mut run.error);
-                give_back_with_this(run, global, scope, place);
+                give_back_with_this(run, global, caches, scope, place);
                 result
             }
             None => {
-                let mut run = take(alloc, global, scope);
+                let mut run = take(alloc, global, caches, scope);
                 let done = evaluator.run_stmt(&mut run, table, stmt, rewind_scope);
                 let result = finish(done, &mut run.value, &mut run.error);
-                give_back(run, global, scope);
+                give_back(run, global, caches, scope);
                 result
             }
         }
@@ -264,13 +269,14 @@ impl<H: Host> Engine<H> {
         &self,
         alloc: Global,
         global: &mut GlobalRuntimeState<H>,
-        _caches: &mut Caches<H>,
+        caches: &mut Caches<H>,
         table: &mut T,
         scope: &mut Scope<H>,
         this: Option<&mut Dynamic<H>>,
         statements: &[Stmt],
         restore_orig_state: bool,
     ) -> Result<Dynamic<H>, EvalAltResult<H>>
+        requires fit { CachesFit (lists_of global.old) caches.old }
         requires resolves { AgreesAt global.old scope.old
             (passes (all_resolve (map resolves_stmt statements.now))) }
         ensures ends { EndsAs (under H.name_of self.now T.natives) (Enter statements.now restore_orig_state)
@@ -284,13 +290,13 @@ impl<H: Host> Engine<H> {
         ensures imports { IsTrue restore_orig_state → global.new.imports ≡ global.old.imports }
         ensures variables { length (names_in scope.old) ≤ self.now.max_variables →
             length (names_in scope.new) ≤ self.now.max_variables }
-        ensures caches { _caches.new ≡ _caches.old }
+        ensures caches { CachesLeft (lists_of global.new) caches.old caches.new }
         ensures search { global.new.always_search_scope ≡ global.old.always_search_scope }
     {
         let evaluator = self.evaluator(alloc);
         match this {
             Some(place) => {
-                let mut run = take_with_this(alloc, global, scope, place);
+                let mut run = take_with_this(alloc, global, caches, scope, place);
                 let done = evaluator.run_stmt_block(
                     &mut run,
                     table,
@@ -298,11 +304,11 @@ impl<H: Host> Engine<H> {
                     restore_orig_state,
                 );
                 let result = finish(done, &mut run.value, &mut run.error);
-                give_back_with_this(run, global, scope, place);
+                give_back_with_this(run, global, caches, scope, place);
                 result
             }
             None => {
-                let mut run = take(alloc, global, scope);
+                let mut run = take(alloc, global, caches, scope);
                 let done = evaluator.run_stmt_block(
                     &mut run,
                     table,
@@ -310,7 +316,7 @@ impl<H: Host> Engine<H> {
                     restore_orig_state,
                 );
                 let result = finish(done, &mut run.value, &mut run.error);
-                give_back(run, global, scope);
+                give_back(run, global, caches, scope);
                 result
             }
         }

@@ -10,8 +10,11 @@ ghost use Rattle.rhai_tree.specs.Positions.{start_of};
 ghost use Rattle.rhai_machine.specs.language.Frames.{Argument, OpenExpr};
 ghost use Rattle.rhai_errors.specs.Native.{left_by, lent_value};
 ghost use Rattle.rhai_state.specs.Scope.{names_in};
-ghost use Rattle.rhai_steps.specs.Agreement.{AgreesAt, call_leads};
-ghost use Rattle.rhai_steps.specs.States.{holding, state_of};
+ghost use Rattle.rhai_lookups.specs.Levels.{CachesFit, CachesLeft};
+ghost use Rattle.rhai_lookups.specs.Runs.{lists_of};
+ghost use Rattle.rhai_steps.specs.Callers.{AgreesAt, state_of};
+ghost use Rattle.rhai_steps.specs.Agreement.{call_leads};
+ghost use Rattle.rhai_steps.specs.States.{holding};
 ghost use Rattle.rhai_laws.specs.Kept.{Kept};
 ghost use Rattle.rhai_eval.specs.Ends.{EndsAs, EndsFrom};
 ghost use Rattle.rhai_call_forms.specs.Leading.{all_args};
@@ -25,7 +28,7 @@ use rhai_context::ends::finish;
 use rhai_context::{give_back, take};
 use rhai_errors::error::EvalAltResult;
 use rhai_errors::table::NativeTable;
-use rhai_state::caches::Caches;
+use rhai_lookups::caches::Caches;
 use rhai_state::scope::Scope;
 use rhai_state::state::GlobalRuntimeState;
 use rhai_steps::operation::Operation;
@@ -59,13 +62,14 @@ impl<H: Host> Engine<H> {
         &self,
         alloc: Global,
         global: &mut GlobalRuntimeState<H>,
-        _caches: &mut Caches<H>,
+        caches: &mut Caches<H>,
         table: &mut T,
         scope: &mut Scope<H>,
         this: Option<&mut Dynamic<H>>,
         expr: &FnCallExpr,
         pos: Position,
     ) -> Result<Dynamic<H>, EvalAltResult<H>>
+        requires fit { CachesFit (lists_of global.old) caches.old }
         requires resolves { AgreesAt global.old scope.old (resolves_call expr.now pos) }
         ensures ends { EndsAs (under H.name_of self.now T.natives)
             (OpenExpr (layer.Expr::FnCall expr.now pos))
@@ -75,23 +79,23 @@ impl<H: Host> Engine<H> {
             (state_of (T.state table.old) global.old scope.old (holding (lent_value this.entry)))
             (state_of (T.state table.new) global.new scope.new (holding (left_by this.exit))) }
         ensures names { names_in scope.new ≡ names_in scope.old }
-        ensures caches { _caches.new ≡ _caches.old }
+        ensures caches { CachesLeft (lists_of global.new) caches.old caches.new }
         ensures search { global.new.always_search_scope ≡ global.old.always_search_scope }
     {
         let evaluator = self.evaluator(alloc);
         match this {
             Some(place) => {
-                let mut run = take_with_this(alloc, global, scope, place);
+                let mut run = take_with_this(alloc, global, caches, scope, place);
                 let done = evaluator.run_fn_call_expr(&mut run, table, expr, pos);
                 let result = finish(done, &mut run.value, &mut run.error);
-                give_back_with_this(run, global, scope, place);
+                give_back_with_this(run, global, caches, scope, place);
                 result
             }
             None => {
-                let mut run = take(alloc, global, scope);
+                let mut run = take(alloc, global, caches, scope);
                 let done = evaluator.run_fn_call_expr(&mut run, table, expr, pos);
                 let result = finish(done, &mut run.value, &mut run.error);
-                give_back(run, global, scope);
+                give_back(run, global, caches, scope);
                 result
             }
         }
@@ -106,12 +110,13 @@ impl<H: Host> Engine<H> {
         &self,
         alloc: Global,
         global: &mut GlobalRuntimeState<H>,
-        _caches: &mut Caches<H>,
+        caches: &mut Caches<H>,
         table: &mut T,
         scope: &mut Scope<H>,
         this: Option<&mut Dynamic<H>>,
         arg_expr: &Expr,
     ) -> Result<(Dynamic<H>, Position), EvalAltResult<H>>
+        requires fit { CachesFit (lists_of global.old) caches.old }
         requires resolves { AgreesAt global.old scope.old (resolves_expr arg_expr.now) }
         ensures position { IfOk result (λ pair. pair.1 ≡ start_of arg_expr.now) }
         ensures ends { EndsAs (under H.name_of self.now T.natives) (Argument arg_expr.now)
@@ -121,23 +126,23 @@ impl<H: Host> Engine<H> {
             (state_of (T.state table.old) global.old scope.old (holding (lent_value this.entry)))
             (state_of (T.state table.new) global.new scope.new (holding (left_by this.exit))) }
         ensures names { names_in scope.new ≡ names_in scope.old }
-        ensures caches { _caches.new ≡ _caches.old }
+        ensures caches { CachesLeft (lists_of global.new) caches.old caches.new }
         ensures search { global.new.always_search_scope ≡ global.old.always_search_scope }
     {
         let evaluator = self.evaluator(alloc);
         match this {
             Some(place) => {
-                let mut run = take_with_this(alloc, global, scope, place);
+                let mut run = take_with_this(alloc, global, caches, scope, place);
                 let done = evaluator.run_arg(&mut run, table, arg_expr);
                 let result = finish(done, &mut run.value, &mut run.error);
-                give_back_with_this(run, global, scope, place);
+                give_back_with_this(run, global, caches, scope, place);
                 with_start(result, arg_expr.start_position())
             }
             None => {
-                let mut run = take(alloc, global, scope);
+                let mut run = take(alloc, global, caches, scope);
                 let done = evaluator.run_arg(&mut run, table, arg_expr);
                 let result = finish(done, &mut run.value, &mut run.error);
-                give_back(run, global, scope);
+                give_back(run, global, caches, scope);
                 with_start(result, arg_expr.start_position())
             }
         }
@@ -153,7 +158,7 @@ impl<H: Host> Engine<H> {
         &self,
         alloc: Global,
         global: &mut GlobalRuntimeState<H>,
-        _caches: &mut Caches<H>,
+        caches: &mut Caches<H>,
         table: &mut T,
         scope: &mut Scope<H>,
         this: Option<&mut Dynamic<H>>,
@@ -164,6 +169,7 @@ impl<H: Host> Engine<H> {
         capture_parent_scope: bool,
         pos: Position,
     ) -> Result<Dynamic<H>, EvalAltResult<H>>
+        requires fit { CachesFit (lists_of global.old) caches.old }
         requires resolves { AgreesAt global.old scope.old
             (all_resolve_exprs (map tests_of (all_args (option_copied first_arg) args_expr.now))) }
         ensures ends { EndsFrom (under H.name_of self.now T.natives)
@@ -175,7 +181,7 @@ impl<H: Host> Engine<H> {
             (state_of (T.state table.old) global.old scope.old (holding (lent_value this.entry)))
             (state_of (T.state table.new) global.new scope.new (holding (left_by this.exit))) }
         ensures names { names_in scope.new ≡ names_in scope.old }
-        ensures caches { _caches.new ≡ _caches.old }
+        ensures caches { CachesLeft (lists_of global.new) caches.old caches.new }
         ensures search { global.new.always_search_scope ≡ global.old.always_search_scope }
     {
         let token = op_token.copied();
@@ -183,7 +189,7 @@ impl<H: Host> Engine<H> {
         let evaluator = self.evaluator(alloc);
         match this {
             Some(place) => {
-                let mut run = take_with_this(alloc, global, scope, place);
+                let mut run = take_with_this(alloc, global, caches, scope, place);
                 let done = evaluator.run_call(
                     &mut run,
                     table,
@@ -197,11 +203,11 @@ impl<H: Host> Engine<H> {
                     captures,
                 );
                 let result = finish(done, &mut run.value, &mut run.error);
-                give_back_with_this(run, global, scope, place);
+                give_back_with_this(run, global, caches, scope, place);
                 result
             }
             None => {
-                let mut run = take(alloc, global, scope);
+                let mut run = take(alloc, global, caches, scope);
                 let done = evaluator.run_call(
                     &mut run,
                     table,
@@ -215,7 +221,7 @@ impl<H: Host> Engine<H> {
                     captures,
                 );
                 let result = finish(done, &mut run.value, &mut run.error);
-                give_back(run, global, scope);
+                give_back(run, global, caches, scope);
                 result
             }
         }
@@ -232,7 +238,7 @@ impl<H: Host> Engine<H> {
         &self,
         alloc: Global,
         global: &mut GlobalRuntimeState<H>,
-        _caches: &mut Caches<H>,
+        caches: &mut Caches<H>,
         table: &mut T,
         scope: &mut Scope<H>,
         this: Option<&mut Dynamic<H>>,
@@ -241,6 +247,7 @@ impl<H: Host> Engine<H> {
         args_expr: &[Expr],
         pos: Position,
     ) -> Result<Dynamic<H>, EvalAltResult<H>>
+        requires fit { CachesFit (lists_of global.old) caches.old }
         requires resolves { AgreesAt global.old scope.old (call_leads namespace.now args_expr.now) }
         requires behind { is_unqualified namespace.now.path ≡ false }
         ensures ends { EndsAs (under H.name_of self.now T.natives)
@@ -251,27 +258,27 @@ impl<H: Host> Engine<H> {
             (state_of (T.state table.old) global.old scope.old (holding (lent_value this.entry)))
             (state_of (T.state table.new) global.new scope.new (holding (left_by this.exit))) }
         ensures names { names_in scope.new ≡ names_in scope.old }
-        ensures caches { _caches.new ≡ _caches.old }
+        ensures caches { CachesLeft (lists_of global.new) caches.old caches.new }
         ensures search { global.new.always_search_scope ≡ global.old.always_search_scope }
     {
         let evaluator = self.evaluator(alloc);
         match this {
             Some(place) => {
-                let mut run = take_with_this(alloc, global, scope, place);
+                let mut run = take_with_this(alloc, global, caches, scope, place);
                 let done = evaluator.run_qualified_call(
                     &mut run, table, namespace, fn_name, args_expr, pos,
                 );
                 let result = finish(done, &mut run.value, &mut run.error);
-                give_back_with_this(run, global, scope, place);
+                give_back_with_this(run, global, caches, scope, place);
                 result
             }
             None => {
-                let mut run = take(alloc, global, scope);
+                let mut run = take(alloc, global, caches, scope);
                 let done = evaluator.run_qualified_call(
                     &mut run, table, namespace, fn_name, args_expr, pos,
                 );
                 let result = finish(done, &mut run.value, &mut run.error);
-                give_back(run, global, scope);
+                give_back(run, global, caches, scope);
                 result
             }
         }

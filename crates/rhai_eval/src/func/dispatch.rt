@@ -8,6 +8,8 @@ ghost use Rattle.rhai_values.specs.Copy.{copy_of};
 ghost use Rattle.rhai_errors.specs.Errors.{is_out_of_memory};
 ghost use Rattle.rhai_errors.specs.Native.{left_by, lent_value};
 ghost use Rattle.rhai_state.specs.Scope.{names_in};
+ghost use Rattle.rhai_lookups.specs.Levels.{CachesFit, CachesLeft, EntriesRight};
+ghost use Rattle.rhai_lookups.specs.Runs.{lists_of};
 ghost use Rattle.rhai_machine.specs.language.Activations.{TheFocus};
 ghost use Rattle.rhai_machine.specs.language.Calls.{dispatch_core, entry_of};
 ghost use Rattle.rhai_machine.specs.language.Frames.{EnterFunction, core, ended_or_changed};
@@ -18,7 +20,7 @@ ghost use Rattle.rhai_steps.specs.Operations.{operation_of};
 ghost use Rattle.rhai_steps.specs.OnFocus.{lending};
 ghost use Rattle.rhai_methods.specs.Methods.{IsEntered};
 ghost use Rattle.rhai_methods.specs.declared.calls.MethodEntry.TheVariants.{Alone, OnTarget};
-ghost use Rattle.rhai_steps.specs.States.{local_of, state_of};
+ghost use Rattle.rhai_steps.specs.Callers.{local_of, state_of};
 ghost use Rattle.rhai_laws.specs.Kept.{Kept};
 ghost use Rattle.rhai_eval.specs.Ends.{EndsChanged};
 ghost use Rattle.rhai_eval.specs.Entering.{came_out, IsByItself, came_to};
@@ -36,9 +38,10 @@ use rhai_errors::error::EvalAltResult;
 use rhai_errors::table::NativeTable;
 use rhai_few::Few;
 use rhai_functions::function::Function;
+use rhai_lookups::caches::Caches;
+use rhai_lookups::run::take_state;
 use rhai_methods::calls::{MethodEntry, on_target};
 use rhai_methods::copies::take_out;
-use rhai_state::caches::Caches;
 use rhai_state::scope::Scope;
 use rhai_state::state::GlobalRuntimeState;
 use rhai_steps::operation::Operation;
@@ -153,14 +156,15 @@ impl<H: Host> Engine<H> {
     /// call ended, or that function, which gets variables of its own or runs on the caller's.
     fn call_first<T: NativeTable<H>>(
         &self,
-        alloc: Global,
         global: &mut GlobalRuntimeState<H>,
+        caches: &mut Caches<H>,
         table: &mut T,
         operation: &Operation<'_>,
         first: &mut Dynamic<H>,
         rest: &mut [Dynamic<H>],
         manner: Manner,
     ) -> Called<(Dynamic<H>, bool), MethodEntry<H>, H>
+        requires fit { CachesFit (lists_of global.old) caches.old }
         ensures by_itself { manner.is_method_call ≡ false → IsByItself result }
         ensures lent { (scope : _) (held : _) (on_scope : _) → (manner.is_ref_mut || manner.is_method_call) ≡ true →
             let rules = under H.name_of self.now T.natives in
@@ -178,9 +182,10 @@ impl<H: Host> Engine<H> {
             (state_of (T.state table.new) global.new scope held) }
         ensures rest { rest.new ≡ replicate (length rest.old) unit }
         ensures taken { (manner.is_ref_mut || manner.is_method_call) ≡ false → first.new ≡ unit }
+        ensures caches { CachesLeft (lists_of global.new) caches.old caches.new }
         ensures search { global.new.always_search_scope ≡ global.old.always_search_scope }
     {
-        let search = global.always_search_scope;
+        let alloc = global.lib.allocator();
         let session = self.session(alloc);
         let seeks = Seeks {
             of_method: manner.is_method_call,
@@ -191,10 +196,11 @@ impl<H: Host> Engine<H> {
             guarded: is_lent,
             marks: true,
         };
+        let mut run = take_state(alloc, global, caches);
         let dispatched = pass_call(
-            &session, global, table, seeks, operation, first, &*rest, passing,
+            &session, &mut run, table, seeks, operation, first, &*rest, passing,
         );
-        global.always_search_scope = search;
+        run.give_state(global, caches);
         match dispatched {
             Called::Ended(result) => {
                 empty_all(first, rest, is_lent);
@@ -220,14 +226,15 @@ impl<H: Host> Engine<H> {
     /// the first argument, with variables of its own.
     fn call_with<T: NativeTable<H>>(
         &self,
-        alloc: Global,
         global: &mut GlobalRuntimeState<H>,
+        caches: &mut Caches<H>,
         table: &mut T,
         operation: &Operation<'_>,
         first: &mut Dynamic<H>,
         rest: &mut [Dynamic<H>],
         manner: Manner,
     ) -> ByItself<H>
+        requires fit { CachesFit (lists_of global.old) caches.old }
         ensures lent { (scope : _) (held : _) → (manner.is_ref_mut || manner.is_method_call) ≡ true →
             let rules = under H.name_of self.now T.natives in
             Goes rules
@@ -243,15 +250,16 @@ impl<H: Host> Engine<H> {
             (state_of (T.state table.new) global.new scope held) }
         ensures rest { rest.new ≡ replicate (length rest.old) unit }
         ensures taken { (manner.is_ref_mut || manner.is_method_call) ≡ false → first.new ≡ unit }
+        ensures caches { CachesLeft (lists_of global.new) caches.old caches.new }
         ensures search { global.new.always_search_scope ≡ global.old.always_search_scope }
     {
-        let call = self.call_first(alloc, global, table, operation, first, rest, manner);
+        let call = self.call_first(global, caches, table, operation, first, rest, manner);
         match call {
             Called::Ended(result) => Called::Ended(result),
             Called::Enters(entry) => match entry {
                 MethodEntry::OnTarget(function, args) => Called::Ended(self.enter_method_fresh(
-                    alloc,
                     global,
+                    caches,
                     table,
                     function,
                     first,
@@ -267,8 +275,8 @@ impl<H: Host> Engine<H> {
     /// on them too.
     fn call_on<T: NativeTable<H>>(
         &self,
-        alloc: Global,
         global: &mut GlobalRuntimeState<H>,
+        caches: &mut Caches<H>,
         table: &mut T,
         scope: &mut Scope<H>,
         operation: &Operation<'_>,
@@ -276,6 +284,7 @@ impl<H: Host> Engine<H> {
         rest: &mut [Dynamic<H>],
         manner: Manner,
     ) -> ByItself<H>
+        requires fit { CachesFit (lists_of global.old) caches.old }
         ensures lent { (held : _) → (manner.is_ref_mut || manner.is_method_call) ≡ true →
             let rules = under H.name_of self.now T.natives in
             Goes rules
@@ -291,15 +300,16 @@ impl<H: Host> Engine<H> {
             (state_of (T.state table.new) global.new scope.new held) }
         ensures rest { rest.new ≡ replicate (length rest.old) unit }
         ensures taken { (manner.is_ref_mut || manner.is_method_call) ≡ false → first.new ≡ unit }
+        ensures caches { CachesLeft (lists_of global.new) caches.old caches.new }
         ensures search { global.new.always_search_scope ≡ global.old.always_search_scope }
     {
-        let call = self.call_first(alloc, global, table, operation, first, rest, manner);
+        let call = self.call_first(global, caches, table, operation, first, rest, manner);
         match call {
             Called::Ended(result) => Called::Ended(result),
             Called::Enters(entry) => match entry {
                 MethodEntry::OnTarget(function, args) => Called::Ended(self.enter_on_scope(
-                    alloc,
                     global,
+                    caches,
                     table,
                     scope,
                     function,
@@ -317,9 +327,11 @@ impl<H: Host> Engine<H> {
         &self,
         alloc: Global,
         global: &mut GlobalRuntimeState<H>,
+        caches: &mut Caches<H>,
         table: &mut T,
         operation: &Operation<'_>,
     ) -> ByItself<H>
+        requires fit { CachesFit (lists_of global.old) caches.old }
         ensures runs { (scope : _) (held : _) (on_scope : _) →
             let rules = under H.name_of self.now T.natives in
             Goes rules
@@ -327,14 +339,15 @@ impl<H: Host> Engine<H> {
             (state_of (T.state table.old) global.old scope held)
             (came_out (not on_scope) operation.now.at result)
             (state_of (T.state table.new) global.new scope held) }
+        ensures caches { CachesLeft (lists_of global.new) caches.old caches.new }
         ensures search { global.new.always_search_scope ≡ global.old.always_search_scope }
     {
-        let search = global.always_search_scope;
         let session = self.session(alloc);
         let mut none = Few::new(alloc);
         let args = none.as_mut_slice();
-        let dispatched = pass_all(&session, global, table, false, operation, args, true);
-        global.always_search_scope = search;
+        let mut run = take_state(alloc, global, caches);
+        let dispatched = pass_all(&session, &mut run, table, false, operation, args, true);
+        run.give_state(global, caches);
         match dispatched {
             Called::Ended(result) => {
                 drop(none);
@@ -347,30 +360,33 @@ impl<H: Host> Engine<H> {
     /// Runs a function of a script with a place of the caller as its `this`, and variables of its own.
     fn enter_method_fresh<T: NativeTable<H>>(
         &self,
-        alloc: Global,
         global: &mut GlobalRuntimeState<H>,
+        caches: &mut Caches<H>,
         table: &mut T,
         function: Function<H>,
         place: &mut Dynamic<H>,
         args: Few<Dynamic<H>>,
         pos: Position,
     ) -> Result<(Dynamic<H>, bool), EvalAltResult<H>>
+        requires fit { CachesFit (lists_of global.old) caches.old }
         ensures runs { (scope : _) (held : _) →
             let caller = local_of global.old scope (lending held place.old) in
             Steps (under H.name_of self.now T.natives)
             (EnterFunction (entry_of function TheFocus true args pos caller))
             (state_of (T.state table.old) global.old scope (lending held place.old)) (ended_or_changed result)
             (state_of (T.state table.new) global.new scope (lending held place.new)) }
+        ensures caches { CachesLeft (lists_of global.new) caches.old caches.new }
         ensures search { global.new.always_search_scope ≡ global.old.always_search_scope }
     {
+        let alloc = global.lib.allocator();
         let mut scope = Scope::new(alloc);
-        let mut run = take(alloc, global, &mut scope);
+        let mut run = take(alloc, global, caches, &mut scope);
         let evaluator = self.evaluator(alloc);
         let mut args = args;
         let values = args.as_mut_slice();
         let done = evaluator.enter_on_focus(&mut run, table, function, place, values, pos);
         let result = finish(done, &mut run.value, &mut run.error);
-        give_back(run, global, &mut scope);
+        give_back(run, global, caches, &mut scope);
         drop(scope);
         drop(args);
         tell_changed(result, false)
@@ -380,8 +396,8 @@ impl<H: Host> Engine<H> {
     /// it adds to them goes at its end.
     fn enter_on_scope<T: NativeTable<H>>(
         &self,
-        alloc: Global,
         global: &mut GlobalRuntimeState<H>,
+        caches: &mut Caches<H>,
         table: &mut T,
         scope: &mut Scope<H>,
         function: Function<H>,
@@ -389,18 +405,21 @@ impl<H: Host> Engine<H> {
         args: Few<Dynamic<H>>,
         pos: Position,
     ) -> Result<(Dynamic<H>, bool), EvalAltResult<H>>
+        requires fit { CachesFit (lists_of global.old) caches.old }
         ensures runs { (held : _) → let caller = local_of global.old scope.old (lending held place.old) in
             Steps (under H.name_of self.now T.natives)
             (EnterFunction (entry_of function TheFocus false args pos caller))
             (state_of (T.state table.old) global.old scope.old (lending held place.old))
             (ended_or_changed result)
             (state_of (T.state table.new) global.new scope.new (lending held place.new)) }
+        ensures caches { CachesLeft (lists_of global.new) caches.old caches.new }
         ensures search { global.new.always_search_scope ≡ global.old.always_search_scope }
     {
-        let mut run = take(alloc, global, scope);
+        let alloc = global.lib.allocator();
+        let mut run = take(alloc, global, caches, scope);
         let evaluator = self.evaluator(alloc);
         let result = enter_with_this(&evaluator, &mut run, table, function, place, args, pos);
-        give_back(run, global, scope);
+        give_back(run, global, caches, scope);
         tell_changed(result, false)
     }
 
@@ -410,26 +429,30 @@ impl<H: Host> Engine<H> {
         &self,
         alloc: Global,
         global: &mut GlobalRuntimeState<H>,
+        caches: &mut Caches<H>,
         table: &mut T,
         scope: &mut Scope<H>,
         outcome: ByItself<H>,
         pos: Position,
     ) -> Result<(Dynamic<H>, bool), EvalAltResult<H>>
+        requires fit { CachesFit (lists_of global.old) caches.old }
+        requires right { EntriesRight (lists_of global.old) caches.old }
         ensures runs { (held : _) → Goes (under H.name_of self.now T.natives) (came_out false pos outcome)
             (state_of (T.state table.old) global.old scope.old held) (core (ended_or_changed result))
             (state_of (T.state table.new) global.new scope.new held) }
+        ensures caches { CachesLeft (lists_of global.new) caches.old caches.new }
         ensures search { global.new.always_search_scope ≡ global.old.always_search_scope }
     {
         match outcome {
             Called::Ended(result) => result,
             Called::Enters((function, args)) => {
-                let mut run = take(alloc, global, scope);
+                let mut run = take(alloc, global, caches, scope);
                 let evaluator = self.evaluator(alloc);
                 let mut args = args;
                 let values = args.as_mut_slice();
                 let done = evaluator.enter_captured(&mut run, table, function, values, pos);
                 let result = finish(done, &mut run.value, &mut run.error);
-                give_back(run, global, scope);
+                give_back(run, global, caches, scope);
                 drop(args);
                 tell_changed(result, false)
             }
@@ -442,27 +465,31 @@ impl<H: Host> Engine<H> {
         &self,
         alloc: Global,
         global: &mut GlobalRuntimeState<H>,
+        caches: &mut Caches<H>,
         table: &mut T,
         outcome: ByItself<H>,
         pos: Position,
     ) -> Result<(Dynamic<H>, bool), EvalAltResult<H>>
+        requires fit { CachesFit (lists_of global.old) caches.old }
+        requires right { EntriesRight (lists_of global.old) caches.old }
         ensures runs { (scope : _) (held : _) →
             Goes (under H.name_of self.now T.natives) (came_out true pos outcome)
             (state_of (T.state table.old) global.old scope held) (core (ended_or_changed result))
             (state_of (T.state table.new) global.new scope held) }
+        ensures caches { CachesLeft (lists_of global.new) caches.old caches.new }
         ensures search { global.new.always_search_scope ≡ global.old.always_search_scope }
     {
         match outcome {
             Called::Ended(result) => result,
             Called::Enters((function, args)) => {
                 let mut scope = Scope::new(alloc);
-                let mut run = take(alloc, global, &mut scope);
+                let mut run = take(alloc, global, caches, &mut scope);
                 let evaluator = self.evaluator(alloc);
                 let mut args = args;
                 let values = args.as_mut_slice();
                 let done = evaluator.enter_fresh(&mut run, table, function, values, pos);
                 let result = finish(done, &mut run.value, &mut run.error);
-                give_back(run, global, &mut scope);
+                give_back(run, global, caches, &mut scope);
                 drop(scope);
                 drop(args);
                 tell_changed(result, false)
@@ -494,7 +521,7 @@ impl<H: Host> Engine<H> {
         &self,
         alloc: Global,
         global: &mut GlobalRuntimeState<H>,
-        _caches: &mut Caches<H>,
+        caches: &mut Caches<H>,
         table: &mut T,
         scope: Option<&mut Scope<H>>,
         name: &str,
@@ -505,6 +532,7 @@ impl<H: Host> Engine<H> {
         is_method_call: bool,
         position: Position,
     ) -> Result<(Dynamic<H>, bool), EvalAltResult<H>>
+        requires fit { CachesFit (lists_of global.old) caches.old }
         requires first { (is_ref_mut || is_method_call) ≡ true → is_some first ≡ true }
         ensures lent { (variables : _) (this : _) → (is_ref_mut || is_method_call) ≡ true →
             let rules = under H.name_of self.now T.natives in EndsChanged rules
@@ -531,7 +559,7 @@ impl<H: Host> Engine<H> {
             ≡ (if is_some first.entry then replicate (length rest.old) unit else rest.old) }
         ensures taken { (is_ref_mut || is_method_call) ≡ false →
             left_by first.exit ≡ option_map (λ v. unit) (lent_value first.entry) }
-        ensures caches { _caches.new ≡ _caches.old }
+        ensures caches { CachesLeft (lists_of global.new) caches.old caches.new }
         ensures search { global.new.always_search_scope ≡ global.old.always_search_scope }
     {
         let (token, pos) = (op_token.copied(), position);
@@ -539,8 +567,8 @@ impl<H: Host> Engine<H> {
             Some(first) => match scope {
                 Some(scope) => {
                     let outcome = self.call_on(
-                        alloc,
                         global,
+                        caches,
                         table,
                         scope,
                         &Operation {
@@ -555,12 +583,12 @@ impl<H: Host> Engine<H> {
                             is_method_call,
                         },
                     );
-                    return self.finish_on_scope(alloc, global, table, scope, outcome, pos);
+                    return self.finish_on_scope(alloc, global, caches, table, scope, outcome, pos);
                 }
                 None => {
                     let outcome = self.call_with(
-                        alloc,
                         global,
+                        caches,
                         table,
                         &Operation {
                             name,
@@ -574,13 +602,14 @@ impl<H: Host> Engine<H> {
                             is_method_call,
                         },
                     );
-                    return self.finish_fresh(alloc, global, table, outcome, pos);
+                    return self.finish_fresh(alloc, global, caches, table, outcome, pos);
                 }
             },
             None => {
                 let outcome = self.begin_bare_call(
                     alloc,
                     global,
+                    caches,
                     table,
                     &Operation {
                         name,
@@ -590,9 +619,9 @@ impl<H: Host> Engine<H> {
                 );
                 match scope {
                     Some(scope) => return self.finish_on_scope(
-                        alloc, global, table, scope, outcome, pos,
+                        alloc, global, caches, table, scope, outcome, pos,
                     ),
-                    None => return self.finish_fresh(alloc, global, table, outcome, pos),
+                    None => return self.finish_fresh(alloc, global, caches, table, outcome, pos),
                 }
             }
         }

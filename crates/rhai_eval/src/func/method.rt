@@ -12,11 +12,14 @@ ghost use Rattle.rhai_machine.specs.language.Frames.{core, ended_or_changed};
 ghost use Rattle.rhai_calls.specs.Targets.{on_target, StaysAlike, value_walked_on};
 ghost use Rattle.rhai_steps.specs.OnFocus.{lending};
 ghost use Rattle.rhai_eval_core.specs.States.{under as under_what_is_read};
-ghost use Rattle.rhai_steps.specs.States.{state_of};
+ghost use Rattle.rhai_steps.specs.Callers.{state_of};
+ghost use Rattle.rhai_steps.specs.States.{state_of as run_state};
 ghost use Rattle.rhai_laws.specs.Kept.{Kept};
 ghost use Rattle.rhai_eval.specs.Ends.{EndsAlone, EndsChanged};
 ghost use Rattle.rhai_eval.specs.Places.{with_place};
 ghost use Rattle.rhai_eval.specs.States.{under};
+ghost use Rattle.rhai_lookups.specs.Levels.{CachesFit, CachesLeft};
+ghost use Rattle.rhai_lookups.specs.Runs.{lists_of};
 
 use crate::engine::Engine;
 use crate::func::arguments::empty;
@@ -25,10 +28,10 @@ use rhai_context::{Context, give_back, take};
 use rhai_errors::error::EvalAltResult;
 use rhai_errors::table::NativeTable;
 use rhai_eval_core::evaluator::Evaluator;
+use rhai_lookups::caches::Caches;
 use rhai_methods::target::put_back;
 use rhai_places::target::Target;
 use rhai_spots::part::Part;
-use rhai_state::caches::Caches;
 use rhai_state::scope::Scope;
 use rhai_state::state::GlobalRuntimeState;
 use rhai_tree::position::Position;
@@ -54,9 +57,9 @@ fn call_on_target<H: Host, T: NativeTable<H>>(
         let rules = under_what_is_read H.name_of evaluator.now T.natives in
         Goes rules
         (on_target rules.setting (record { name = name.now; at = pos; first_at = first; was_handle = shows_handle target.old.part target.old.at.now }) args.old target.old.part target.old.at.now)
-        (state_of (T.state table.old) run.old.global scope (lending held (shown target.old.part target.old.at.now)))
+        (run_state (T.state table.old) run.old.global scope (lending held (shown target.old.part target.old.at.now)))
         (core (ended_or_changed result))
-        (state_of (T.state table.new) run.new.global scope (lending held (value_walked_on target.new.part target.new.at.now))) }
+        (run_state (T.state table.new) run.new.global scope (lending held (value_walked_on target.new.part target.new.at.now))) }
     ensures shows { (scope : _) (held : _) → HasMemory result →
         let rules = under_what_is_read H.name_of evaluator.now T.natives in
         EndsAlone rules (method_core rules.setting
@@ -66,9 +69,9 @@ fn call_on_target<H: Host, T: NativeTable<H>>(
           first_at = first;
           was_handle = shows_handle target.old.part target.old.at.now;
         }) args.old (shown target.old.part target.old.at.now))
-        (state_of (T.state table.old) run.old.global scope
+        (run_state (T.state table.old) run.old.global scope
         (lending held (shown target.old.part target.old.at.now)))
-        (state_of (T.state table.new) run.new.global scope
+        (run_state (T.state table.new) run.new.global scope
         (lending held (shown target.new.part target.new.at.now))) }
 {
     let is_handle = target.is_shared();
@@ -111,7 +114,7 @@ impl<H: Host> Engine<H> {
         &self,
         alloc: Global,
         global: &mut GlobalRuntimeState<H>,
-        _caches: &mut Caches<H>,
+        caches: &mut Caches<H>,
         table: &mut T,
         fn_name: &str,
         target: &mut Target<'_, H>,
@@ -119,6 +122,7 @@ impl<H: Host> Engine<H> {
         first_arg_pos: Position,
         pos: Position,
     ) -> Result<(Dynamic<H>, bool), EvalAltResult<H>>
+        requires fit { CachesFit (lists_of global.old) caches.old }
         ensures ends { (scope : _) (this : _) → let rules = under H.name_of self.now T.natives in
             EndsChanged rules (on_target rules.setting
             (record {
@@ -153,17 +157,17 @@ impl<H: Host> Engine<H> {
             (state_of (T.state table.new) global.new scope
             (with_place this (Some (shown target.new.part target.new.at.now)))) }
         ensures args { call_args.new ≡ replicate (length call_args.old) unit }
-        ensures caches { _caches.new ≡ _caches.old }
+        ensures caches { CachesLeft (lists_of global.new) caches.old caches.new }
         ensures search { global.new.always_search_scope ≡ global.old.always_search_scope }
     {
         let mut scope = Scope::new(alloc);
-        let mut run = take(alloc, global, &mut scope);
+        let mut run = take(alloc, global, caches, &mut scope);
         let evaluator = self.evaluator(alloc);
         let first = Some(first_arg_pos);
         let result = call_on_target(
             &evaluator, alloc, &mut run, table, fn_name, target, call_args, first, pos,
         );
-        give_back(run, global, &mut scope);
+        give_back(run, global, caches, &mut scope);
         drop(scope);
         empty(call_args);
         result

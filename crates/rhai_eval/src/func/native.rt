@@ -5,7 +5,7 @@ ghost use Rattle.std.specs.Prelude.{◌≡◌};
 ghost use Rattle.std.specs.Option.{option_copied};
 ghost use Rattle.rhai_errors.specs.Native.{left_by, lent_value};
 ghost use Rattle.rhai_machine.specs.language.Frames.{Ask, core};
-ghost use Rattle.rhai_steps.specs.States.{state_of};
+ghost use Rattle.rhai_steps.specs.Callers.{state_of};
 ghost use Rattle.rhai_laws.specs.Kept.{Kept};
 ghost use Rattle.rhai_eval.specs.Ends.{EndsChanged};
 ghost use Rattle.rhai_eval.specs.Places.{on_place, with_place};
@@ -13,9 +13,10 @@ ghost use Rattle.rhai_eval.specs.States.{under};
 
 use crate::engine::Engine;
 use rhai_calls::native::{Passing, pass_native, pass_native_alone};
+use rhai_context::{lend_state, return_state};
 use rhai_errors::error::EvalAltResult;
 use rhai_errors::table::NativeTable;
-use rhai_state::caches::Caches;
+use rhai_lookups::caches::Caches;
 use rhai_state::state::GlobalRuntimeState;
 use rhai_steps::operation::Operation;
 use rhai_tree::position::Position;
@@ -65,7 +66,7 @@ impl<H: Host> Engine<H> {
     {
         let session = self.session(alloc);
         let token = op_token.copied();
-        let search = global.always_search_scope;
+        let mut run = lend_state(alloc, global);
         match first {
             Some(first) => {
                 let passing = Passing {
@@ -74,7 +75,7 @@ impl<H: Host> Engine<H> {
                 };
                 let result = pass_native(
                     &session,
-                    global,
+                    &mut run,
                     table,
                     &Operation {
                         name,
@@ -85,13 +86,13 @@ impl<H: Host> Engine<H> {
                     rest,
                     passing,
                 );
-                global.always_search_scope = search;
+                return_state(alloc, run, global);
                 result
             }
             None => {
                 let result = pass_native_alone(
                     &session,
-                    global,
+                    &mut run,
                     table,
                     &Operation {
                         name,
@@ -100,7 +101,7 @@ impl<H: Host> Engine<H> {
                     },
                     true,
                 );
-                global.always_search_scope = search;
+                return_state(alloc, run, global);
                 result
             }
         }

@@ -13,8 +13,11 @@ ghost use Rattle.rhai_machine.specs.language.Runs.{Runs};
 ghost use Rattle.rhai_machine.specs.language.State.{HasMemory};
 ghost use Rattle.rhai_errors.specs.Native.{left_by, lent_value};
 ghost use Rattle.rhai_state.specs.Scope.{entries_of, names_in};
-ghost use Rattle.rhai_steps.specs.States.{holding, state_of};
+ghost use Rattle.rhai_steps.specs.Callers.{state_of};
+ghost use Rattle.rhai_steps.specs.States.{holding};
 ghost use Rattle.rhai_functions.specs.Entering.{TakesSome};
+ghost use Rattle.rhai_lookups.specs.Levels.{CachesFit, CachesLeft};
+ghost use Rattle.rhai_lookups.specs.Runs.{lists_of};
 ghost use Rattle.rhai_eval_steps.specs.Bodies.{args_left, entered, is_entered};
 ghost use Rattle.rhai_eval_steps.specs.States.{state_in};
 ghost use Rattle.rhai_laws.specs.Kept.{Kept};
@@ -28,9 +31,10 @@ use rhai_context::{Context, give_back, take};
 use rhai_errors::error::EvalAltResult;
 use rhai_errors::table::NativeTable;
 use rhai_functions::key::FnKey;
-use rhai_functions::lookup::find_function;
-use rhai_state::caches::Caches;
+use rhai_lookups::caches::Caches;
+use rhai_lookups::lists::has_function;
 use rhai_state::scope::Scope;
+use rhai_state::session::Offered;
 use rhai_state::state::GlobalRuntimeState;
 use rhai_tree::checked::CheckedFn;
 use rhai_tree::position::Position;
@@ -100,7 +104,7 @@ impl<H: Host> Engine<H> {
         &self,
         alloc: Global,
         global: &mut GlobalRuntimeState<H>,
-        _caches: &mut Caches<H>,
+        caches: &mut Caches<H>,
         table: &mut T,
         scope: &mut Scope<H>,
         this: Option<&mut Dynamic<H>>,
@@ -110,6 +114,7 @@ impl<H: Host> Engine<H> {
         rewind_scope: bool,
         pos: Position,
     ) -> Result<Dynamic<H>, EvalAltResult<H>>
+        requires fit { CachesFit (lists_of global.old) caches.old }
         ensures ends { EndsAs (under H.name_of self.now T.natives)
             (EnterFunction (entered def.now (option_copied env.entry) OwnThis false rewind_scope args.old
             global.old.level pos))
@@ -138,12 +143,12 @@ impl<H: Host> Engine<H> {
         ensures restores { IsTrue rewind_scope → names_in scope.new ≡ names_in scope.old }
         ensures variables { length (names_in scope.old) ≤ self.now.max_variables →
             length (names_in scope.new) ≤ self.now.max_variables }
-        ensures caches { _caches.new ≡ _caches.old }
+        ensures caches { CachesLeft (lists_of global.new) caches.old caches.new }
         ensures search { global.new.always_search_scope ≡ global.old.always_search_scope }
     {
         match this {
             Some(place) => {
-                let mut run = take_with_this(alloc, global, scope, place);
+                let mut run = take_with_this(alloc, global, caches, scope, place);
                 let result = self.call_in_run(
                     alloc,
                     &mut run,
@@ -154,11 +159,11 @@ impl<H: Host> Engine<H> {
                     rewind_scope,
                     pos,
                 );
-                give_back_with_this(run, global, scope, place);
+                give_back_with_this(run, global, caches, scope, place);
                 result
             }
             None => {
-                let mut run = take(alloc, global, scope);
+                let mut run = take(alloc, global, caches, scope);
                 let result = self.call_in_run(
                     alloc,
                     &mut run,
@@ -169,7 +174,7 @@ impl<H: Host> Engine<H> {
                     rewind_scope,
                     pos,
                 );
-                give_back(run, global, scope);
+                give_back(run, global, caches, scope);
                 result
             }
         }
@@ -177,24 +182,23 @@ impl<H: Host> Engine<H> {
 
     /// Tells whether a function of a script has a key. It is looked for in the libraries of the state, in the
     /// engine's global modules, in the imports, and in the engine's global modules under names, where what is
-    /// shown alone is found. It takes no memory. Ports upstream's `has_script_fn`.
+    /// shown alone is found. The newest of the caches is asked first and keeps what is found, where there is memory
+    /// for it. Ports upstream's `has_script_fn`.
     pub fn has_script_fn(
         &self,
         state: &GlobalRuntimeState<H>,
-        _caches: &mut Caches<H>,
+        caches: &mut Caches<H>,
         key: FnKey<'_>,
     ) -> bool
+        requires fit { CachesFit (lists_of state.now) caches.old }
         ensures found { result ≡ is_some (found_in (function_key_of key.entry) state.now.lib self.now.global_modules
             state.now.imports self.now.global_sub_modules.1) }
-        ensures caches { _caches.new ≡ _caches.old }
+        ensures caches { CachesLeft (lists_of state.now) caches.old caches.new }
     {
-        let found = find_function(
-            key,
-            state.lib.as_slice(),
-            self.global_modules.as_slice(),
-            state.imports.as_slice(),
-            self.global_sub_modules.values(),
-        );
-        found.is_some()
+        let offered = Offered {
+            global_modules: self.global_modules.as_slice(),
+            global_sub_modules: &self.global_sub_modules,
+        };
+        has_function(&key, &offered, &state.lib, &state.imports, caches)
     }
 }

@@ -107,7 +107,7 @@ impl<'e, H: Host> Evaluator<'e, H> {
                     Ok(pointer) => pointer,
                     Err(error) => return stop(&mut run.error, error),
                 };
-                match linked_function(&*run, &pointer, rest) {
+                match linked_function(run, &pointer, rest) {
                     Ok(Some(function)) => {
                         let (name, curried, _) = parts_of(pointer);
                         drop(name);

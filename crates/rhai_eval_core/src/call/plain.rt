@@ -45,7 +45,7 @@ impl<'e, H: Host> Evaluator<'e, H> {
         pos: Position,
     ) -> bool
         requires resolves { SuitsNames run.old (all_resolve_exprs (map tests_of call.now.args)) }
-        requires plain { IsPlain call.now run.old.global.lib function }
+        requires plain { IsPlain call.now run.old.global.lists.0 function }
         ensures counts { IsTrue result → run.old.global.num_operations ≤ run.new.global.num_operations }
         ensures names { IsTrue result → KeepsNames run.old run.new }
         ensures runs { let rules = under H.name_of self.now T.natives in

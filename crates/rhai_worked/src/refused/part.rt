@@ -173,6 +173,7 @@ impl Run {
         tree: &CheckedTree,
     ) -> Option<(Ending, bool)> {
         let before = Levels::of(&self.global);
+        self.caches.clear();
         let Ok(outcome) = R::eval_tree(
             alloc,
             &settings,

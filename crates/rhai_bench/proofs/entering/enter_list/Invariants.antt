@@ -1,6 +1,7 @@
 use Rattle.std.specs.Prelude.{length, map}
 use Rattle.rhai_tree.specs.Frame.{all_resolve, resolves_stmt}
-use Rattle.rhai_steps.specs.Agreement.{AgreesAt, passes}
+use Rattle.rhai_steps.specs.Callers.{AgreesAt}
+use Rattle.rhai_steps.specs.Agreement.{passes}
 use Rattle.rhai_bench.proofs.entering.enter_list.Given as goal
 
 -- the statements that are left may run

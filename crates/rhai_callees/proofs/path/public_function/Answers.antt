@@ -22,7 +22,7 @@ returns-then-is_plain g c memory =
 pub public_searched-requires : goal.public_searched-requires
 public_searched-requires g c =
     let global = c.args.global.now in
-    root_fits global.imports (in_use global.always_search_scope c.args.namespace.now.index) c.args.namespace.now.path
+    root_fits global.lists.1 (in_use global.always_search_scope c.args.namespace.now.index) c.args.namespace.now.path
     (sym c.is_plain.ensures ∙ c.if-is_plain.false) c.requires
 
 pub returns : goal.returns

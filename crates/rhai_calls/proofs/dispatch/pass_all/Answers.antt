@@ -17,8 +17,9 @@ returns-in-Ended-clause-runs g c scope held on_scope =
     let call : Call _ = passed_call operation None false c.args.marks c.args.args.now in
     let s : State _ _ = state_of (g.T.NativeTable.state c.args.table.now) c.args.global.now scope held in
     let seeks : Seeks = record { of_method = false; natives_alone = c.args.natives_alone } in
-    resolved_ends rules seeks on_scope call s c.in-Ended.result c.tell_changed.result c.tell_changed.ensures
-    (rw c.in-Ended.is at c.in-Some.ensures)
+    rw c.resolve_all.ensures.same
+    (resolved_ends rules seeks on_scope call s c.in-Ended.result c.tell_changed.result c.tell_changed.ensures
+    (rw c.in-Ended.is at c.in-Some.ensures.resolves))
 
 pub returns-in-Enters-clause-runs : goal.returns-in-Enters-clause-runs
 returns-in-Enters-clause-runs g c scope held on_scope =
@@ -27,7 +28,8 @@ returns-in-Enters-clause-runs g c scope held on_scope =
     let call : Call _ = passed_call operation None false c.args.marks c.args.args.now in
     let s : State _ _ = state_of (g.T.NativeTable.state c.args.table.now) c.args.global.now scope held in
     let seeks : Seeks = record { of_method = false; natives_alone = c.args.natives_alone } in
-    resolved_found rules seeks on_scope call s c.in-Enters.function (rw c.in-Enters.is at c.in-Some.ensures)
+    rw c.resolve_all.ensures.same
+    (resolved_found rules seeks on_scope call s c.in-Enters.function (rw c.in-Enters.is at c.in-Some.ensures.resolves))
 
 pub returns-in-Ended-clause-untold : goal.returns-in-Ended-clause-untold
 returns-in-Ended-clause-untold g c =
@@ -40,6 +42,6 @@ returns-in-None-clause-runs g c scope held on_scope =
     let call : Call _ = passed_call operation None false c.args.marks c.args.args.now in
     let s : State _ _ = state_of (g.T.NativeTable.state c.args.table.now) c.args.global.now scope held in
     let seeks : Seeks = record { of_method = false; natives_alone = c.args.natives_alone } in
-    resolved_asks rules seeks on_scope call s (c.in-None.ensures) c.call_native_all.result
+    resolved_asks rules seeks on_scope call s (c.in-None.ensures.resolves) c.call_native_all.result
     (state_of (g.T.NativeTable.state c.call_native_all.new.table) c.call_native_all.new.global scope held)
-    (c.call_native_all.ensures.runs scope held)
+    ((rw c.resolve_all.ensures.same at c.call_native_all.ensures.runs) scope held)

@@ -16,9 +16,9 @@ returns-in-Ended-clause-runs g c scope held lender on_scope stands =
     let operation : Operation = operation_of c.args.operation.now in
     let call : Call _ = passed_call operation lender c.args.passing.guarded c.args.passing.marks (c.args.first.now ∷ c.args.rest.now) in
     let s : State _ _ = state_of (g.T.NativeTable.state c.args.table.now) c.args.global.now scope held in
-    rw (back_same lender c.args.first.now s stands)
+    rw (c.resolve.ensures.same, back_same lender c.args.first.now s stands)
     (resolved_ends rules c.args.seeks on_scope call s c.in-Ended.result c.tell_changed.result c.tell_changed.ensures
-    (rw c.in-Ended.is at c.in-Some.ensures))
+    (rw c.in-Ended.is at c.in-Some.ensures.resolves))
 
 pub returns-in-Enters-clause-runs : goal.returns-in-Enters-clause-runs
 returns-in-Enters-clause-runs g c scope held lender on_scope stands =
@@ -26,9 +26,9 @@ returns-in-Enters-clause-runs g c scope held lender on_scope stands =
     let operation : Operation = operation_of c.args.operation.now in
     let call : Call _ = passed_call operation lender c.args.passing.guarded c.args.passing.marks (c.args.first.now ∷ c.args.rest.now) in
     let s : State _ _ = state_of (g.T.NativeTable.state c.args.table.now) c.args.global.now scope held in
-    rw (back_same lender c.args.first.now s stands)
+    rw (c.resolve.ensures.same, back_same lender c.args.first.now s stands)
     (resolved_found rules c.args.seeks on_scope call s c.in-Enters.function
-    (rw c.in-Enters.is at c.in-Some.ensures))
+    (rw c.in-Enters.is at c.in-Some.ensures.resolves))
 
 pub returns-in-Ended-clause-untold : goal.returns-in-Ended-clause-untold
 returns-in-Ended-clause-untold g c =
@@ -41,6 +41,6 @@ returns-in-None-clause-runs g c scope held lender on_scope stands =
     let operation : Operation = operation_of c.args.operation.now in
     let call : Call _ = passed_call operation lender c.args.passing.guarded c.args.passing.marks (c.args.first.now ∷ c.args.rest.now) in
     let s : State _ _ = state_of (g.T.NativeTable.state c.args.table.now) c.args.global.now scope held in
-    resolved_asks rules c.args.seeks on_scope call s (c.in-None.ensures) c.pass_native.result
+    resolved_asks rules c.args.seeks on_scope call s (c.in-None.ensures.resolves) c.pass_native.result
     (back_in lender c.pass_native.new.first (state_of (g.T.NativeTable.state c.pass_native.new.table) c.pass_native.new.global scope held))
-    (c.pass_native.ensures.runs scope held lender stands)
+    ((rw c.resolve.ensures.same at c.pass_native.ensures.runs) scope held lender stands)

@@ -25,10 +25,11 @@ returns-clause-runs g c held =
     at_once rules c.args.call.now c.in-Some.arg.now c.in-Some.ensures c.args.pos c.in-Variable.offset c.in-Variable.name
     c.in-Variable.namespace c.in-Variable.pos form
     (g.T.NativeTable.state c.args.table.now) c.args.global.now c.charge_one.new.global c.args.scope.now held
-    (omega (arith, c.if-not-charge_one.ensures.room refl)) (c.if-not-charge_one.ensures.charged refl)
+    (omega (arith, rw c.is_scripted.ensures.same at (c.if-not-charge_one.ensures.room refl)))
+    (rw c.is_scripted.ensures.same at (c.if-not-charge_one.ensures.charged refl))
     c.in-Some-entry_of_variable.index c.value_at-value.result.now
     (sym c.entry_of_variable.ensures.exact ∙ c.in-Some-entry_of_variable.is) c.value_at-value.ensures
     (sym c.is_lendable.ensures ∙ c.if-not-is_lendable.false)
-    (sym (rw (c.as_str-function.ensures, c.get.ensures) at (c.is_scripted.ensures)) ∙ c.if-is_scripted.false) _ _
+    (sym (rw (c.as_str-function.ensures, c.get.ensures) at (c.is_scripted.ensures.found)) ∙ c.if-is_scripted.false) _ _
     (rw (c.as_str-function.ensures, c.get.ensures) at (c.call_entry.ensures.runs held c.value_at-value.result.now
     c.value_at-value.ensures))

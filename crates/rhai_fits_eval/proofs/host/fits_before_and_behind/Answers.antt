@@ -6,7 +6,7 @@ use Rattle.rhai_fits_eval.proofs.host.fits_before_and_behind.Goals as goal
 
 pub eval_global_statements-outcome-requires : goal.eval_global_statements-outcome-requires
 eval_global_statements-outcome-requires g c =
-    record { sealed = fits_is_sealed c.args.global.now c.args.scope.now (c.fits.ensures.0 c.if-not-fits.false) }
+    record { fit = c.requires.fit; sealed = fits_is_sealed c.args.global.now c.args.scope.now (c.fits.ensures.0 c.if-not-fits.false) }
 
 pub returns : goal.returns
 returns g c =

@@ -1,7 +1,7 @@
 use Rattle.std.proofs.Common.{◌∙◌, ap, arith, refl, sym}
 use Rattle.rhai_tree.specs.declared.expr.Expr.{out-Expr}
 use Rattle.rhai_state.specs.Scope.{entries_of}
-use Rattle.rhai_state.specs.declared.state.GlobalRuntimeState.{GlobalRuntimeState}
+use Rattle.rhai_lookups.specs.declared.run.RunState.{RunState}
 use Rattle.rhai_machine.specs.language.Runs.{Goes}
 use Rattle.rhai_steps.specs.Sessions.{under}
 use Rattle.rhai_operands.specs.Standing.{standing}
@@ -17,7 +17,7 @@ returns-then-operate_integers-clause-found g c =
 
 pub returns-then-operate_integers-clause-counts : goal.returns-then-operate_integers-clause-counts
 returns-then-operate_integers-clause-counts g c =
-    omega (arith, ap (λ (global : GlobalRuntimeState _). global.num_operations) (c.if-operate_integers.ensures.charged refl))
+    omega (arith, ap (λ (global : RunState _). global.num_operations) (c.if-operate_integers.ensures.charged refl))
 
 pub returns-then-operate_integers-clause-runs : goal.returns-then-operate_integers-clause-runs
 unfolding Goes
@@ -49,7 +49,7 @@ returns-then-not-may_stand-clause-left_alone g c none = c.if-operate_integers.en
 
 pub returns-then-not-may_stand-clause-counts : goal.returns-then-not-may_stand-clause-counts
 returns-then-not-may_stand-clause-counts g c =
-    omega (arith, ap (λ (global : GlobalRuntimeState _). global.num_operations) (c.if-operate_integers.ensures.left_alone refl))
+    omega (arith, ap (λ (global : RunState _). global.num_operations) (c.if-operate_integers.ensures.left_alone refl))
 
 pub returns-clause-left_alone : goal.returns-clause-left_alone
 returns-clause-left_alone g c none =
@@ -57,7 +57,7 @@ returns-clause-left_alone g c none =
 
 pub returns-clause-counts : goal.returns-clause-counts
 returns-clause-counts g c =
-    let same = ap (λ (global : GlobalRuntimeState _). global.num_operations) (c.if-operate_integers.ensures.left_alone refl) in
+    let same = ap (λ (global : RunState _). global.num_operations) (c.if-operate_integers.ensures.left_alone refl) in
     omega (arith, c.operate_others.ensures.counts, same)
 
 pub returns-clause-runs : goal.returns-clause-runs

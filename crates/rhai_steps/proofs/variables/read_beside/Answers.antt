@@ -10,7 +10,7 @@ use Rattle.rhai_steps.proofs.variables.read_beside.Goals as goal
 pub search_path-requires : goal.search_path-requires
 search_path-requires g c =
     let global = c.args.global.now in
-    root_fits global.imports (in_use global.always_search_scope c.args.namespace.now.index) c.args.namespace.now.path
+    root_fits global.lists.1 (in_use global.always_search_scope c.args.namespace.now.index) c.args.namespace.now.path
     (sym c.is_plain.ensures ∙ c.if-is_plain.false) c.requires
 
 pub returns : goal.returns

@@ -24,3 +24,6 @@ returns-clause-run g c = let one = c.exec_fn_call in let other = c.exec_fn_call-
 pub returns-clause-rest : goal.returns-clause-rest
 returns-clause-rest g c = c.exec_fn_call.ensures.rest ∙ ap (λ xs. replicate (length xs) unit) c.requires.rest
     ∙ sym c.exec_fn_call-2.ensures.rest
+
+pub returns-clause-on : goal.returns-clause-on
+returns-clause-on g c same = c.exec_fn_call.ensures.caches.on ∙ same ∙ sym c.exec_fn_call-2.ensures.caches.on

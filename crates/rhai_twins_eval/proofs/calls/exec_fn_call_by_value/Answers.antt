@@ -26,3 +26,6 @@ returns-clause-rest g c = c.exec_fn_call.ensures.rest ∙ ap (λ xs. replicate (
 
 pub returns-clause-first : goal.returns-clause-first
 returns-clause-first g c = let one = c.exec_fn_call.ensures.taken refl in let other = c.exec_fn_call-2.ensures.taken refl in cc
+
+pub returns-clause-on : goal.returns-clause-on
+returns-clause-on g c same = c.exec_fn_call.ensures.caches.on ∙ same ∙ sym c.exec_fn_call-2.ensures.caches.on

@@ -49,3 +49,6 @@ returns-clause-shown g c r_has s_has = let one = c.make_method_call in let other
 pub returns-clause-call_args : goal.returns-clause-call_args
 returns-clause-call_args g c = c.make_method_call.ensures.args ∙ ap (λ xs. replicate (length xs) unit) c.requires.call_args
     ∙ sym c.make_method_call-2.ensures.args
+
+pub returns-clause-on : goal.returns-clause-on
+returns-clause-on g c same = c.make_method_call.ensures.caches.on ∙ same ∙ sym c.make_method_call-2.ensures.caches.on

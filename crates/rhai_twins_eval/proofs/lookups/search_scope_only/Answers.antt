@@ -2,7 +2,7 @@ use Rattle.std.proofs.Common.{ap, ◌∙◌}
 use Rattle.rhai_tree.specs.declared.expr.Expr.{out-Expr}
 use Rattle.rhai_machine.specs.language.Setting.{globals_of}
 use Rattle.rhai_state.specs.Scope.{entries_of}
-use Rattle.rhai_steps.specs.States.{surroundings_of}
+use Rattle.rhai_steps.specs.Callers.{surroundings_of}
 use Rattle.rhai_eval.specs.Search.{searched}
 use Rattle.rhai_eval.specs.States.{offer_of}
 use Rattle.rhai_twins_eval.proofs.Targets.{variable_once}

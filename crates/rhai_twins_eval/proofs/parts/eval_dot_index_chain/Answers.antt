@@ -1,4 +1,4 @@
-use Rattle.std.proofs.Common.{Some, ap}
+use Rattle.std.proofs.Common.{Some, ap, sym, ◌∙◌}
 use Rattle.rhai_machine.specs.language.Frames.{core}
 use Rattle.rhai_steps.specs.States.{holding}
 use Rattle.rhai_eval.specs.Chains.{assigned_in, whole_chain}
@@ -13,3 +13,6 @@ returns-clause-run g c = let one = c.eval_dot_index_chain in let other = c.eval_
     (ap (λ x. λ k l. core (whole_chain a.expr.now (assigned_in x)) k l) c.requires.new_val)
     (same_start c.requires.table c.requires.global c.requires.scope (ap (λ x. holding (Some x)) c.requires.this))
     one.ensures.ends other.ensures.ends
+
+pub returns-clause-on : goal.returns-clause-on
+returns-clause-on g c same = c.eval_dot_index_chain.ensures.caches.on ∙ same ∙ sym c.eval_dot_index_chain-2.ensures.caches.on

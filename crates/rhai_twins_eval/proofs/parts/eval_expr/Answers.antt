@@ -1,4 +1,4 @@
-use Rattle.std.proofs.Common.{Some, refl, ap}
+use Rattle.std.proofs.Common.{Some, refl, ap, sym, ◌∙◌}
 use Rattle.rhai_steps.specs.States.{holding}
 use Rattle.rhai_eval.specs.States.{under}
 use Rattle.rhai_twins_eval.proofs.Once.{call_once}
@@ -11,3 +11,6 @@ returns-clause-run g c = let one = c.eval_expr in let other = c.eval_expr-2 in l
     refl
     (same_start c.requires.table c.requires.global c.requires.scope (ap (λ x. holding (Some x)) c.requires.this))
     one.ensures.ends other.ensures.ends
+
+pub returns-clause-on : goal.returns-clause-on
+returns-clause-on g c same = c.eval_expr.ensures.caches.on ∙ same ∙ sym c.eval_expr-2.ensures.caches.on

@@ -1,4 +1,4 @@
-use Rattle.std.proofs.Common.{Some, refl, ap}
+use Rattle.std.proofs.Common.{Some, refl, ap, sym, ◌∙◌}
 use Rattle.rhai_steps.specs.States.{holding}
 use Rattle.rhai_eval.specs.States.{under}
 use Rattle.rhai_twins_eval.proofs.Once.{argument_once}
@@ -10,3 +10,6 @@ returns-clause-run g c = let one = c.get_arg_value in let other = c.get_arg_valu
     argument_once (under g.H.Host.name_of c.args.engine.now g.T.NativeTable.natives) _ _ _ _ _ _ _ one.result other.result refl
     (same_start c.requires.table c.requires.global c.requires.scope (ap (λ x. holding (Some x)) c.requires.this))
     one.ensures.ends other.ensures.ends one.ensures.position other.ensures.position
+
+pub returns-clause-on : goal.returns-clause-on
+returns-clause-on g c same = c.get_arg_value.ensures.caches.on ∙ same ∙ sym c.get_arg_value-2.ensures.caches.on

@@ -30,3 +30,6 @@ returns-clause-args g c memory also = let one = c.call_script_fn in let other = 
     ∙ ap (λ x. args_left (is_entered (limits_of a.engine.now) a.also_global.now.num_operations a.also_global.now.level
     (length (entries_of a.also_scope.now)) a.def.now) (length a.def.now.params) x) c.requires.args
     ∙ sym (other.ensures.args also)
+
+pub returns-clause-on : goal.returns-clause-on
+returns-clause-on g c same = c.call_script_fn.ensures.caches.on ∙ same ∙ sym c.call_script_fn-2.ensures.caches.on

@@ -24,3 +24,6 @@ returns-clause-scope g c = let one = c.eval_global_statements in let other = c.e
 
 pub returns-clause-table : goal.returns-clause-table
 returns-clause-table g c = λ a b. ap (λ s. s.table) (returns-clause-run g c a b).1
+
+pub returns-clause-on : goal.returns-clause-on
+returns-clause-on g c same = c.eval_global_statements.ensures.caches.on ∙ same ∙ sym c.eval_global_statements-2.ensures.caches.on

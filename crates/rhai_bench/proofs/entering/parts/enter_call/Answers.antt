@@ -4,6 +4,7 @@ use Rattle.rhai_bench.proofs.entering.parts.enter_call.Goals as goal
 
 pub make_function_call-requires : goal.make_function_call-requires
 make_function_call-requires c = record {
+  fit = c.clear.ensures.fit _;
   resolves = rw (← c.split_first.ensures, c.as_slice.ensures)
       (brings (λ frame h. operands_of_call c.args.call.now c.args.pos frame h) c.requires);
 }

@@ -1,7 +1,9 @@
 use Rattle.std.proofs.Common.{◌≡◌, false, Option, Some, None, MutBor, ap, refl, subst, sym}
 use Rattle.rhai_values.specs.declared.base.value.Dynamic.{Dynamic}
 use Rattle.rhai_errors.specs.Native.{left_by, lent_value}
-use Rattle.rhai_steps.specs.States.{holding, state_of}
+use Rattle.rhai_lookups.proofs.Returned.{returned}
+use Rattle.rhai_steps.specs.Callers.{state_of}
+use Rattle.rhai_steps.specs.States.{holding}
 use Rattle.rhai_eval.specs.States.{under}
 use Rattle.rhai_machine.specs.language.Runs.{Runs}
 use Rattle.rhai_laws.proofs.KeptLaws.{kept, names_begin, names_stay, variables_stay}
@@ -32,7 +34,7 @@ left_on g c place =
         (
           c.args.global,
           (
-            c.args._caches,
+            c.args.caches,
             (
               c.args.table,
               (
@@ -51,14 +53,14 @@ left_on g c place =
         (
           c.args.global,
           (
-            c.args._caches,
+            c.args.caches,
             (
               c.args.table,
               (
                 c.args.scope,
                 (
                   Some (record c.in-Some.place { now = c.give_back_with_this.new.this }),
-                  (c.args.env, (c.args.def, (c.args.args, five (five (five (five (five (five (tt, (tt, (tt, (tt, tt)))))))))))),
+                  (c.args.env, (c.args.def, (c.args.args, five (five (five (five (five (five (five (tt, (tt, (tt, tt)))))))))))),
                 ),
               ),
             ),
@@ -156,7 +158,7 @@ left_free g c place =
         (
           c.args.global,
           (
-            c.args._caches,
+            c.args.caches,
             (
               c.args.table,
               (
@@ -175,7 +177,7 @@ left_free g c place =
         (
           c.args.global,
           (
-            c.args._caches,
+            c.args.caches,
             (
               c.args.table,
               (
@@ -188,8 +190,7 @@ left_free g c place =
                       c.args.def,
                       (
                         c.args.args,
-                        five (five (five (five (five
-                            (five (tt, (tt, (tt, (tt, tt))))))))),
+                        five (five (five (five (five (five (five (tt, (tt, (tt, tt))))))))),
                       ),
                     ),
                   ),
@@ -276,3 +277,12 @@ returns-in-None-clause-restores g c = λ rewinds.
 
 pub returns-in-None-clause-args : goal.returns-in-None-clause-args
 returns-in-None-clause-args g c memory = rw c.take-run.ensures.run at (c.call_in_run-result-in-None.ensures.args memory)
+
+pub returns-in-Some-clause-caches : goal.returns-in-Some-clause-caches
+returns-in-Some-clause-caches g c =
+    rw c.give_back_with_this.ensures.global
+    (returned _ _ _ _ c.take_with_this-run.ensures.caches c.give_back_with_this.ensures.caches)
+
+pub returns-in-None-clause-caches : goal.returns-in-None-clause-caches
+returns-in-None-clause-caches g c =
+    rw c.give_back.ensures.global (returned _ _ _ _ c.take-run.ensures.caches c.give_back.ensures.caches)

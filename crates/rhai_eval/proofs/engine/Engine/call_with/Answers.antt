@@ -2,9 +2,10 @@ use Rattle.std.proofs.Common.{Some, false, true}
 use Rattle.rhai_machine.specs.language.Calls.{dispatch_core}
 use Rattle.rhai_machine.specs.language.Frames.{Operation}
 use Rattle.rhai_machine.specs.language.Setting.{Rules}
+use Rattle.rhai_lookups.proofs.Returned.{left_twice}
 use Rattle.rhai_steps.specs.Operations.{operation_of}
 use Rattle.rhai_steps.specs.OnFocus.{lending}
-use Rattle.rhai_steps.specs.States.{state_of}
+use Rattle.rhai_steps.specs.Callers.{state_of}
 use Rattle.rhai_eval.specs.Places.{by_name, by_value, on_place}
 use Rattle.rhai_eval.specs.States.{under}
 use Rattle.rhai_eval.proofs.Dispatching.{alone_out, ended_out, method_out, no_method, none_lends}
@@ -93,3 +94,9 @@ returns-in-OnTarget-clause-taken g c none =
     absurd (no_method c.call_first-call.result c.in-OnTarget.function c.in-OnTarget.args
     (rw c.in-OnTarget.is at c.in-Enters.is)
     (c.call_first-call.ensures.by_itself (none_lends c.args.manner.is_ref_mut c.args.manner.is_method_call none).1))
+
+pub enter_method_fresh-requires : goal.enter_method_fresh-requires
+enter_method_fresh-requires g c = record { fit = c.call_first-call.ensures.caches.fit }
+
+pub returns-in-OnTarget-clause-caches : goal.returns-in-OnTarget-clause-caches
+returns-in-OnTarget-clause-caches g c = left_twice _ _ _ _ _ c.call_first-call.ensures.caches c.enter_method_fresh.ensures.caches

@@ -3,6 +3,7 @@ use Rattle.rhai_machine.specs.language.Activations.{TheFocus}
 use Rattle.rhai_machine.specs.language.Calls.{entry_of}
 use Rattle.rhai_machine.specs.language.Frames.{EnterFunction, ended_or_changed}
 use Rattle.rhai_machine.specs.language.Runs.{Steps}
+use Rattle.rhai_lookups.proofs.Returned.{returned}
 use Rattle.rhai_steps.specs.OnFocus.{lending}
 use Rattle.rhai_steps.specs.States.{local_of, state_of}
 use Rattle.rhai_context.specs.declared.Context.{Context}
@@ -30,3 +31,7 @@ returns-clause-runs g c scope held =
     c.enter_on_focus-done.new.run c.args.global.now c.give_back.new.global c.give_back.ensures.global scope scope
     (lending held c.args.place.now) (lending held c.enter_on_focus-done.new.focus)
     (ap (λ (run : Context _). run.global) c.take-run.ensures.run) runs
+
+pub returns-clause-caches : goal.returns-clause-caches
+returns-clause-caches g c =
+    rw c.give_back.ensures.global (returned _ _ _ _ c.take-run.ensures.caches c.give_back.ensures.caches)

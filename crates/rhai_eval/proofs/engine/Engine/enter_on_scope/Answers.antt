@@ -3,6 +3,7 @@ use Rattle.rhai_machine.specs.language.Activations.{TheFocus}
 use Rattle.rhai_machine.specs.language.Calls.{entry_of}
 use Rattle.rhai_machine.specs.language.Frames.{EnterFunction, ended_or_changed}
 use Rattle.rhai_machine.specs.language.Runs.{Steps}
+use Rattle.rhai_lookups.proofs.Returned.{returned}
 use Rattle.rhai_steps.specs.OnFocus.{lending}
 use Rattle.rhai_steps.specs.States.{local_of, state_of}
 use Rattle.rhai_eval.proofs.Dispatching.{runs_unchanged}
@@ -28,3 +29,7 @@ returns-clause-runs g c held =
     c.enter_with_this-result.new.run c.args.global.now c.give_back.new.global c.give_back.ensures.global c.args.scope.now
     c.give_back.new.scope c.give_back.ensures.scope None (lending held c.args.place.now)
     (lending held c.enter_with_this-result.new.focus) c.take-run.ensures.run runs
+
+pub returns-clause-caches : goal.returns-clause-caches
+returns-clause-caches g c =
+    rw c.give_back.ensures.global (returned _ _ _ _ c.take-run.ensures.caches c.give_back.ensures.caches)

@@ -1,7 +1,9 @@
 use Rattle.std.proofs.Common.{◌≡◌, ◌∙◌, Bool, true, false, is_some, Option, Some, None, MutBor, ap, refl, subst, sym}
 use Rattle.rhai_values.specs.declared.base.value.Dynamic.{Dynamic}
 use Rattle.rhai_errors.specs.Native.{left_by, lent_value}
-use Rattle.rhai_steps.specs.States.{holding, state_of}
+use Rattle.rhai_lookups.proofs.Returned.{returned}
+use Rattle.rhai_steps.specs.Callers.{state_of}
+use Rattle.rhai_steps.specs.States.{holding}
 use Rattle.rhai_eval_steps.specs.Agreement.{SuitsNames}
 use Rattle.rhai_eval.specs.States.{under}
 use Rattle.std.specs.Option.{option_copied}
@@ -98,7 +100,7 @@ left_on g c place =
     let types = xs g.row.H g.row.T g.H.laws g.T.laws g.H.Host-dict g.H.Destruct-dict g.T.NativeTable-dict in
     let given : Args (ended_of 10 kinds answer).signature c.lifetimes = (
       c.args.self,
-      (c.args.alloc, (c.args.global, (c.args._caches, (c.args.table, (c.args.scope, (place, (c.args.expr, (c.args.new_val, tt)))))))),
+      (c.args.alloc, (c.args.global, (c.args.caches, (c.args.table, (c.args.scope, (place, (c.args.expr, (c.args.new_val, tt)))))))),
     ) in
     left_by (at_exit (ended_of 10 kinds answer) c.lifetimes given (lasts_p c.lifetimes 4 kinds types given (
       c.args.self,
@@ -107,14 +109,14 @@ left_on g c place =
         (
           c.args.global,
           (
-            c.args._caches,
+            c.args.caches,
             (
               c.args.table,
               (
                 c.args.scope,
                 (
                   Some (record c.in-Some-this.place { now = c.give_back_with_this.new.this }),
-                  (c.args.expr, five (five (five (five (five (five (five (five (tt, (tt, (tt, (tt, tt)))))))))))),
+                  (c.args.expr, five (five (five (five (five (five (five (five (five (tt, (tt, (tt, tt)))))))))))),
                 ),
               ),
             ),
@@ -201,7 +203,7 @@ left_free g c place =
     let types = xs g.row.H g.row.T g.H.laws g.T.laws g.H.Host-dict g.H.Destruct-dict g.T.NativeTable-dict in
     let given : Args (ended_of 10 kinds answer).signature c.lifetimes = (
       c.args.self,
-      (c.args.alloc, (c.args.global, (c.args._caches, (c.args.table, (c.args.scope, (place, (c.args.expr, (c.args.new_val, tt)))))))),
+      (c.args.alloc, (c.args.global, (c.args.caches, (c.args.table, (c.args.scope, (place, (c.args.expr, (c.args.new_val, tt)))))))),
     ) in
     left_by (at_exit (ended_of 10 kinds answer) c.lifetimes given (lasts_p c.lifetimes 4 kinds types given (
       c.args.self,
@@ -210,12 +212,12 @@ left_free g c place =
         (
           c.args.global,
           (
-            c.args._caches,
+            c.args.caches,
             (
               c.args.table,
               (
                 c.args.scope,
-                (place, (c.args.expr, five (five (five (five (five (five (five (five (tt, (tt, (tt, (tt, tt))))))))))))),
+                (place, (c.args.expr, five (five (five (five (five (five (five (five (five (tt, (tt, (tt, tt))))))))))))),
               ),
             ),
           ),
@@ -288,3 +290,12 @@ returns-in-None-clause-names g c = names_stay (under g.H.Host.name_of c.args.sel
 pub returns-in-None-clause-assigns : goal.returns-in-None-clause-assigns
 returns-in-None-clause-assigns g c = chain_assigns (under g.H.Host.name_of c.args.self.now g.T.NativeTable.natives) c.args.expr.now
     (assigned_in c.args.new_val) _ _ c.finish-result-in-None.result (runs_free g c) (asks_free g c)
+
+pub returns-in-Some-clause-caches : goal.returns-in-Some-clause-caches
+returns-in-Some-clause-caches g c =
+    rw c.give_back_with_this.ensures.global
+    (returned _ _ _ _ c.take_with_this-run.ensures.caches c.give_back_with_this.ensures.caches)
+
+pub returns-in-None-clause-caches : goal.returns-in-None-clause-caches
+returns-in-None-clause-caches g c =
+    rw c.give_back.ensures.global (returned _ _ _ _ c.take-run.ensures.caches c.give_back.ensures.caches)

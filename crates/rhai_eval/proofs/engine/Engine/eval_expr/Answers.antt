@@ -1,7 +1,9 @@
 use Rattle.std.proofs.Common.{◌≡◌, Option, Some, None, MutBor, ap, refl, subst, sym}
 use Rattle.rhai_values.specs.declared.base.value.Dynamic.{Dynamic}
 use Rattle.rhai_errors.specs.Native.{left_by, lent_value}
-use Rattle.rhai_steps.specs.States.{holding, state_of}
+use Rattle.rhai_lookups.proofs.Returned.{returned}
+use Rattle.rhai_steps.specs.Callers.{state_of}
+use Rattle.rhai_steps.specs.States.{holding}
 use Rattle.rhai_eval_steps.specs.Agreement.{SuitsNames}
 use Rattle.rhai_eval.specs.States.{under}
 use Rattle.rhai_machine.specs.language.Runs.{Runs}
@@ -25,7 +27,7 @@ left_on g c place =
     let types = xs g.row.H g.row.T g.H.laws g.T.laws g.H.Host-dict g.H.Destruct-dict g.T.NativeTable-dict in
     let given : Args (ended_of 9 kinds answer).signature c.lifetimes = (
       c.args.self,
-      (c.args.alloc, (c.args.global, (c.args._caches, (c.args.table, (c.args.scope, (place, (c.args.expr, tt))))))),
+      (c.args.alloc, (c.args.global, (c.args.caches, (c.args.table, (c.args.scope, (place, (c.args.expr, tt))))))),
     ) in
     left_by (at_exit (ended_of 9 kinds answer) c.lifetimes given (lasts_p c.lifetimes 4 kinds types given (
       c.args.self,
@@ -34,14 +36,14 @@ left_on g c place =
         (
           c.args.global,
           (
-            c.args._caches,
+            c.args.caches,
             (
               c.args.table,
               (
                 c.args.scope,
                 (
                   Some (record c.in-Some.place { now = c.give_back_with_this.new.this }),
-                  (c.args.expr, five (five (five (five (five (five (five (tt, tt)))))))),
+                  (c.args.expr, five (five (five (five (five (five (five (five tt)))))))),
                 ),
               ),
             ),
@@ -92,7 +94,7 @@ left_free g c place =
     let types = xs g.row.H g.row.T g.H.laws g.T.laws g.H.Host-dict g.H.Destruct-dict g.T.NativeTable-dict in
     let given : Args (ended_of 9 kinds answer).signature c.lifetimes = (
       c.args.self,
-      (c.args.alloc, (c.args.global, (c.args._caches, (c.args.table, (c.args.scope, (place, (c.args.expr, tt))))))),
+      (c.args.alloc, (c.args.global, (c.args.caches, (c.args.table, (c.args.scope, (place, (c.args.expr, tt))))))),
     ) in
     left_by (at_exit (ended_of 9 kinds answer) c.lifetimes given (lasts_p c.lifetimes 4 kinds types given (
       c.args.self,
@@ -101,12 +103,12 @@ left_free g c place =
         (
           c.args.global,
           (
-            c.args._caches,
+            c.args.caches,
             (
               c.args.table,
               (
                 c.args.scope,
-                (place, (c.args.expr, five (five (five (five (five (five (five (tt, tt))))))))),
+                (place, (c.args.expr, five (five (five (five (five (five (five (five tt))))))))),
               ),
             ),
           ),
@@ -156,3 +158,12 @@ run_expr-done-requires g c = record { resolves = rw c.take_with_this-run.ensures
 pub run_expr-done-requires-in-None : goal.run_expr-done-requires-in-None
 unfolding SuitsNames
 run_expr-done-requires-in-None g c = record { resolves = rw c.take-run.ensures.run c.requires.resolves }
+
+pub returns-in-Some-clause-caches : goal.returns-in-Some-clause-caches
+returns-in-Some-clause-caches g c =
+    rw c.give_back_with_this.ensures.global
+    (returned _ _ _ _ c.take_with_this-run.ensures.caches c.give_back_with_this.ensures.caches)
+
+pub returns-in-None-clause-caches : goal.returns-in-None-clause-caches
+returns-in-None-clause-caches g c =
+    rw c.give_back.ensures.global (returned _ _ _ _ c.take-run.ensures.caches c.give_back.ensures.caches)

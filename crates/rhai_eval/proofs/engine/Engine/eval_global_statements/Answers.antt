@@ -8,7 +8,9 @@ use Rattle.rhai_machine.specs.language.Language.{machine}
 use Rattle.rhai_machine.specs.language.Setting.{cut}
 use Rattle.rhai_laws.proofs.KeptLaws.{grown, names_begin, variables_stay}
 use Rattle.rhai_laws.proofs.ScriptMemory.{runs_up_to_memory}
-use Rattle.rhai_steps.specs.States.{holding, state_of}
+use Rattle.rhai_lookups.proofs.Returned.{returned}
+use Rattle.rhai_steps.specs.Callers.{state_of}
+use Rattle.rhai_steps.specs.States.{holding}
 use Rattle.rhai_eval_steps.specs.Agreement.{SuitsNames}
 use Rattle.rhai_eval_steps.proofs.NameLemmas.{suits_now}
 use Rattle.rhai_eval.specs.States.{under}
@@ -85,3 +87,7 @@ pub run_stmt_block-done-requires : goal.run_stmt_block-done-requires
 unfolding SuitsNames
 run_stmt_block-done-requires g c =
     record { resolves = rw c.statements.ensures.value (suits_now _ _ (c.statements.ensures.resolves _)) }
+
+pub returns-clause-caches : goal.returns-clause-caches
+returns-clause-caches g c =
+    rw c.give_back.ensures.global (returned _ _ _ _ c.take-run.ensures.caches c.give_back.ensures.caches)

@@ -3,7 +3,9 @@ use Rattle.rhai_tree.specs.declared.expr.Stmt.{out-Stmt}
 use Rattle.rhai_values.specs.declared.base.value.Dynamic.{Dynamic}
 use Rattle.rhai_errors.specs.Native.{left_by, lent_value}
 use Rattle.rhai_state.specs.Scope.{names_in}
-use Rattle.rhai_steps.specs.States.{holding, state_of}
+use Rattle.rhai_lookups.proofs.Returned.{returned}
+use Rattle.rhai_steps.specs.Callers.{frame_of, state_of}
+use Rattle.rhai_steps.specs.States.{holding}
 use Rattle.rhai_eval_steps.specs.Agreement.{SuitsNames}
 use Rattle.rhai_eval_steps.proofs.Chain.{on_done}
 use Rattle.rhai_eval_steps.proofs.NameLemmas.{stmt_names}
@@ -19,7 +21,6 @@ use denote.Triple.Entry.{Args}
 use borrow.Fn.Enter.{lasts_p}
 use borrow.Fn.Kinds.{ended_of}
 use Rattle.rhai_eval.proofs.engine.Engine.eval_stmt.Goals as goal
-use Rattle.rhai_steps.specs.Agreement.{frame_of}
 use Rattle.rhai_eval_core.specs.States.{under as under_what_is_read}
 
 -- what stands in the place of `this` as its loan ends, were this the place
@@ -30,7 +31,7 @@ left_on g c place =
     let types = xs g.row.H g.row.T g.H.laws g.T.laws g.H.Host-dict g.H.Destruct-dict g.T.NativeTable-dict in
     let given : Args (ended_of 9 kinds answer).signature c.lifetimes = (
       c.args.self,
-      (c.args.alloc, (c.args.global, (c.args._caches, (c.args.table, (c.args.scope, (place, (c.args.stmt, (c.args.rewind_scope, tt)))))))),
+      (c.args.alloc, (c.args.global, (c.args.caches, (c.args.table, (c.args.scope, (place, (c.args.stmt, (c.args.rewind_scope, tt)))))))),
     ) in
     left_by (at_exit (ended_of 9 kinds answer) c.lifetimes given (lasts_p c.lifetimes 4 kinds types given (
       c.args.self,
@@ -39,14 +40,14 @@ left_on g c place =
         (
           c.args.global,
           (
-            c.args._caches,
+            c.args.caches,
             (
               c.args.table,
               (
                 c.args.scope,
                 (
                   Some (record c.in-Some.place { now = c.give_back_with_this.new.this }),
-                  (c.args.stmt, five (five (five (five (five (five (five (tt, (tt, tt))))))))),
+                  (c.args.stmt, five (five (five (five (five (five (five (five (tt, tt))))))))),
                 ),
               ),
             ),
@@ -102,7 +103,7 @@ left_free g c place =
     let types = xs g.row.H g.row.T g.H.laws g.T.laws g.H.Host-dict g.H.Destruct-dict g.T.NativeTable-dict in
     let given : Args (ended_of 9 kinds answer).signature c.lifetimes = (
       c.args.self,
-      (c.args.alloc, (c.args.global, (c.args._caches, (c.args.table, (c.args.scope, (place, (c.args.stmt, (c.args.rewind_scope, tt)))))))),
+      (c.args.alloc, (c.args.global, (c.args.caches, (c.args.table, (c.args.scope, (place, (c.args.stmt, (c.args.rewind_scope, tt)))))))),
     ) in
     left_by (at_exit (ended_of 9 kinds answer) c.lifetimes given (lasts_p c.lifetimes 4 kinds types given (
       c.args.self,
@@ -111,12 +112,12 @@ left_free g c place =
         (
           c.args.global,
           (
-            c.args._caches,
+            c.args.caches,
             (
               c.args.table,
               (
                 c.args.scope,
-                (place, (c.args.stmt, five (five (five (five (five (five (five (tt, (tt, tt)))))))))),
+                (place, (c.args.stmt, five (five (five (five (five (five (five (five (tt, tt)))))))))),
               ),
             ),
           ),
@@ -197,3 +198,12 @@ run_stmt-done-requires g c = record { resolves = rw c.take_with_this-run.ensures
 pub run_stmt-done-requires-in-None : goal.run_stmt-done-requires-in-None
 unfolding SuitsNames
 run_stmt-done-requires-in-None g c = record { resolves = rw c.take-run.ensures.run c.requires.resolves }
+
+pub returns-in-Some-clause-caches : goal.returns-in-Some-clause-caches
+returns-in-Some-clause-caches g c =
+    rw c.give_back_with_this.ensures.global
+    (returned _ _ _ _ c.take_with_this-run.ensures.caches c.give_back_with_this.ensures.caches)
+
+pub returns-in-None-clause-caches : goal.returns-in-None-clause-caches
+returns-in-None-clause-caches g c =
+    rw c.give_back.ensures.global (returned _ _ _ _ c.take-run.ensures.caches c.give_back.ensures.caches)

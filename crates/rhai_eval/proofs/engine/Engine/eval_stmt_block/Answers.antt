@@ -1,7 +1,9 @@
 use Rattle.std.proofs.Common.{◌≡◌, Option, Some, None, MutBor, ap, refl, subst, sym}
 use Rattle.rhai_values.specs.declared.base.value.Dynamic.{Dynamic}
 use Rattle.rhai_errors.specs.Native.{left_by, lent_value}
-use Rattle.rhai_steps.specs.States.{holding, state_of}
+use Rattle.rhai_lookups.proofs.Returned.{returned}
+use Rattle.rhai_steps.specs.Callers.{state_of}
+use Rattle.rhai_steps.specs.States.{holding}
 use Rattle.rhai_eval_steps.specs.Agreement.{SuitsNames}
 use Rattle.rhai_eval.specs.States.{under}
 use Rattle.rhai_machine.specs.language.Runs.{Runs}
@@ -31,7 +33,7 @@ left_on g c place =
         (
           c.args.global,
           (
-            c.args._caches,
+            c.args.caches,
             (
               c.args.table,
               (
@@ -50,14 +52,14 @@ left_on g c place =
         (
           c.args.global,
           (
-            c.args._caches,
+            c.args.caches,
             (
               c.args.table,
               (
                 c.args.scope,
                 (
                   Some (record c.in-Some.place { now = c.give_back_with_this.new.this }),
-                  (c.args.statements, five (five (five (five (five (five (five (tt, (tt, tt))))))))),
+                  (c.args.statements, five (five (five (five (five (five (five (five (tt, tt))))))))),
                 ),
               ),
             ),
@@ -124,7 +126,7 @@ left_free g c place =
         (
           c.args.global,
           (
-            c.args._caches,
+            c.args.caches,
             (
               c.args.table,
               (
@@ -143,12 +145,12 @@ left_free g c place =
         (
           c.args.global,
           (
-            c.args._caches,
+            c.args.caches,
             (
               c.args.table,
               (
                 c.args.scope,
-                (place, (c.args.statements, five (five (five (five (five (five (five (tt, (tt, tt)))))))))),
+                (place, (c.args.statements, five (five (five (five (five (five (five (five (tt, tt)))))))))),
               ),
             ),
           ),
@@ -219,3 +221,12 @@ run_stmt_block-done-requires g c = record { resolves = rw c.take_with_this-run.e
 pub run_stmt_block-done-requires-in-None : goal.run_stmt_block-done-requires-in-None
 unfolding SuitsNames
 run_stmt_block-done-requires-in-None g c = record { resolves = rw c.take-run.ensures.run c.requires.resolves }
+
+pub returns-in-Some-clause-caches : goal.returns-in-Some-clause-caches
+returns-in-Some-clause-caches g c =
+    rw c.give_back_with_this.ensures.global
+    (returned _ _ _ _ c.take_with_this-run.ensures.caches c.give_back_with_this.ensures.caches)
+
+pub returns-in-None-clause-caches : goal.returns-in-None-clause-caches
+returns-in-None-clause-caches g c =
+    rw c.give_back.ensures.global (returned _ _ _ _ c.take-run.ensures.caches c.give_back.ensures.caches)

@@ -7,7 +7,8 @@ use Rattle.rhai_machine.specs.language.Calls.{dispatch_core}
 use Rattle.rhai_machine.specs.language.Frames.{Operation}
 use Rattle.rhai_machine.specs.language.Setting.{Rules}
 use Rattle.rhai_machine.specs.language.State.{Held}
-use Rattle.rhai_steps.specs.States.{state_of}
+use Rattle.rhai_lookups.proofs.Returned.{left_twice}
+use Rattle.rhai_steps.specs.Callers.{state_of}
 use Rattle.rhai_eval.specs.Places.{by_name, by_value, left_of, on_place, loan_start, with_place}
 use Rattle.rhai_eval.specs.States.{under}
 use Rattle.rhai_eval.proofs.Dispatching.{out_runs}
@@ -36,7 +37,7 @@ scope_left_1 g c place =
         (
           c.args.global,
           (
-            c.args._caches,
+            c.args.caches,
             (
               c.args.table,
               (
@@ -70,7 +71,7 @@ scope_left_1 g c place =
         (
           c.args.global,
           (
-            c.args._caches,
+            c.args.caches,
             (
               c.args.table,
               (
@@ -81,7 +82,7 @@ scope_left_1 g c place =
                     c.args.op_token,
                     (
                       Some (record c.in-Some.first { now = c.call_on-outcome.new.first }),
-                      (c.args.rest, five (five (five (five (five (five (five (five (five (five (tt, (tt, tt)))))))))))),
+                      (c.args.rest, five (five (five (five (five (five (five (five (five (five (five (tt, (tt, tt))))))))))))),
                     ),
                   ),
                 ),
@@ -108,7 +109,7 @@ first_left_1 g c place =
         (
           c.args.global,
           (
-            c.args._caches,
+            c.args.caches,
             (
               c.args.table,
               (
@@ -133,7 +134,7 @@ first_left_1 g c place =
         (
           c.args.global,
           (
-            c.args._caches,
+            c.args.caches,
             (
               c.args.table,
               (
@@ -144,7 +145,7 @@ first_left_1 g c place =
                     c.args.op_token,
                     (
                       Some (record c.in-Some.first { now = c.call_on-outcome.new.first }),
-                      (c.args.rest, five (five (five (five (five (five (five (five (five (five (tt, (tt, tt)))))))))))),
+                      (c.args.rest, five (five (five (five (five (five (five (five (five (five (five (tt, (tt, tt))))))))))))),
                     ),
                   ),
                 ),
@@ -303,7 +304,7 @@ scope_left_2 g c place =
         (
           c.args.global,
           (
-            c.args._caches,
+            c.args.caches,
             (
               c.args.table,
               (
@@ -337,7 +338,7 @@ scope_left_2 g c place =
         (
           c.args.global,
           (
-            c.args._caches,
+            c.args.caches,
             (
               c.args.table,
               (
@@ -348,7 +349,7 @@ scope_left_2 g c place =
                     c.args.op_token,
                     (
                       Some (record c.in-Some.first { now = c.call_with-outcome.new.first }),
-                      (c.args.rest, five (five (five (five (five (five (five (five (five (five (tt, (tt, tt)))))))))))),
+                      (c.args.rest, five (five (five (five (five (five (five (five (five (five (five (tt, (tt, tt))))))))))))),
                     ),
                   ),
                 ),
@@ -375,7 +376,7 @@ first_left_2 g c place =
         (
           c.args.global,
           (
-            c.args._caches,
+            c.args.caches,
             (
               c.args.table,
               (
@@ -400,7 +401,7 @@ first_left_2 g c place =
         (
           c.args.global,
           (
-            c.args._caches,
+            c.args.caches,
             (
               c.args.table,
               (
@@ -411,7 +412,7 @@ first_left_2 g c place =
                     c.args.op_token,
                     (
                       Some (record c.in-Some.first { now = c.call_with-outcome.new.first }),
-                      (c.args.rest, five (five (five (five (five (five (five (five (five (five (tt, (tt, tt)))))))))))),
+                      (c.args.rest, five (five (five (five (five (five (five (five (five (five (five (tt, (tt, tt))))))))))))),
                     ),
                   ),
                 ),
@@ -529,7 +530,7 @@ scope_left_3 g c place =
         (
           c.args.global,
           (
-            c.args._caches,
+            c.args.caches,
             (
               c.args.table,
               (
@@ -563,7 +564,7 @@ scope_left_3 g c place =
         (
           c.args.global,
           (
-            c.args._caches,
+            c.args.caches,
             (
               c.args.table,
               (
@@ -579,7 +580,7 @@ scope_left_3 g c place =
                       c.args.first,
                       (
                         c.args.rest,
-                        five (five (five (five (five (five (five (five (five (five (tt, (tt, tt))))))))))),
+                        five (five (five (five (five (five (five (five (five (five (five (tt, (tt, tt)))))))))))),
                       ),
                     ),
                   ),
@@ -681,7 +682,7 @@ scope_left_4 g c place =
         (
           c.args.global,
           (
-            c.args._caches,
+            c.args.caches,
             (
               c.args.table,
               (
@@ -715,7 +716,7 @@ scope_left_4 g c place =
         (
           c.args.global,
           (
-            c.args._caches,
+            c.args.caches,
             (
               c.args.table,
               (
@@ -728,7 +729,7 @@ scope_left_4 g c place =
                       c.args.first,
                       (
                         c.args.rest,
-                        five (five (five (five (five (five (five (five (five (five (tt, (tt, tt))))))))))),
+                        five (five (five (five (five (five (five (five (five (five (five (tt, (tt, tt)))))))))))),
                       ),
                     ),
                   ),
@@ -815,7 +816,7 @@ first_left_3 g c place =
         (
           c.args.global,
           (
-            c.args._caches,
+            c.args.caches,
             (
               c.args.table,
               (
@@ -840,7 +841,7 @@ first_left_3 g c place =
         (
           c.args.global,
           (
-            c.args._caches,
+            c.args.caches,
             (
               c.args.table,
               (
@@ -856,7 +857,7 @@ first_left_3 g c place =
                       place,
                       (
                         c.args.rest,
-                        five (five (five (five (five (five (five (five (five (five (tt, (tt, tt))))))))))),
+                        five (five (five (five (five (five (five (five (five (five (five (tt, (tt, tt)))))))))))),
                       ),
                     ),
                   ),
@@ -888,7 +889,7 @@ first_left_4 g c place =
         (
           c.args.global,
           (
-            c.args._caches,
+            c.args.caches,
             (
               c.args.table,
               (
@@ -913,7 +914,7 @@ first_left_4 g c place =
         (
           c.args.global,
           (
-            c.args._caches,
+            c.args.caches,
             (
               c.args.table,
               (
@@ -926,7 +927,7 @@ first_left_4 g c place =
                       place,
                       (
                         c.args.rest,
-                        five (five (five (five (five (five (five (five (five (five (tt, (tt, tt))))))))))),
+                        five (five (five (five (five (five (five (five (five (five (five (tt, (tt, tt)))))))))))),
                       ),
                     ),
                   ),
@@ -955,3 +956,31 @@ returns-in-Some-scope-2-clause-rest g c = rw c.in-None.is refl
 
 pub returns-in-None-scope-2-clause-rest : goal.returns-in-None-scope-2-clause-rest
 returns-in-None-scope-2-clause-rest g c = rw c.in-None.is refl
+
+pub finish_on_scope-requires : goal.finish_on_scope-requires
+finish_on_scope-requires g c = record { fit = c.call_on-outcome.ensures.caches.fit; right = c.call_on-outcome.ensures.caches.right }
+
+pub returns-in-Some-scope-clause-caches : goal.returns-in-Some-scope-clause-caches
+returns-in-Some-scope-clause-caches g c = left_twice _ _ _ _ _ c.call_on-outcome.ensures.caches c.finish_on_scope.ensures.caches
+
+pub finish_fresh-requires : goal.finish_fresh-requires
+finish_fresh-requires g c = record { fit = c.call_with-outcome.ensures.caches.fit; right = c.call_with-outcome.ensures.caches.right }
+
+pub returns-in-None-scope-clause-caches : goal.returns-in-None-scope-clause-caches
+returns-in-None-scope-clause-caches g c = left_twice _ _ _ _ _ c.call_with-outcome.ensures.caches c.finish_fresh.ensures.caches
+
+pub finish_on_scope-requires-in-Some-scope-2 : goal.finish_on_scope-requires-in-Some-scope-2
+finish_on_scope-requires-in-Some-scope-2 g c =
+    record { fit = c.begin_bare_call-outcome.ensures.caches.fit; right = c.begin_bare_call-outcome.ensures.caches.right }
+
+pub returns-in-Some-scope-2-clause-caches : goal.returns-in-Some-scope-2-clause-caches
+returns-in-Some-scope-2-clause-caches g c =
+    left_twice _ _ _ _ _ c.begin_bare_call-outcome.ensures.caches c.finish_on_scope-in-Some-scope-2.ensures.caches
+
+pub finish_fresh-requires-in-None-scope-2 : goal.finish_fresh-requires-in-None-scope-2
+finish_fresh-requires-in-None-scope-2 g c =
+    record { fit = c.begin_bare_call-outcome.ensures.caches.fit; right = c.begin_bare_call-outcome.ensures.caches.right }
+
+pub returns-in-None-scope-2-clause-caches : goal.returns-in-None-scope-2-clause-caches
+returns-in-None-scope-2-clause-caches g c =
+    left_twice _ _ _ _ _ c.begin_bare_call-outcome.ensures.caches c.finish_fresh-in-None-scope-2.ensures.caches

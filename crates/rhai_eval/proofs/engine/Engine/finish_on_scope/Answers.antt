@@ -3,7 +3,8 @@ use Rattle.rhai_machine.specs.language.Activations.{NoThis}
 use Rattle.rhai_machine.specs.language.Calls.{entry_of}
 use Rattle.rhai_machine.specs.language.Frames.{EnterFunction}
 use Rattle.rhai_machine.specs.language.Runs.{Runs}
-use Rattle.rhai_steps.specs.States.{state_of}
+use Rattle.rhai_lookups.proofs.Returned.{left_alone, returned}
+use Rattle.rhai_steps.specs.Callers.{state_of}
 use Rattle.rhai_eval.specs.States.{under}
 use Rattle.rhai_eval.proofs.Dispatching.{ended_runs, entered_runs}
 use Rattle.rhai_eval.proofs.Public.{handed_held, same_rules}
@@ -28,3 +29,10 @@ returns-in-Enters-clause-runs g c held =
     c.in-Enters.args (state_of (g.T.NativeTable.state c.args.table.now) c.args.global.now c.args.scope.now held)
     (state_of (g.T.NativeTable.state c.enter_captured-done.new.table) c.give_back.new.global c.give_back.new.scope held)
     c.finish-result.result c.tell_changed.result c.in-Enters.is c.tell_changed.ensures runs
+
+pub returns-in-Ended-clause-caches : goal.returns-in-Ended-clause-caches
+returns-in-Ended-clause-caches g c = left_alone _ _ c.requires.fit c.requires.right
+
+pub returns-in-Enters-clause-caches : goal.returns-in-Enters-clause-caches
+returns-in-Enters-clause-caches g c =
+    rw c.give_back.ensures.global (returned _ _ _ _ c.take-run.ensures.caches c.give_back.ensures.caches)

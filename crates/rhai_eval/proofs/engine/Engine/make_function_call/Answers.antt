@@ -1,7 +1,9 @@
 use Rattle.std.proofs.Common.{◌≡◌, Option, Some, None, MutBor, ap, refl, subst, sym}
 use Rattle.rhai_values.specs.declared.base.value.Dynamic.{Dynamic}
 use Rattle.rhai_errors.specs.Native.{left_by, lent_value}
-use Rattle.rhai_steps.specs.States.{holding, state_of}
+use Rattle.rhai_lookups.proofs.Returned.{returned}
+use Rattle.rhai_steps.specs.Callers.{state_of}
+use Rattle.rhai_steps.specs.States.{holding}
 use Rattle.rhai_eval_steps.specs.Agreement.{SuitsNames}
 use Rattle.rhai_eval.specs.States.{under}
 use Rattle.std.specs.Option.{option_copied}
@@ -33,7 +35,7 @@ left_on g c place =
         (
           c.args.global,
           (
-            c.args._caches,
+            c.args.caches,
             (
               c.args.table,
               (
@@ -67,7 +69,7 @@ left_on g c place =
         (
           c.args.global,
           (
-            c.args._caches,
+            c.args.caches,
             (
               c.args.table,
               (
@@ -82,7 +84,7 @@ left_on g c place =
                         c.args.first_arg,
                         (
                           c.args.args_expr,
-                          five (five (five (five (five (five (five (five (five (tt, (tt, (tt, (tt, tt)))))))))))),
+                          five (five (five (five (five (five (five (five (five (five (tt, (tt, (tt, tt)))))))))))),
                         ),
                       ),
                     ),
@@ -160,7 +162,7 @@ left_free g c place =
         (
           c.args.global,
           (
-            c.args._caches,
+            c.args.caches,
             (
               c.args.table,
               (
@@ -194,7 +196,7 @@ left_free g c place =
         (
           c.args.global,
           (
-            c.args._caches,
+            c.args.caches,
             (
               c.args.table,
               (
@@ -209,7 +211,7 @@ left_free g c place =
                         c.args.first_arg,
                         (
                           c.args.args_expr,
-                          five (five (five (five (five (five (five (five (five (tt, (tt, (tt, (tt, tt)))))))))))),
+                          five (five (five (five (five (five (five (five (five (five (tt, (tt, (tt, tt)))))))))))),
                         ),
                       ),
                     ),
@@ -277,3 +279,12 @@ run_call-done-requires g c = rw c.take_with_this-run.ensures.run c.requires.reso
 pub run_call-done-requires-in-None : goal.run_call-done-requires-in-None
 unfolding SuitsNames
 run_call-done-requires-in-None g c = rw c.take-run.ensures.run c.requires.resolves
+
+pub returns-in-Some-clause-caches : goal.returns-in-Some-clause-caches
+returns-in-Some-clause-caches g c =
+    rw c.give_back_with_this.ensures.global
+    (returned _ _ _ _ c.take_with_this-run.ensures.caches c.give_back_with_this.ensures.caches)
+
+pub returns-in-None-clause-caches : goal.returns-in-None-clause-caches
+returns-in-None-clause-caches g c =
+    rw c.give_back.ensures.global (returned _ _ _ _ c.take-run.ensures.caches c.give_back.ensures.caches)

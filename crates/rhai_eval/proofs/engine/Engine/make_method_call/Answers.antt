@@ -7,7 +7,8 @@ use Rattle.rhai_machine.specs.language.Methods.{Method, method_core}
 use Rattle.rhai_machine.specs.language.Runs.{Goes}
 use Rattle.rhai_machine.specs.language.Frames.{core, ended_or_changed}
 use Rattle.rhai_calls.specs.Targets.{on_target, value_walked_on}
-use Rattle.rhai_steps.specs.States.{state_of}
+use Rattle.rhai_lookups.proofs.Returned.{returned}
+use Rattle.rhai_steps.specs.Callers.{state_of}
 use Rattle.rhai_context.specs.declared.Context.{Context}
 use Rattle.rhai_eval.specs.Ends.{EndsAlone}
 use Rattle.rhai_eval.specs.Places.{with_place}
@@ -71,3 +72,7 @@ returns-clause-shows g c scope this memory =
 pub returns-clause-search : goal.returns-clause-search
 returns-clause-search g c = ap (λ (global : GlobalRuntimeState _). global.always_search_scope) c.give_back.ensures.global
     ∙ c.take-run.ensures.search
+
+pub returns-clause-caches : goal.returns-clause-caches
+returns-clause-caches g c =
+    rw c.give_back.ensures.global (returned _ _ _ _ c.take-run.ensures.caches c.give_back.ensures.caches)

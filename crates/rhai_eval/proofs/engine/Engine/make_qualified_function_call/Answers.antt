@@ -1,7 +1,9 @@
 use Rattle.std.proofs.Common.{◌≡◌, ℕ, Bool, true, false, List, Option, Some, None, MutBor, ap, refl, subst, sym}
 use Rattle.rhai_values.specs.declared.base.value.Dynamic.{Dynamic}
 use Rattle.rhai_errors.specs.Native.{left_by, lent_value}
-use Rattle.rhai_steps.specs.States.{holding, state_of}
+use Rattle.rhai_lookups.proofs.Returned.{returned}
+use Rattle.rhai_steps.specs.Callers.{state_of}
+use Rattle.rhai_steps.specs.States.{holding}
 use Rattle.rhai_eval.specs.States.{under}
 use Rattle.rhai_machine.specs.language.Runs.{Runs}
 use Rattle.rhai_laws.proofs.KeptLaws.{kept, names_stay}
@@ -45,7 +47,7 @@ left_on g c place =
         (
           c.args.global,
           (
-            c.args._caches,
+            c.args.caches,
             (
               c.args.table,
               (
@@ -64,7 +66,7 @@ left_on g c place =
         (
           c.args.global,
           (
-            c.args._caches,
+            c.args.caches,
             (
               c.args.table,
               (
@@ -77,7 +79,7 @@ left_on g c place =
                       c.args.fn_name,
                       (
                         c.args.args_expr,
-                        five (five (five (five (five (five (five (tt, (tt, tt)))))))),
+                        five (five (five (five (five (five (five (five (tt, tt)))))))),
                       ),
                     ),
                   ),
@@ -142,7 +144,7 @@ left_free g c place =
         (
           c.args.global,
           (
-            c.args._caches,
+            c.args.caches,
             (
               c.args.table,
               (
@@ -161,7 +163,7 @@ left_free g c place =
         (
           c.args.global,
           (
-            c.args._caches,
+            c.args.caches,
             (
               c.args.table,
               (
@@ -174,7 +176,7 @@ left_free g c place =
                       c.args.fn_name,
                       (
                         c.args.args_expr,
-                        five (five (five (five (five (five (five (tt, (tt, tt)))))))),
+                        five (five (five (five (five (five (five (five (tt, tt)))))))),
                       ),
                     ),
                   ),
@@ -233,3 +235,12 @@ run_qualified_call-done-requires-clause-resolves g c = rw c.take_with_this-run.e
 pub run_qualified_call-done-requires-in-None-clause-resolves : goal.run_qualified_call-done-requires-in-None-clause-resolves
 unfolding SuitsNames
 run_qualified_call-done-requires-in-None-clause-resolves g c = rw c.take-run.ensures.run c.requires.resolves
+
+pub returns-in-Some-clause-caches : goal.returns-in-Some-clause-caches
+returns-in-Some-clause-caches g c =
+    rw c.give_back_with_this.ensures.global
+    (returned _ _ _ _ c.take_with_this-run.ensures.caches c.give_back_with_this.ensures.caches)
+
+pub returns-in-None-clause-caches : goal.returns-in-None-clause-caches
+returns-in-None-clause-caches g c =
+    rw c.give_back.ensures.global (returned _ _ _ _ c.take-run.ensures.caches c.give_back.ensures.caches)

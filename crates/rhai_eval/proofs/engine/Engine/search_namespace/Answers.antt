@@ -2,7 +2,7 @@ use Rattle.std.proofs.Common.{ap}
 use Rattle.rhai_tree.specs.declared.expr.Expr.{out-Expr}
 use Rattle.rhai_machine.specs.language.Setting.{globals_of}
 use Rattle.rhai_state.specs.Scope.{entries_of}
-use Rattle.rhai_steps.specs.States.{surroundings_of}
+use Rattle.rhai_steps.specs.Callers.{surroundings_of}
 use Rattle.rhai_steps.proofs.Pieces.{passed}
 use Rattle.rhai_eval.specs.States.{offer_of}
 use Rattle.rhai_eval.proofs.Searching.{found_in_module, found_in_scope, missed_in_module}
@@ -14,7 +14,7 @@ returns-then-is_behind_path-clause-found g c =
     rw c.spare_mut.ensures.value (found_in_module global.always_search_scope (globals_of (offer_of c.args.self.now))
     (surroundings_of global)
     (entries_of c.args.scope.now) (out-Expr c.args.expr.now) _ (c.is_behind_path.ensures.behind c.if-is_behind_path.true)
-    (rw (ap globals_of c.session.ensures.offer) at c.in_ok-value.ensures))
+    (rw (ap globals_of c.session.ensures.offer) at c.in_ok-value.ensures.found))
 
 pub returns-in_err-value-clause-missed : goal.returns-in_err-value-clause-missed
 returns-in_err-value-clause-missed g c =
@@ -22,7 +22,7 @@ returns-in_err-value-clause-missed g c =
     missed_in_module global.always_search_scope (globals_of (offer_of c.args.self.now)) (surroundings_of global) (entries_of
     c.args.scope.now)
     (out-Expr c.args.expr.now) c.from_residual.result _ (c.is_behind_path.ensures.behind c.if-is_behind_path.true)
-    (passed c.from_residual.result c.from_residual.ensures) (rw (ap globals_of c.session.ensures.offer) at c.in_err-value.ensures)
+    (passed c.from_residual.result c.from_residual.ensures) (rw (ap globals_of c.session.ensures.offer) at c.in_err-value.ensures.found)
 
 pub value_behind-requires : goal.value_behind-requires
 value_behind-requires g c = record {

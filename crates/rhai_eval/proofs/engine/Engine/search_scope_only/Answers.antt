@@ -2,7 +2,7 @@ use Rattle.std.proofs.Common.{Ok, ap, ◌∙◌}
 use Rattle.rhai_tree.specs.declared.expr.Expr.{out-Expr}
 use Rattle.rhai_machine.specs.language.Setting.{globals_of}
 use Rattle.rhai_state.specs.Scope.{entries_of}
-use Rattle.rhai_steps.specs.States.{surroundings_of}
+use Rattle.rhai_steps.specs.Callers.{surroundings_of}
 use Rattle.rhai_steps.proofs.Pieces.{passed}
 use Rattle.rhai_eval.specs.Search.{value_there}
 use Rattle.rhai_eval.specs.States.{offer_of}

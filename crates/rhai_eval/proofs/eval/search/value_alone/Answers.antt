@@ -2,7 +2,7 @@ use Rattle.std.proofs.Common.{refl}
 use Rattle.rhai_tree.specs.declared.expr.Expr.{out-Expr}
 use Rattle.rhai_tree.specs.declared.expr.Expr.TheVariants as exprs
 use Rattle.rhai_steps.specs.Offers.{globals_in}
-use Rattle.rhai_steps.specs.States.{surroundings_of}
+use Rattle.rhai_steps.specs.Callers.{surroundings_of}
 use Rattle.rhai_eval.proofs.Searching.{alone_beside}
 use Rattle.rhai_eval.proofs.eval.search.value_alone.Goals as goal
 

@@ -1,11 +1,14 @@
-use Rattle.std.proofs.Common.{length, refl}
-use Rattle.rhai_tree.specs.declared.expr.Expr.{out-Expr}
-use Rattle.rhai_tree.specs.declared.expr.Expr.TheVariants as exprs
-use Rattle.rhai_eval.proofs.Searching.{index_fits}
+use Rattle.std.proofs.Common.{refl, ◌∙◌}
 use Rattle.rhai_eval.proofs.eval.search.value_behind.Goals as goal
 
-pub search_path-requires : goal.search_path-requires
-search_path-requires g c =
-    index_fits c.args.global.now.always_search_scope (out-Expr c.args.expr.now) c.in-Variable.offset c.in-Variable.name
-    c.in-Variable.namespace c.in-Variable.pos (length c.args.global.now.imports) (rw (c.in-Variable.is, exprs.outs-Variable) refl)
-    c.requires.behind c.requires.fits
+pub value_in_run-found-requires : goal.value_in_run-found-requires
+value_in_run-found-requires g c =
+    rw c.lend_state-run.ensures.run
+    (record { variable = c.requires.variable; behind = c.requires.behind; fits = c.requires.fits })
+
+pub returns-clause-found : goal.returns-clause-found
+returns-clause-found g c = rw c.lend_state-run.ensures.run at c.value_in_run-found.ensures
+
+pub returns-clause-same : goal.returns-clause-same
+returns-clause-same g c =
+    c.return_state.ensures ∙ (rw (c.lend_state-run.ensures.run, c.lend_state-run.ensures.search) refl)

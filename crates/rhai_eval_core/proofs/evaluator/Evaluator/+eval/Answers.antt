@@ -171,11 +171,17 @@ run_function-run_plain_call-requires = calls.run_function-run_plain_call-require
 pub run_function-returns-in-Some-clause-runs : goal.run_function-returns-in-Some-clause-runs
 run_function-returns-in-Some-clause-runs = calls.run_function-returns-in-Some-clause-runs
 
+pub run_function-returns-in-Some-clause-names : goal.run_function-returns-in-Some-clause-names
+run_function-returns-in-Some-clause-names = calls.run_function-returns-in-Some-clause-names
+
 pub run_function-run_qualified_call-requires : goal.run_function-run_qualified_call-requires
 run_function-run_qualified_call-requires = calls.run_function-run_qualified_call-requires
 
 pub run_function-returns-then-not-is_plain-clause-runs : goal.run_function-returns-then-not-is_plain-clause-runs
 run_function-returns-then-not-is_plain-clause-runs = calls.run_function-returns-then-not-is_plain-clause-runs
+
+pub run_function-returns-then-not-is_plain-clause-names : goal.run_function-returns-then-not-is_plain-clause-names
+run_function-returns-then-not-is_plain-clause-names = calls.run_function-returns-then-not-is_plain-clause-names
 
 pub run_function-returns-in-Some-at_once-clause-runs : goal.run_function-returns-in-Some-at_once-clause-runs
 run_function-returns-in-Some-at_once-clause-runs = calls.run_function-returns-in-Some-at_once-clause-runs
@@ -1390,8 +1396,8 @@ run_stmt_block-returns-clause-runs = statements.run_stmt_block-returns-clause-ru
 pub run_stmt_block-returns-clause-restores : goal.run_stmt_block-returns-clause-restores
 run_stmt_block-returns-clause-restores = statements.run_stmt_block-returns-clause-restores
 
-pub run_stmt_block-run_statements-requires : goal.run_stmt_block-run_statements-requires
-run_stmt_block-run_statements-requires = statements.run_stmt_block-run_statements-requires
+pub run_stmt_block-run_statements-ended-requires : goal.run_stmt_block-run_statements-ended-requires
+run_stmt_block-run_statements-ended-requires = statements.run_stmt_block-run_statements-ended-requires
 
 pub run_stmt_block-run_statements-done-requires : goal.run_stmt_block-run_statements-done-requires
 run_stmt_block-run_statements-done-requires = statements.run_stmt_block-run_statements-done-requires

@@ -1,7 +1,7 @@
 use Rattle.std.proofs.Common.{◌≡◌, false, true, None, Some, length, refl, ap, ◌∙◌, arith}
 use Rattle.std.specs.Option.{option_copied}
 use Rattle.rhai_state.specs.Scope.{entries_of, names_in}
-use Rattle.rhai_state.specs.declared.state.GlobalRuntimeState.{GlobalRuntimeState}
+use Rattle.rhai_lookups.specs.declared.run.RunState.{RunState}
 use Rattle.rhai_machine.specs.machine.Memory.{here, ◌⨾◌}
 use Rattle.rhai_machine.specs.language.Activations.{NoThis, OwnThis, TheFocus}
 use Rattle.rhai_machine.specs.language.Calls.{entry_of}
@@ -56,13 +56,13 @@ pub run_body-run_stmt_block-done-requires : goal.run_body-run_stmt_block-done-re
 unfolding ChangesNames KeepsNames RestoresNames SuitsNames
 run_body-run_stmt_block-done-requires g t c =
     let resolved = body_resolves c.args.def.now c.args.args.now (entries_of c.args.run.now.scope) (entries_of c.open_function.new.scope)
-    (imports_in c.open_function.new.global.imports) c.def-def.ensures.resolves (rw (c.in-Ok-Some.field-0-is, c.def-def.ensures.value) at
+    (imports_in c.open_function.new.global.lists.1) c.def-def.ensures.resolves (rw (c.in-Ok-Some.field-0-is, c.def-def.ensures.value) at
     c.in-Ok-Some.ensures.variables) in
     λ κs lives. (
       omega (
         arith,
         c.if-not-charge.ensures.room refl,
-        ap (λ (global : GlobalRuntimeState _). global.num_operations) (c.if-not-charge.ensures.charged refl),
+        ap (λ (global : RunState _). global.num_operations) (c.if-not-charge.ensures.charged refl),
         brings_no_charge (option_copied c.args.environ) c.args.level c.charge.new.global c.open_function.new.global
             (rw c.in-Ok-Some.field-0-is at c.in-Ok-Some.ensures.state),
       ),
@@ -89,11 +89,11 @@ run_body-returns-in-Ok-Some-clause-charges g t c done =
     let outcome = came c.run_stmt_block-done.result c.run_stmt_block-done.new.run.value c.run_stmt_block-done.new.run.error in
     omega (
       arith,
-      ap (λ (global : GlobalRuntimeState _). global.num_operations) (c.if-not-charge.ensures.charged refl),
+      ap (λ (global : RunState _). global.num_operations) (c.if-not-charge.ensures.charged refl),
       brings_no_charge (option_copied c.args.environ) c.args.level c.charge.new.global c.open_function.new.global
           (rw c.in-Ok-Some.field-0-is at c.in-Ok-Some.ensures.state),
       counted rules (Enter c.statements_of-statements.result.now c.args.restores) (ended outcome) _ _ c.run_stmt_block-done.ensures.runs,
-      ap (λ (global : GlobalRuntimeState _). global.num_operations) c.close_body.ensures.state,
+      ap (λ (global : RunState _). global.num_operations) c.close_body.ensures.state,
     )
 
 pub run_body-returns-in-Ok-Some-clause-runs : goal.run_body-returns-in-Ok-Some-clause-runs

@@ -1,7 +1,7 @@
 use Rattle.std.proofs.Common.{[], ◌∷◌, refl, sym, ap, ◌∙◌, arith, is_some}
 use Rattle.rhai_steps.specs.States.{holding}
 use Rattle.rhai_state.specs.Scope.{names_in}
-use Rattle.rhai_state.specs.declared.state.GlobalRuntimeState.{GlobalRuntimeState}
+use Rattle.rhai_lookups.specs.declared.run.RunState.{RunState}
 use Rattle.rhai_machine.specs.machine.Machine.{Go}
 use Rattle.rhai_machine.specs.machine.Point.{after}
 use Rattle.rhai_machine.specs.machine.Memory.{here, next, ◌⨾◌}
@@ -124,23 +124,27 @@ run_unary-returns-clause-runs g t c k =
 pub run_function-run_plain_call-requires : goal.run_function-run_plain_call-requires
 unfolding ChangesNames KeepsNames RestoresNames SuitsNames
 run_function-run_plain_call-requires g t c =
-    λ κs lives. (
+    rw c.plain_callee.ensures.same (λ κs lives. (
       omega arith,
-      (lives.0, (lives.1, (brings (operands_of_call c.args.call.now c.args.pos) c.requires.resolves, c.in-Some.ensures))),
-    )
+      (lives.0, (lives.1, (brings (operands_of_call c.args.call.now c.args.pos) c.requires.resolves, c.in-Some.ensures.plain))),
+    ))
 
 pub run_function-returns-in-Some-clause-runs : goal.run_function-returns-in-Some-clause-runs
 unfolding Goes
 run_function-returns-in-Some-clause-runs g t c k =
     let rules = under g.H.Host.name_of c.args.self.now g.T.NativeTable.natives in
-    plain_begins rules c.args.call.now c.args.run.now.global.lib c.in-Some.function
-    c.in-Some.ensures c.args.pos k _ c.requires.form
-    ⨾ c.run_plain_call.ensures.runs k
+    plain_begins rules c.args.call.now c.args.run.now.global.lists.0 c.in-Some.function
+    c.in-Some.ensures.plain c.args.pos k _ c.requires.form
+    ⨾ (rw c.plain_callee.ensures.same at c.run_plain_call.ensures.runs) k
+
+pub run_function-returns-in-Some-clause-names : goal.run_function-returns-in-Some-clause-names
+run_function-returns-in-Some-clause-names g t c done =
+    rw c.plain_callee.ensures.same at (c.run_plain_call.ensures.names done)
 
 pub run_function-run_qualified_call-requires : goal.run_function-run_qualified_call-requires
 unfolding ChangesNames KeepsNames RestoresNames SuitsNames
 run_function-run_qualified_call-requires g t c =
-    λ κs lives. (
+    rw c.plain_callee.ensures.same (λ κs lives. (
       omega arith,
       (
         lives.0,
@@ -152,28 +156,32 @@ run_function-run_qualified_call-requires g t c =
           ),
         ),
       ),
-    )
+    ))
 
 pub run_function-returns-then-not-is_plain-clause-runs : goal.run_function-returns-then-not-is_plain-clause-runs
 run_function-returns-then-not-is_plain-clause-runs g t c =
-    (rw (c.as_slice.ensures, c.as_str-name.ensures, c.get.ensures) at c.run_qualified_call.ensures.runs)
+    (rw (c.plain_callee.ensures.same, c.as_slice.ensures, c.as_str-name.ensures, c.get.ensures) at c.run_qualified_call.ensures.runs)
     c.args.call.now.op_token c.args.call.now.capture_parent_scope c.requires.form
+
+pub run_function-returns-then-not-is_plain-clause-names : goal.run_function-returns-then-not-is_plain-clause-names
+run_function-returns-then-not-is_plain-clause-names g t c done =
+    rw c.plain_callee.ensures.same at (c.run_qualified_call.ensures.names done)
 
 pub run_function-returns-in-Some-at_once-clause-runs : goal.run_function-returns-in-Some-at_once-clause-runs
 run_function-returns-in-Some-at_once-clause-runs g t c =
-    c.in-Some-at_once.ensures.runs (holding c.args.run.now.this)
+    rw c.plain_callee.ensures.same at (c.in-Some-at_once.ensures.runs (holding c.args.run.now.this))
 
 pub run_function-run_call-requires : goal.run_function-run_call-requires
 unfolding ChangesNames KeepsNames RestoresNames SuitsNames
 run_function-run_call-requires g t c =
     λ κs lives. (
-      omega (arith, c.call_at_once-at_once.ensures.counts),
+      omega (arith, rw c.plain_callee.ensures.same at c.call_at_once-at_once.ensures.counts),
       (
         lives.0,
         (
           lives.1,
           rw (← c.parts_of_call.ensures.args)
-              (same c.call_at_once-at_once.ensures.sight c.call_at_once-at_once.ensures.names
+              (same (rw c.plain_callee.ensures.same at c.call_at_once-at_once.ensures.sight) c.call_at_once-at_once.ensures.names
               (brings (operands_of_call c.args.call.now c.args.pos) c.requires.resolves)),
         ),
       ),
@@ -188,6 +196,7 @@ run_function-returns-clause-runs g t c k =
       c.call_at_once-at_once.ensures.left_global c.in_default-at_once.is,
       c.call_at_once-at_once.ensures.left_scope c.in_default-at_once.is,
       c.call_at_once-at_once.ensures.left_table c.in_default-at_once.is,
+      c.plain_callee.ensures.same,
       ← c.parts_of_call.ensures.args,
       c.parts_of_call.ensures.name,
     ) at c.run_call.ensures.runs) k
@@ -294,7 +303,7 @@ run_arg-run_expr-requires g t c =
     λ κs lives. (
       omega (
         arith,
-        ap (λ (global : GlobalRuntimeState _). global.num_operations)
+        ap (λ (global : RunState _). global.num_operations)
             (c.read_literal-in_place.ensures.left_alone c.in-None.is),
       ),
       (lives.0, (lives.1, same c.read_literal-in_place.ensures.sight refl c.requires)),
@@ -321,12 +330,13 @@ run_operator-returns-clause-names g t c done =
 pub run_function-returns-in-Some-at_once-clause-names : goal.run_function-returns-in-Some-at_once-clause-names
 unfolding ChangesNames KeepsNames RestoresNames SuitsNames
 run_function-returns-in-Some-at_once-clause-names g t c done =
-    stays c.call_at_once-at_once.ensures.sight c.call_at_once-at_once.ensures.names
+    stays (rw c.plain_callee.ensures.same at c.call_at_once-at_once.ensures.sight) c.call_at_once-at_once.ensures.names
 
 pub run_function-returns-clause-names : goal.run_function-returns-clause-names
 unfolding ChangesNames KeepsNames RestoresNames SuitsNames
 run_function-returns-clause-names g t c done =
-    leads_then (stays c.call_at_once-at_once.ensures.sight c.call_at_once-at_once.ensures.names) (c.run_call.ensures.names done)
+    leads_then (stays (rw c.plain_callee.ensures.same at c.call_at_once-at_once.ensures.sight) c.call_at_once-at_once.ensures.names)
+    (c.run_call.ensures.names done)
 
 pub run_operation-returns-in-Some-clause-names : goal.run_operation-returns-in-Some-clause-names
 unfolding ChangesNames KeepsNames RestoresNames SuitsNames
@@ -348,7 +358,7 @@ run_arg-returns-in-None-clause-names g t c done =
 
 pub run_function-call_at_once-at_once-requires : goal.run_function-call_at_once-at_once-requires
 unfolding SuitsNames
-run_function-call_at_once-at_once-requires g t c = record { resolves = c.requires.resolves }
+run_function-call_at_once-at_once-requires g t c = record { resolves = rw c.plain_callee.ensures.same c.requires.resolves }
 
 pub run_operation-operate_in_place-in_place-requires-clause-resolves_left :
     goal.run_operation-operate_in_place-in_place-requires-clause-resolves_left

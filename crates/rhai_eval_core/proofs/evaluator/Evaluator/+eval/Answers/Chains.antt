@@ -7,7 +7,7 @@ use Rattle.rhai_tree.specs.declared.expr.Expr.TheOpen as layer
 use Rattle.rhai_tree.specs.declared.expr.Expr.TheVariants as exprs
 use Rattle.rhai_tree.specs.Layers.{ExprLayer}
 use Rattle.rhai_state.specs.Scope.{names_in}
-use Rattle.rhai_state.specs.declared.state.GlobalRuntimeState.{GlobalRuntimeState}
+use Rattle.rhai_lookups.specs.declared.run.RunState.{RunState}
 use Rattle.rhai_machine.specs.machine.Point.{after}
 use Rattle.rhai_machine.specs.machine.Memory.{here, next, ◌⨾◌}
 use Rattle.rhai_machine.specs.language.Frames.{AssignChain, AssignedChain, ChainRoot, ReadRoot, RootValue, ToChain, chain_on}
@@ -176,7 +176,7 @@ run_link_args-run_more_args-requires g t c =
     let suits = same c.if-not-charge.ensures.sight refl c.requires in
     let parts = link_resolves (out-Expr c.args.chain.now) suits.known (Some (link_seen c.in-Some.link)) found suits.holds in
     λ κs lives. (
-      omega (arith, ap (λ (global : GlobalRuntimeState _). global.num_operations) (c.if-not-charge.ensures.charged refl)),
+      omega (arith, ap (λ (global : RunState _). global.num_operations) (c.if-not-charge.ensures.charged refl)),
       (lives.0, (lives.1, (omega arith, rw c.asked.ensures (at_known suits parts.0)))),
     )
 
@@ -192,7 +192,7 @@ run_link_args-run_link_args-requires g t c =
       omega (
         arith,
         c.if-not-charge.ensures.room refl,
-        ap (λ (global : GlobalRuntimeState _). global.num_operations) (c.if-not-charge.ensures.charged refl),
+        ap (λ (global : RunState _). global.num_operations) (c.if-not-charge.ensures.charged refl),
         c.if-not-run_more_args.ensures.counts refl,
       ),
       (
@@ -329,7 +329,7 @@ run_root-walk_variable-requires g t c =
     λ κs lives. (
       omega (
         arith,
-        ap (λ (global : GlobalRuntimeState _). global.num_operations) (c.if-not-charge.ensures.charged refl),
+        ap (λ (global : RunState _). global.num_operations) (c.if-not-charge.ensures.charged refl),
       ),
       (
         lives.0,
@@ -375,7 +375,7 @@ run_root-walk_this-requires g t c =
     λ κs lives. (
       omega (
         arith,
-        ap (λ (global : GlobalRuntimeState _). global.num_operations) (c.if-not-charge-2.ensures.charged refl),
+        ap (λ (global : RunState _). global.num_operations) (c.if-not-charge-2.ensures.charged refl),
       ),
       (lives.0, (lives.1, c.requires.walks)),
     )
@@ -474,7 +474,7 @@ run_expr-read_chain-requires g t c =
         arith,
         few,
         (c.if-not-charge_expr.ensures.room refl),
-        ap (λ (global : GlobalRuntimeState _). global.num_operations) (c.if-not-charge_expr.ensures.charged refl),
+        ap (λ (global : RunState _). global.num_operations) (c.if-not-charge_expr.ensures.charged refl),
       ),
       (
         lives.0,
@@ -499,7 +499,7 @@ run_expr-read_chain-requires-in-Index g t c =
         arith,
         few,
         (c.if-not-charge_expr.ensures.room refl),
-        ap (λ (global : GlobalRuntimeState _). global.num_operations) (c.if-not-charge_expr.ensures.charged refl),
+        ap (λ (global : RunState _). global.num_operations) (c.if-not-charge_expr.ensures.charged refl),
       ),
       (
         lives.0,

@@ -1,5 +1,5 @@
 use Rattle.std.proofs.Common.{ap, arith, refl, None}
-use Rattle.rhai_state.specs.declared.state.GlobalRuntimeState.{GlobalRuntimeState}
+use Rattle.rhai_lookups.specs.declared.run.RunState.{RunState}
 use Rattle.rhai_steps.specs.States.{holding}
 use Rattle.rhai_steps.proofs.Agreeing.{brings, leads_then, put_back, same, stays}
 use Rattle.rhai_operands.proofs.Names.{both}
@@ -111,7 +111,7 @@ pub run_expr-returns-in-Stmt-clause-charges : goal.run_expr-returns-in-Stmt-clau
 run_expr-returns-in-Stmt-clause-charges g t c done = omega (
   arith,
   c.if-not-charge_expr.ensures.room refl,
-  ap (λ (global : GlobalRuntimeState _). global.num_operations) (c.if-not-charge_expr.ensures.charged refl),
+  ap (λ (global : RunState _). global.num_operations) (c.if-not-charge_expr.ensures.charged refl),
   c.run_stmt_block.ensures.counts done,
 )
 
@@ -147,7 +147,7 @@ run_expr-run_fn_call_expr-requires g t c =
       omega (
         arith,
         (c.if-not-charge_expr.ensures.room refl),
-        ap (λ (global : GlobalRuntimeState _). global.num_operations) (c.if-not-charge_expr.ensures.charged refl),
+        ap (λ (global : RunState _). global.num_operations) (c.if-not-charge_expr.ensures.charged refl),
       ),
       (lives.0, (lives.1, suits)),
     )
@@ -161,7 +161,7 @@ run_expr-run_stmt_block-requires g t c =
       omega (
         arith,
         (c.if-not-charge_expr.ensures.room refl),
-        ap (λ (global : GlobalRuntimeState _). global.num_operations) (c.if-not-charge_expr.ensures.charged refl),
+        ap (λ (global : RunState _). global.num_operations) (c.if-not-charge_expr.ensures.charged refl),
       ),
       (lives.0, (lives.1, rw c.as_slice.ensures (block_suits c.in-Stmt.block suits))),
     )
@@ -175,7 +175,7 @@ run_expr-run_until-requires g t c =
       omega (
         arith,
         (c.if-not-charge_expr.ensures.room refl),
-        ap (λ (global : GlobalRuntimeState _). global.num_operations) (c.if-not-charge_expr.ensures.charged refl),
+        ap (λ (global : RunState _). global.num_operations) (c.if-not-charge_expr.ensures.charged refl),
       ),
       (lives.0, (lives.1, rw c.as_slice-in-And.ensures suits)),
     )
@@ -189,7 +189,7 @@ run_expr-run_until-requires-in-Or g t c =
       omega (
         arith,
         (c.if-not-charge_expr.ensures.room refl),
-        ap (λ (global : GlobalRuntimeState _). global.num_operations) (c.if-not-charge_expr.ensures.charged refl),
+        ap (λ (global : RunState _). global.num_operations) (c.if-not-charge_expr.ensures.charged refl),
       ),
       (lives.0, (lives.1, rw c.as_slice-in-Or.ensures suits)),
     )
@@ -204,7 +204,7 @@ run_expr-run_coalesce-requires g t c =
       omega (
         arith,
         (c.if-not-charge_expr.ensures.room refl),
-        ap (λ (global : GlobalRuntimeState _). global.num_operations) (c.if-not-charge_expr.ensures.charged refl),
+        ap (λ (global : RunState _). global.num_operations) (c.if-not-charge_expr.ensures.charged refl),
       ),
       (lives.0, (lives.1, rw c.as_slice-in-Coalesce.ensures suits)),
     )
@@ -218,7 +218,7 @@ run_expr-run_array-requires g t c =
       omega (
         arith,
         (c.if-not-charge_expr.ensures.room refl),
-        ap (λ (global : GlobalRuntimeState _). global.num_operations) (c.if-not-charge_expr.ensures.charged refl),
+        ap (λ (global : RunState _). global.num_operations) (c.if-not-charge_expr.ensures.charged refl),
       ),
       (lives.0, (lives.1, rw c.as_slice-in-Array.ensures suits)),
     )
@@ -233,7 +233,7 @@ run_expr-run_map-requires g t c =
       omega (
         arith,
         (c.if-not-charge_expr.ensures.room refl),
-        ap (λ (global : GlobalRuntimeState _). global.num_operations) (c.if-not-charge_expr.ensures.charged refl),
+        ap (λ (global : RunState _). global.num_operations) (c.if-not-charge_expr.ensures.charged refl),
       ),
       (lives.0, (lives.1, rw c.as_slice-in-Map.ensures (brings (λ frame h. (both _ _ h).1) suits))),
     )
@@ -248,7 +248,7 @@ run_expr-run_interpolated-requires g t c =
       omega (
         arith,
         (c.if-not-charge_expr.ensures.room refl),
-        ap (λ (global : GlobalRuntimeState _). global.num_operations) (c.if-not-charge_expr.ensures.charged refl),
+        ap (λ (global : RunState _). global.num_operations) (c.if-not-charge_expr.ensures.charged refl),
       ),
       (lives.0, (lives.1, rw c.as_slice-in-InterpolatedString.ensures suits)),
     )
@@ -261,7 +261,7 @@ pub run_condition-run_expr-requires : goal.run_condition-run_expr-requires
 unfolding ChangesNames KeepsNames RestoresNames SuitsNames
 run_condition-run_expr-requires g t c =
     λ κs lives. (
-      omega (arith, ap (λ (global : GlobalRuntimeState _). global.num_operations) (c.holds_at_once.ensures.left_alone c.in-None.is)),
+      omega (arith, ap (λ (global : RunState _). global.num_operations) (c.holds_at_once.ensures.left_alone c.in-None.is)),
       (lives.0, (lives.1, same c.holds_at_once.ensures.sight refl c.requires.resolves)),
     )
 

@@ -1,7 +1,7 @@
 use Rattle.std.proofs.Common.{◌∷◌, [], false, length, true, refl, sym, ap, ◌∙◌, arith}
 use Rattle.std.specs.Option.{option_copied, option_map}
 use Rattle.rhai_state.specs.Scope.{entries_of, names_in}
-use Rattle.rhai_state.specs.declared.state.GlobalRuntimeState.{GlobalRuntimeState}
+use Rattle.rhai_lookups.specs.declared.run.RunState.{RunState}
 use Rattle.rhai_machine.specs.machine.Point.{after}
 use Rattle.rhai_machine.specs.machine.Memory.{here, next, out_before_step, ◌⨾◌}
 use Rattle.rhai_machine.specs.language.Frames as machine
@@ -110,26 +110,26 @@ run_keyword-run_pointer-requires g t c =
 pub run_keyword-run_pointer-requires-in-Ok-Some : goal.run_keyword-run_pointer-requires-in-Ok-Some
 unfolding ChangesNames KeepsNames RestoresNames SuitsNames
 run_keyword-run_pointer-requires-in-Ok-Some g t c =
-    λ κs lives. (
+    rw c.linked_function.ensures.same (λ κs lives. (
       omega (arith, c.if-not-run_arg.ensures.charges refl),
       (lives.0, (lives.1, still (c.if-not-run_arg.ensures.names refl) c.requires.resolves_rest)),
-    )
+    ))
 
 pub run_keyword-run_pointer-requires-in-Some : goal.run_keyword-run_pointer-requires-in-Some
 unfolding ChangesNames KeepsNames RestoresNames SuitsNames
 run_keyword-run_pointer-requires-in-Some g t c =
-    λ κs lives. (
+    rw c.linked_function.ensures.same (λ κs lives. (
       omega (arith, c.if-not-run_arg.ensures.charges refl),
       (lives.0, (lives.1, still (c.if-not-run_arg.ensures.names refl) c.requires.resolves_rest)),
-    )
+    ))
 
 pub run_keyword-run_named-requires : goal.run_keyword-run_named-requires
 unfolding ChangesNames KeepsNames RestoresNames SuitsNames
 run_keyword-run_named-requires g t c =
-    λ κs lives. (
+    rw c.linked_function.ensures.same (λ κs lives. (
       omega (arith, c.if-not-run_arg.ensures.charges refl),
       (lives.0, (lives.1, rw (← c.split_first.ensures) (still (c.if-not-run_arg.ensures.names refl) c.requires.resolves_rest))),
-    )
+    ))
 
 pub run_keyword-returns-then-not-run_arg-clause-runs : goal.run_keyword-returns-then-not-run_arg-clause-runs
 unfolding after Goes
@@ -212,20 +212,20 @@ unfolding Goes
 run_keyword-returns-in-Ok-Some-clause-runs g t c k =
     let rules = under g.H.Host.name_of c.args.self.now g.T.NativeTable.natives in
     let pointer = c.in-Ok-pointer_of-2.pointer in
-    let linked = sym c.in-Ok-Some.ensures ∙ c.in-Ok-Some.field-0-is in
+    let linked = sym c.in-Ok-Some.ensures.found ∙ c.in-Ok-Some.field-0-is in
     rw c.in-CallPointer.is
     (c.if-not-run_arg.ensures.runs (KeywordArgument _ _ _ _ _ ∷ k)
     ⨾ calls_goes rules _ c.args.pos _ c.args.rest.now c.args.captures k _ pointer
     ((rw (c.take_value-value.ensures.taken, c.start_position-start.ensures) at c.in-Ok-pointer_of-2.ensures) tt)
     (calls_linked rules pointer c.args.pos c.args.rest.now c.args.captures k _ _ c.in-Ok-Some.function linked
-    ((rw c.parts_of-name.ensures.curried at c.run_pointer-in-Ok-Some.ensures.runs) k)))
+    ((rw (c.linked_function.ensures.same, c.parts_of-name.ensures.curried) at c.run_pointer-in-Ok-Some.ensures.runs) k)))
 
 pub run_keyword-returns-in-Some-clause-runs : goal.run_keyword-returns-in-Some-clause-runs
 unfolding Goes
 run_keyword-returns-in-Some-clause-runs g t c k =
     let rules = under g.H.Host.name_of c.args.self.now g.T.NativeTable.natives in
     let pointer = c.in-Ok-pointer_of-2.pointer in
-    let unlinked = sym c.in-Ok-None.ensures ∙ c.in-Ok-None.field-0-is in
+    let unlinked = sym c.in-Ok-None.ensures.found ∙ c.in-Ok-None.field-0-is in
     let numbered = sym c.parts_of-name-in-Ok-None.ensures.number ∙ c.in-Some.is in
     rw c.in-CallPointer.is
     (c.if-not-run_arg.ensures.runs (KeywordArgument _ _ _ _ _ ∷ k)
@@ -233,14 +233,14 @@ run_keyword-returns-in-Some-clause-runs g t c k =
     ((rw (c.take_value-value.ensures.taken, c.start_position-start.ensures) at c.in-Ok-pointer_of-2.ensures) tt)
     (calls_itself rules pointer c.args.pos c.args.rest.now c.args.captures k _ _ unlinked
     (rw (by_number rules pointer c.args.pos c.args.rest.now c.args.captures k _ _ c.in-Some.id numbered)
-    ((rw c.parts_of-name-in-Ok-None.ensures.curried at c.run_pointer-in-Some.ensures.runs) k))))
+    ((rw (c.linked_function.ensures.same, c.parts_of-name-in-Ok-None.ensures.curried) at c.run_pointer-in-Some.ensures.runs) k))))
 
 pub run_keyword-returns-in-None-clause-runs : goal.run_keyword-returns-in-None-clause-runs
 unfolding Goes
 run_keyword-returns-in-None-clause-runs g t c k =
     let rules = under g.H.Host.name_of c.args.self.now g.T.NativeTable.natives in
     let pointer = c.in-Ok-pointer_of-2.pointer in
-    let unlinked = sym c.in-Ok-None.ensures ∙ c.in-Ok-None.field-0-is in
+    let unlinked = sym c.in-Ok-None.ensures.found ∙ c.in-Ok-None.field-0-is in
     let unnumbered = sym c.parts_of-name-in-Ok-None.ensures.number ∙ c.in-None.is in
     rw c.in-CallPointer.is
     (c.if-not-run_arg.ensures.runs (KeywordArgument _ _ _ _ _ ∷ k)
@@ -249,6 +249,7 @@ run_keyword-returns-in-None-clause-runs g t c k =
     (calls_itself rules pointer c.args.pos c.args.rest.now c.args.captures k _ _ unlinked
     (rw (by_name rules pointer c.args.pos c.args.rest.now c.args.captures k _ _ unnumbered)
     ((rw (
+      c.linked_function.ensures.same,
       ← c.split_first.ensures,
       c.natives_alone-alone.ensures,
       c.as_str-name.ensures,
@@ -261,7 +262,7 @@ run_keyword-returns-in-None-clause-runs g t c k =
 pub run_keyword-returns-in-Err-linked_function-clause-runs : goal.run_keyword-returns-in-Err-linked_function-clause-runs
 unfolding after Goes
 run_keyword-returns-in-Err-linked_function-clause-runs g t c k =
-    rw (c.stop-in-Err-linked_function.ensures.stopped, c.stop-in-Err-linked_function.ensures.told)
+    rw (c.linked_function.ensures.same, c.stop-in-Err-linked_function.ensures.stopped, c.stop-in-Err-linked_function.ensures.told)
     (c.if-not-run_arg.ensures.runs (KeywordArgument _ _ _ _ _ ∷ k) ⨾ out_before_step {at = c.args.pos} (next here))
 
 -- a pointer that is called
@@ -298,7 +299,7 @@ run_named-run_more_args-requires g t c =
     λ κs lives. (
       omega (
         arith,
-        ap (λ (global : GlobalRuntimeState _). global.num_operations) (c.if-not-charge.ensures.charged refl),
+        ap (λ (global : RunState _). global.num_operations) (c.if-not-charge.ensures.charged refl),
       ),
       (
         lives.0,
@@ -323,7 +324,7 @@ run_named-run_more_args-requires-in-Some-first_variable g t c =
     λ κs lives. (
       omega (
         arith,
-        ap (λ (global : GlobalRuntimeState _). global.num_operations) (c.if-not-charge-2.ensures.charged refl),
+        ap (λ (global : RunState _). global.num_operations) (c.if-not-charge-2.ensures.charged refl),
       ),
       (
         lives.0,
@@ -628,17 +629,17 @@ run_keyword-returns-in-Ok-pointer_of-clause-names g t c done =
 pub run_keyword-returns-in-Ok-Some-clause-names : goal.run_keyword-returns-in-Ok-Some-clause-names
 unfolding ChangesNames KeepsNames RestoresNames SuitsNames
 run_keyword-returns-in-Ok-Some-clause-names g t c done =
-    leads_then (c.if-not-run_arg.ensures.names refl) (c.run_pointer-in-Ok-Some.ensures.names done)
+    leads_then (c.if-not-run_arg.ensures.names refl) (rw c.linked_function.ensures.same at (c.run_pointer-in-Ok-Some.ensures.names done))
 
 pub run_keyword-returns-in-Some-clause-names : goal.run_keyword-returns-in-Some-clause-names
 unfolding ChangesNames KeepsNames RestoresNames SuitsNames
 run_keyword-returns-in-Some-clause-names g t c done =
-    leads_then (c.if-not-run_arg.ensures.names refl) (c.run_pointer-in-Some.ensures.names done)
+    leads_then (c.if-not-run_arg.ensures.names refl) (rw c.linked_function.ensures.same at (c.run_pointer-in-Some.ensures.names done))
 
 pub run_keyword-returns-in-None-clause-names : goal.run_keyword-returns-in-None-clause-names
 unfolding ChangesNames KeepsNames RestoresNames SuitsNames
 run_keyword-returns-in-None-clause-names g t c done =
-    leads_then (c.if-not-run_arg.ensures.names refl) (c.run_named.ensures.names done)
+    leads_then (c.if-not-run_arg.ensures.names refl) (rw c.linked_function.ensures.same at (c.run_named.ensures.names done))
 
 pub run_pointer-returns-clause-names : goal.run_pointer-returns-clause-names
 unfolding ChangesNames KeepsNames RestoresNames SuitsNames

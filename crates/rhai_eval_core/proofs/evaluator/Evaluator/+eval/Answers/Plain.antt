@@ -1,6 +1,6 @@
 use Rattle.std.proofs.Common.{None, ◌∙◌, ap, arith, refl, true}
 use Rattle.rhai_state.specs.Scope.{entries_of, names_in, scope_of}
-use Rattle.rhai_state.specs.declared.state.GlobalRuntimeState.{GlobalRuntimeState}
+use Rattle.rhai_lookups.specs.declared.run.RunState.{RunState}
 use Rattle.rhai_machine.specs.language.Activations.{NoThis}
 use Rattle.rhai_machine.specs.language.Frames.{Enter, ended}
 use Rattle.rhai_machine.specs.language.State.{deeper}
@@ -54,7 +54,7 @@ run_plain_call-returns-then-not-run_parameters-clause-runs g t c =
     let fills = rw (c.lend_variables-variables.ensures.run, c.definition_of-def.ensures.value, c.as_slice-args.ensures)
     at c.if-not-run_parameters.ensures.fills in
     rw c.keep_variables.ensures
-    (plain_stops rules c.args.call.now c.args.run.now.global.lib _ c.requires.plain c.args.pos c.run_parameters.new.variables
+    (plain_stops rules c.args.call.now c.args.run.now.global.lists.0 _ c.requires.plain c.args.pos c.run_parameters.new.variables
     _ c.run_parameters.new.run.error _ fills)
 
 pub run_plain_call-returns-then-stops_by_race-clause-runs : goal.run_plain_call-returns-then-stops_by_race-clause-runs
@@ -63,7 +63,7 @@ run_plain_call-returns-then-stops_by_race-clause-runs g t c =
     let fills = rw (c.lend_variables-variables.ensures.run, c.definition_of-def.ensures.value, c.as_slice-args.ensures)
     at c.if-not-run_parameters.ensures.fills in
     rw c.keep_variables-then-stops_by_race.ensures
-    (plain_fails rules c.args.call.now c.args.run.now.global.lib _ c.requires.plain c.args.pos c.run_parameters.new.variables
+    (plain_fails rules c.args.call.now c.args.run.now.global.lists.0 _ c.requires.plain c.args.pos c.run_parameters.new.variables
     _ c.run_parameters.new.run.error _ c.run_parameters.new.run fills refl
     (error_in c.stops_by_race.new.place) (rw c.as_slice.ensures at c.if-stops_by_race.ensures.races) (c.if-stops_by_race.ensures.told refl))
 
@@ -81,7 +81,7 @@ run_plain_call-returns-in-Some-clause-runs g t c =
     let out = c.ends_before.new.out in
     let place = c.ends_before.new.place in
     rw c.keep_variables-in-Some.ensures
-    (plain_ends rules c.args.call.now c.args.run.now.global.lib _ c.requires.plain c.args.pos c.run_parameters.new.variables
+    (plain_ends rules c.args.call.now c.args.run.now.global.lists.0 _ c.requires.plain c.args.pos c.run_parameters.new.variables
     _ mid.error table mid fills refl own level (came c.in-Some.done out place) table after (rw c.as_slice.ensures at
     c.if-stops_by_race.ensures.races)
     c.definition_of-def.ensures.value refl
@@ -100,7 +100,7 @@ run_plain_call-returns-in-Some-clause-counts g t c done =
       arith,
       ap (λ (r : Context _). r.global.num_operations) c.lend_variables-variables.ensures.run,
       c.if-not-run_parameters.ensures.counts refl,
-      ap (λ (global : GlobalRuntimeState _). global.num_operations) (c.ends_before.ensures.charged room),
+      ap (λ (global : RunState _). global.num_operations) (c.ends_before.ensures.charged room),
       ap (λ (r : Context _). r.global.num_operations) c.keep_variables-in-Some.ensures,
     )
 
@@ -109,7 +109,7 @@ unfolding ChangesNames KeepsNames RestoresNames SuitsNames
 run_plain_call-run_stmt_block-done-requires g t c =
     let rules = under g.H.Host.name_of c.args.self.now g.T.NativeTable.natives in
     let resolved = entered_resolves rules c.as_slice-args.result.now c.run_parameters.new.variables _ _ c.run_parameters.new.run.error
-    c.definition_of-def.result.now (imports_in c.ends_before.new.global.imports)
+    c.definition_of-def.result.now (imports_in c.ends_before.new.global.lists.1)
     (rw c.definition_of-def.ensures.value c.definition_of-def.ensures.resolves) c.if-not-run_parameters.ensures.fills in
     let room = was_charged c.run_parameters.new.run.global.num_operations c.args.self.now.session.limits.max_operations
     c.ends_before.result c.in_default.is (λ full. (c.ends_before.ensures.spent full).0) in
@@ -119,7 +119,7 @@ run_plain_call-run_stmt_block-done-requires g t c =
         ap (λ (r : Context _). r.global.num_operations) c.lend_variables-variables.ensures.run,
         c.if-not-run_parameters.ensures.counts refl,
         room,
-        ap (λ (global : GlobalRuntimeState _). global.num_operations) (c.ends_before.ensures.charged room),
+        ap (λ (global : RunState _). global.num_operations) (c.ends_before.ensures.charged room),
         ap (λ (r : Context _). r.global.num_operations) c.enter_plain-entered.ensures.run,
       ),
       (
@@ -138,10 +138,10 @@ run_plain_call-returns-clause-counts g t c done =
       arith,
       ap (λ (r : Context _). r.global.num_operations) c.lend_variables-variables.ensures.run,
       c.if-not-run_parameters.ensures.counts refl,
-      ap (λ (global : GlobalRuntimeState _). global.num_operations) (c.ends_before.ensures.charged room),
+      ap (λ (global : RunState _). global.num_operations) (c.ends_before.ensures.charged room),
       ap (λ (r : Context _). r.global.num_operations) c.enter_plain-entered.ensures.run,
       counted rules (Enter c.statements_of-statements.result.now true) (ended outcome) _ _ c.run_stmt_block-done.ensures.runs,
-      ap (λ (global : GlobalRuntimeState _). global.num_operations) c.leave_plain.ensures.state,
+      ap (λ (global : RunState _). global.num_operations) c.leave_plain.ensures.state,
     )
 
 pub run_plain_call-returns-clause-names : goal.run_plain_call-returns-clause-names
@@ -190,7 +190,7 @@ run_plain_call-returns-clause-runs g t c =
     let closed = c.leave_plain.new.run.global in
     let result = came c.leave_plain.result c.leave_plain.new.run.value c.leave_plain.new.run.error in
     rw (c.leave_plain.ensures.scope, c.leave_plain.ensures.this, c.enter_plain-entered.ensures.caller)
-    (plain_ends rules c.args.call.now c.args.run.now.global.lib _ c.requires.plain c.args.pos c.run_parameters.new.variables
+    (plain_ends rules c.args.call.now c.args.run.now.global.lists.0 _ c.requires.plain c.args.pos c.run_parameters.new.variables
     _ mid.error table mid fills refl own level result left (record run { global = closed }) (rw c.as_slice.ensures at
     c.if-stops_by_race.ensures.races) own_is refl
     (λ values are. whole_ends rules (entered own None NoThis true true values level c.args.pos) table mid.global
@@ -199,7 +199,7 @@ run_plain_call-returns-clause-runs g t c =
     (rw c.lend_variables-variables.ensures.list passes.1)
     passes.2 opened
     (ap (λ (r : Context _). r.global) c.enter_plain-entered.ensures.run
-    ∙ ap (λ (g : GlobalRuntimeState _). entered_global None (deeper g.level) c.ends_before.new.global) (c.ends_before.ensures.charged room))
+    ∙ ap (λ (g : RunState _). entered_global None (deeper g.level) c.ends_before.new.global) (c.ends_before.ensures.charged room))
     (ap (λ (r : Context _). entries_of r.scope) c.enter_plain-entered.ensures.run ∙ rw c.lend_variables-variables.ensures.list are)
     (ap (λ (r : Context _). r.this) c.enter_plain-entered.ensures.run) outcome left run
     (rw c.statements_of-statements.ensures at c.run_stmt_block-done.ensures.runs) result closed

@@ -8,7 +8,7 @@ use Rattle.rhai_tree.specs.declared.expr.Expr.TheVariants as exprs
 use Rattle.rhai_tree.specs.declared.expr.Stmt.TheVariants as stmts
 use Rattle.rhai_tree.specs.Frame.{var_names}
 use Rattle.rhai_tree.proofs.Statements.{for_resolves, share_resolves, switch_resolves, try_resolves}
-use Rattle.rhai_state.specs.declared.state.GlobalRuntimeState.{GlobalRuntimeState}
+use Rattle.rhai_lookups.specs.declared.run.RunState.{RunState}
 use Rattle.rhai_machine.specs.machine.Point.{after}
 use Rattle.rhai_machine.specs.machine.Memory.{here, next, ◌⨾◌}
 use Rattle.rhai_machine.specs.language.Frames.{StatementValue, DefineValue, IfCondition, ImportPath, RestOfList, RestoreList, AssignValue}
@@ -115,7 +115,7 @@ run_stmt-run_assignment-requires g t c =
         arith,
         few,
         (c.if-not-charge_stmt.ensures.room refl),
-        ap (λ (global : GlobalRuntimeState _). global.num_operations) (c.if-not-charge_stmt.ensures.charged refl),
+        ap (λ (global : RunState _). global.num_operations) (c.if-not-charge_stmt.ensures.charged refl),
       ),
       (
         lives.0,
@@ -186,7 +186,7 @@ run_stmt-run_switch-requires g t c =
       omega (
         arith,
         (c.if-not-charge_stmt.ensures.room refl),
-        ap (λ (global : GlobalRuntimeState _). global.num_operations) (c.if-not-charge_stmt.ensures.charged refl),
+        ap (λ (global : RunState _). global.num_operations) (c.if-not-charge_stmt.ensures.charged refl),
       ),
       (
         lives.0,
@@ -222,7 +222,7 @@ run_stmt-run_for-requires g t c =
       omega (
         arith,
         (c.if-not-charge_stmt.ensures.room refl),
-        ap (λ (global : GlobalRuntimeState _). global.num_operations) (c.if-not-charge_stmt.ensures.charged refl),
+        ap (λ (global : RunState _). global.num_operations) (c.if-not-charge_stmt.ensures.charged refl),
       ),
       (
         lives.0,
@@ -258,7 +258,7 @@ run_stmt-run_try-requires g t c =
       omega (
         arith,
         (c.if-not-charge_stmt.ensures.room refl),
-        ap (λ (global : GlobalRuntimeState _). global.num_operations) (c.if-not-charge_stmt.ensures.charged refl),
+        ap (λ (global : RunState _). global.num_operations) (c.if-not-charge_stmt.ensures.charged refl),
       ),
       (
         lives.0,
@@ -306,7 +306,7 @@ run_stmt-run_var-requires g t c =
       omega (
         arith,
         (c.if-not-charge_stmt.ensures.room refl),
-        ap (λ (global : GlobalRuntimeState _). global.num_operations) (c.if-not-charge_stmt.ensures.charged refl),
+        ap (λ (global : RunState _). global.num_operations) (c.if-not-charge_stmt.ensures.charged refl),
       ),
       (
         lives.0,
@@ -607,9 +607,9 @@ pub run_stmt_block-returns-then-not-restoring-clause-runs : goal.run_stmt_block-
 unfolding after Goes
 run_stmt_block-returns-then-not-restoring-clause-runs g t c k =
     let rules = under g.H.Host.name_of c.args.self.now g.T.NativeTable.natives in
-    rw c.if-not-restoring.true
+    rw (c.if-not-restoring.true, c.leave_plain_list.ensures)
     (enters_plain rules c.args.statements.now k _ (is_not_empty _ (sym c.is_empty.ensures ∙ c.if-is_empty.false))
-    ⨾ (rw c.if-not-restoring.true at c.run_statements.ensures.runs) k)
+    ⨾ (rw (c.if-not-restoring.true, c.enter_plain_list-mark.ensures) at c.run_statements-ended.ensures.runs) k)
 
 pub run_stmt_block-open_list-requires : goal.run_stmt_block-open_list-requires
 unfolding SuitsNames
@@ -658,10 +658,10 @@ last_at : {H : Type 0} (index : ℕ) (value : Dynamic H) → 1 ≤ index → las
 last_at zero value some = absurd (omega (arith, some))
 last_at (suc index) value some = refl
 
-pub run_stmt_block-run_statements-requires : goal.run_stmt_block-run_statements-requires
+pub run_stmt_block-run_statements-ended-requires : goal.run_stmt_block-run_statements-ended-requires
 unfolding ChangesNames KeepsNames RestoresNames SuitsNames
-run_stmt_block-run_statements-requires g t c =
-    λ κs lives. (
+run_stmt_block-run_statements-ended-requires g t c =
+    rw c.enter_plain_list-mark.ensures (λ κs lives. (
       omega arith,
       (
         lives.0,
@@ -673,14 +673,14 @@ run_stmt_block-run_statements-requires g t c =
           ),
         ),
       ),
-    )
+    ))
 
 pub run_stmt_block-run_statements-done-requires : goal.run_stmt_block-run_statements-done-requires
 unfolding ChangesNames KeepsNames RestoresNames SuitsNames
 run_stmt_block-run_statements-done-requires g t c =
     let some = has_some c.args.statements.now (is_not_empty _ (sym c.is_empty.ensures ∙ c.if-is_empty.false)) in
     λ κs lives. (
-      omega (arith, ap (λ (global : GlobalRuntimeState _). global.num_operations) c.in-Some.ensures.deeper),
+      omega (arith, ap (λ (global : RunState _). global.num_operations) c.in-Some.ensures.deeper),
       (lives.0, (lives.1, (some, same c.open_list.ensures.sight c.open_list.ensures.names c.requires.resolves))),
     )
 
@@ -732,7 +732,7 @@ run_stmt-run_expr-requires g t c =
       omega (
         arith,
         (c.if-not-charge_stmt.ensures.room refl),
-        ap (λ (global : GlobalRuntimeState _). global.num_operations) (c.if-not-charge_stmt.ensures.charged refl),
+        ap (λ (global : RunState _). global.num_operations) (c.if-not-charge_stmt.ensures.charged refl),
       ),
       (lives.0, (lives.1, suits)),
     )
@@ -747,7 +747,7 @@ run_stmt-run_fn_call_expr-requires g t c =
       omega (
         arith,
         (c.if-not-charge_stmt.ensures.room refl),
-        ap (λ (global : GlobalRuntimeState _). global.num_operations) (c.if-not-charge_stmt.ensures.charged refl),
+        ap (λ (global : RunState _). global.num_operations) (c.if-not-charge_stmt.ensures.charged refl),
       ),
       (lives.0, (lives.1, suits)),
     )
@@ -761,7 +761,7 @@ run_stmt-run_stmt_block-requires g t c =
       omega (
         arith,
         (c.if-not-charge_stmt.ensures.room refl),
-        ap (λ (global : GlobalRuntimeState _). global.num_operations) (c.if-not-charge_stmt.ensures.charged refl),
+        ap (λ (global : RunState _). global.num_operations) (c.if-not-charge_stmt.ensures.charged refl),
       ),
       (lives.0, (lives.1, rw c.as_slice.ensures (block_suits c.in-Block.block suits))),
     )
@@ -779,7 +779,7 @@ run_stmt-run_if-requires g t c =
       omega (
         arith,
         (c.if-not-charge_stmt.ensures.room refl),
-        ap (λ (global : GlobalRuntimeState _). global.num_operations) (c.if-not-charge_stmt.ensures.charged refl),
+        ap (λ (global : RunState _). global.num_operations) (c.if-not-charge_stmt.ensures.charged refl),
       ),
       (lives.0, (lives.1, (test, (body, branch)))),
     )
@@ -794,7 +794,7 @@ run_stmt-run_while-requires g t c =
       omega (
         arith,
         (c.if-not-charge_stmt.ensures.room refl),
-        ap (λ (global : GlobalRuntimeState _). global.num_operations) (c.if-not-charge_stmt.ensures.charged refl),
+        ap (λ (global : RunState _). global.num_operations) (c.if-not-charge_stmt.ensures.charged refl),
       ),
       (lives.0, (lives.1, (brings (λ frame h. (both _ _ h).0) suits, brings (λ frame h. (both _ _ h).1) suits))),
     )
@@ -809,7 +809,7 @@ run_stmt-run_do-requires g t c =
       omega (
         arith,
         (c.if-not-charge_stmt.ensures.room refl),
-        ap (λ (global : GlobalRuntimeState _). global.num_operations) (c.if-not-charge_stmt.ensures.charged refl),
+        ap (λ (global : RunState _). global.num_operations) (c.if-not-charge_stmt.ensures.charged refl),
       ),
       (lives.0, (lives.1, (brings (λ frame h. (both _ _ h).0) suits, brings (λ frame h. (both _ _ h).1) suits))),
     )
@@ -824,7 +824,7 @@ run_stmt-run_break-requires g t c =
       omega (
         arith,
         (c.if-not-charge_stmt.ensures.room refl),
-        ap (λ (global : GlobalRuntimeState _). global.num_operations) (c.if-not-charge_stmt.ensures.charged refl),
+        ap (λ (global : RunState _). global.num_operations) (c.if-not-charge_stmt.ensures.charged refl),
       ),
       (lives.0, (lives.1, broken_suits c.in-BreakLoop.value c.in-BreakLoop.options c.in-BreakLoop.pos suits)),
     )
@@ -839,7 +839,7 @@ run_stmt-run_return-requires g t c =
       omega (
         arith,
         (c.if-not-charge_stmt.ensures.room refl),
-        ap (λ (global : GlobalRuntimeState _). global.num_operations) (c.if-not-charge_stmt.ensures.charged refl),
+        ap (λ (global : RunState _). global.num_operations) (c.if-not-charge_stmt.ensures.charged refl),
       ),
       (lives.0, (lives.1, returned_suits c.in-Return.value c.in-Return.options c.in-Return.pos suits)),
     )
@@ -854,7 +854,7 @@ run_stmt-run_import-requires g t c =
       omega (
         arith,
         (c.if-not-charge_stmt.ensures.room refl),
-        ap (λ (global : GlobalRuntimeState _). global.num_operations) (c.if-not-charge_stmt.ensures.charged refl),
+        ap (λ (global : RunState _). global.num_operations) (c.if-not-charge_stmt.ensures.charged refl),
       ),
       (lives.0, (lives.1, suits)),
     )

@@ -2,7 +2,7 @@ use Rattle.std.proofs.Common.{◌≡◌, ◌≢◌, ◌≤◌, ◌∷◌, ◌∙
 use Rattle.std.proofs.lemmas.Bool.{true≢false}
 use Rattle.std.proofs.lemmas.List.{length-map}
 use Rattle.rhai_tree.specs.Frame.{turn_names}
-use Rattle.rhai_state.specs.declared.state.GlobalRuntimeState.{GlobalRuntimeState}
+use Rattle.rhai_lookups.specs.declared.run.RunState.{RunState}
 use Rattle.rhai_state.specs.Scope.{entries_of, name_of}
 use Rattle.rhai_machine.specs.machine.Point.{after}
 use Rattle.rhai_machine.specs.machine.Memory.{next, ◌⨾◌, here}
@@ -215,7 +215,7 @@ run_for_turn-returns-then-not-enter_turn-clause-runs g t c k =
 pub run_for_turn-run_stmt_block-done-requires : goal.run_for_turn-run_stmt_block-done-requires
 unfolding ChangesNames KeepsNames RestoresNames SuitsNames
 run_for_turn-run_stmt_block-done-requires g t c =
-    let count = ap (λ (global : GlobalRuntimeState _). global.num_operations) c.enter_turn.ensures.rest in
+    let count = ap (λ (global : RunState _). global.num_operations) c.enter_turn.ensures.rest in
     λ κs lives. (
       omega (arith, count),
       (
@@ -244,7 +244,7 @@ run_for_turn-returns-clause-runs g t c k =
 pub run_for_turn-returns-clause-charges : goal.run_for_turn-returns-clause-charges
 run_for_turn-returns-clause-charges g t c none =
     let rules = under g.H.Host.name_of c.args.self.now g.T.NativeTable.natives in
-    let count = ap (λ (global : GlobalRuntimeState _). global.num_operations) c.enter_turn.ensures.rest in
+    let count = ap (λ (global : RunState _). global.num_operations) c.enter_turn.ensures.rest in
     let charged = on_turn rules (loop_in c.args.parts) [] _ _ _ _ _ c.turn_end.ensures none
     (body_charges rules c.args.parts.body.now.statements _ _ (came c.run_stmt_block-done.result c.run_stmt_block-done.new.run.value
     c.run_stmt_block-done.new.run.error) (λ empty. absurd
@@ -255,7 +255,7 @@ run_for_turn-returns-clause-charges g t c none =
 pub run_for_turn-returns-clause-counts : goal.run_for_turn-returns-clause-counts
 run_for_turn-returns-clause-counts g t c =
     let rules = under g.H.Host.name_of c.args.self.now g.T.NativeTable.natives in
-    let count = ap (λ (global : GlobalRuntimeState _). global.num_operations) c.enter_turn.ensures.rest in
+    let count = ap (λ (global : RunState _). global.num_operations) c.enter_turn.ensures.rest in
     let later = counted rules _ _ _ _ c.run_stmt_block-done.ensures.runs in
     let counts : c.args.run.now.global.num_operations ≤ c.run_stmt_block-done.new.run.global.num_operations =
     omega (arith, later, count) in
