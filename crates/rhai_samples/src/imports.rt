@@ -50,10 +50,20 @@ pub const FUNCTIONS_OF_N: &[Part<'_>] = &[
 pub const FUNCTIONS_OF_D: &[Part<'_>] = &[Int(11, 11), Value, Block(1, 9, 14), Function("df", &[])];
 
 /// `fn low() { 6 }`, of a module whose functions are found behind its name alone.
-pub const FUNCTIONS_OF_H: &[Part<'_>] = &[Int(6, 12), Value, Block(1, 10, 14), Function("low", &[])];
+pub const FUNCTIONS_OF_H: &[Part<'_>] = &[
+    Int(6, 12),
+    Value,
+    Block(1, 10, 14),
+    Function("low", &[]),
+];
 
 /// `fn own() { 9 }`, of a module whose function has the name of one of a module of the engine.
-pub const FUNCTIONS_OF_O: &[Part<'_>] = &[Int(9, 12), Value, Block(1, 10, 14), Function("own", &[])];
+pub const FUNCTIONS_OF_O: &[Part<'_>] = &[
+    Int(9, 12),
+    Value,
+    Block(1, 10, 14),
+    Function("own", &[]),
+];
 
 /// `import "m" as z; glo()`
 pub const IMPORTED: &[Part<'_>] = &[

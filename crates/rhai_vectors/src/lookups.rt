@@ -141,10 +141,9 @@ impl Run {
 
     /// Looks for a function of a library that a call by its name alone means.
     fn find_plain(&mut self, key: &FnKey<'_>) -> Option<Function<Stone>> {
-        self.lists.find_plain(key).map(|def| Function {
-            def,
-            environ: None,
-        })
+        self.lists
+            .find_plain(key)
+            .map(|def| Function { def, environ: None })
     }
 
     /// Begins a list of statements.

@@ -5,9 +5,7 @@ use crate::sample::Sample;
 use crate::sample::Tree::Parts;
 use crate::settings::Setting::{MaxModules, Usual, WithModules};
 use rhai_samples::constants::CONSTANT_OF_THE_SCRIPT;
-use rhai_samples::imports::{
-    IMPORTED, TRIED_AFTER_A_BLOCK, TRIED_BEFORE_A_BLOCK, UNMARKED_CALLED,
-};
+use rhai_samples::imports::{IMPORTED, TRIED_AFTER_A_BLOCK, TRIED_BEFORE_A_BLOCK, UNMARKED_CALLED};
 use rhai_samples::paths::{
     IMPORTED_TWICE, READ_AFTER_A_BLOCK, UNKNOWN_VALUE, VALUE_AND_FUNCTION, VALUE_WITHIN,
 };
