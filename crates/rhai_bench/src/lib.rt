@@ -5,6 +5,7 @@
 pub mod caller;
 pub mod command;
 mod entering;
+pub mod roots;
 pub mod script;
 pub mod searches;
 pub mod timing;

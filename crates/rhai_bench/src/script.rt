@@ -188,5 +188,8 @@ pub fn run_above(
         cells: replace(&mut global.cells, CellStore::new(alloc)),
         scope,
         this: Dynamic::new(Union::Unit),
+        counted: table.count(),
+        entries: caches.entries(),
+        depth: caches.len(),
     })
 }

@@ -13,15 +13,16 @@ use std::io;
 use std::rt::Clock;
 use std::time::{Duration, Instant};
 
-/// Runs a script the usual way. Prints how it ended and how many operations it charged, and on standard error
+/// Runs a script in a way. Prints how it ended and how many operations it charged, and on standard error
 /// how many of them a second had.
 pub fn time_run<R: AllocGlobal + Clock + Print + Eprint>(
     rt: &R,
     what: &str,
     script: Script,
+    way: Way,
 ) -> io::Result<()> {
     let begun = Instant::now(rt)?;
-    let outcome = run(rt.alloc(), script, Way::USUAL)?;
+    let outcome = run(rt.alloc(), script, way)?;
     let elapsed = begun.elapsed(rt)?;
     let count = outcome.num_operations;
     let told = told(rt.alloc(), &outcome);

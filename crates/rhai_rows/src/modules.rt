@@ -9,7 +9,9 @@ use rhai_eval_base::check::{CheckedTree, check_tree};
 use rhai_eval_base::state::{GlobalRuntimeState, Module, ModuleFn, ModuleTable};
 use rhai_library::library_of;
 use rhai_samples::globals::FUNCTIONS_OF_A_GLOBAL_MODULE;
-use rhai_samples::imports::{FUNCTIONS_OF_D, FUNCTIONS_OF_M, FUNCTIONS_OF_N};
+use rhai_samples::imports::{
+    FUNCTIONS_OF_D, FUNCTIONS_OF_H, FUNCTIONS_OF_M, FUNCTIONS_OF_N, FUNCTIONS_OF_O,
+};
 use rhai_samples::parts::{Part, tree_of};
 use rhai_tables::host::Pair;
 use std::alloc::{AllocError, Global};
@@ -31,8 +33,9 @@ pub fn add_library(
 
 /// Makes the modules that there are to import. Under `m` stands a module with a constant `K` of 7, its
 /// functions, and a module `s` within it, whose `K` is 8; under `n` one with a constant `A` of `[1, 2]`, its
-/// functions, and in a module `s` a module `d` with a constant `E` of 10 and a function. Every function but
-/// `two` is global.
+/// functions, and in a module `s` a module `d` with a constant `E` of 10 and a function. Every function of these but
+/// `two` is global. Under `h` stands one with a function that is not, and under `o` one
+/// with the function of a module of the engine.
 pub fn modules_to_import(alloc: Global) -> Result<ModuleTable<Pair>, AllocError> {
     let mut maker = Maker::new(alloc);
     let mut modules = Table::new(alloc);
@@ -40,6 +43,10 @@ pub fn modules_to_import(alloc: Global) -> Result<ModuleTable<Pair>, AllocError>
     maker.add_module(&mut modules, "m", module);
     let module = maker.module_n();
     maker.add_module(&mut modules, "n", module);
+    let module = maker.library(FUNCTIONS_OF_H);
+    maker.add_module(&mut modules, "h", module);
+    let module = maker.module_of(FUNCTIONS_OF_O);
+    maker.add_module(&mut modules, "o", module);
     maker.finish(ModuleTable { modules })
 }
 

@@ -47,6 +47,12 @@ pub struct Outcome {
     pub scope: Scope<Pair>,
     /// What was left of `this`, `()` where there was none.
     pub this: Dynamic<Pair>,
+    /// What the natives have counted.
+    pub counted: i64,
+    /// How many entries the newest cache has.
+    pub entries: usize,
+    /// How many caches there are.
+    pub depth: usize,
 }
 
 // Written by hand, so that what lets go of it calls this, and need not go through its parts.
@@ -60,6 +66,9 @@ impl Drop for Outcome {
             cells: _,
             scope: _,
             this: _,
+            counted: _,
+            entries: _,
+            depth: _,
         } = self;
     }
 }

@@ -11,9 +11,9 @@ use std::alloc::Global;
 use std::io;
 
 /// Writes what is asked of what a script came to above so many other variables: how it ended, its operations,
-/// its variables, the constant ones, those with aliases, its cells, the modules that it loaded, its imports,
-/// what its error says beside its position, or that error as a user reads it; or `all`, which is how it ended with what
-/// it left.
+/// what natives counted, its variables, the constant ones, those with aliases, its cells, the modules that it loaded,
+/// its imports, what its error says beside its position, or that error as a user reads it; or `all`, which is how it
+/// ended with what it left.
 pub fn write_outcome(
     alloc: Global,
     others: usize,
@@ -25,6 +25,7 @@ pub fn write_outcome(
     match form {
         "ends" => sheet.end(&outcome.ending),
         "charges" => sheet.show(&outcome.num_operations),
+        "counts" => sheet.show(&outcome.counted),
         "loads" => sheet.show(&outcome.num_modules_loaded),
         "says" => sheet.said(&outcome.ending),
         "reads" => sheet.read(&outcome.ending),
@@ -61,6 +62,13 @@ impl Sheet {
         }
         self.write(" this = ");
         self.value(&outcome.this);
+    }
+
+    /// Appends how many entries the newest cache has, and how many caches there are, as `1 of 2`.
+    pub fn kept(&mut self, entries: usize, depth: usize) {
+        self.show(&entries);
+        self.write(" of ");
+        self.show(&depth);
     }
 
     /// Appends the name that a data race has, where a call ended by one.

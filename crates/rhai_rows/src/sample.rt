@@ -17,6 +17,7 @@ use rhai_samples::chains::{first_item_increased, increments};
 use rhai_samples::choices::{choices_in_turn, integer_chosen, text_chosen};
 use rhai_samples::data::many_items;
 use rhai_samples::functions::{calls_within_calls, fibonacci};
+use rhai_samples::libraries::fibonacci_among;
 use rhai_samples::loops::{doublings, pairings};
 use rhai_samples::parts::{Part, tree_of};
 use rhai_samples::walks::{array_summed, range_summed};
@@ -95,6 +96,8 @@ pub enum MadeTree {
     IntegerChosen(i64),
     TextChosen(&'static str),
     Fibonacci(i64),
+    /// How many functions there are, and its argument.
+    FibonacciAmong(u32, i64),
     CallsWithinCalls(i64),
 }
 
@@ -174,6 +177,7 @@ impl MadeTree {
             MadeTree::IntegerChosen(value) => integer_chosen(alloc, value),
             MadeTree::TextChosen(text) => text_chosen(alloc, text),
             MadeTree::Fibonacci(number) => fibonacci(alloc, number),
+            MadeTree::FibonacciAmong(count, number) => fibonacci_among(alloc, count, number),
             MadeTree::CallsWithinCalls(number) => calls_within_calls(alloc, number),
         }
     }

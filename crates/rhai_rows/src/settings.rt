@@ -295,13 +295,16 @@ impl Way {
         keeps_functions: true,
     };
 
+    /// By offset, without a cache.
+    pub const WITHOUT_CACHES: Way = Way {
+        always_search_scope: false,
+        keeps_functions: false,
+    };
+
     /// Every way there is.
     pub const ALL: [Way; 4] = [
         Way::USUAL,
-        Way {
-            always_search_scope: false,
-            keeps_functions: false,
-        },
+        Way::WITHOUT_CACHES,
         Way {
             always_search_scope: true,
             keeps_functions: true,

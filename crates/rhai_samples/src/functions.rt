@@ -153,5 +153,8 @@ pub const THIS_ASKED: &[Part<'_>] = &[
 /// `fn g() { 1 }`
 pub const FUNCTION_G: &[Part<'_>] = &[Int(1, 10), Value, Block(1, 8, 12), Function("g", &[])];
 
+/// `fn g() { 2 }`
+pub const OTHER_FUNCTION_G: &[Part<'_>] = &[Int(2, 10), Value, Block(1, 8, 12), Function("g", &[])];
+
 /// `fn h() { g() }`
 pub const FUNCTION_H: &[Part<'_>] = &[Call("g", 0, 10), Value, Block(1, 8, 14), Function("h", &[])];

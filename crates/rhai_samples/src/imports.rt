@@ -2,7 +2,8 @@
 
 use crate::parts::Part;
 use crate::parts::Part::{
-    AssignBy, Block, Call, Function, ImportAs, Int, PrivateFunction, Text, Value, Variable,
+    Assign, AssignBy, Block, BlockStatement, Call, Function, ImportAs, Int, Let, PrivateFunction,
+    Text, Try, Value, Variable,
 };
 use rhai_tree::token::Token;
 
@@ -48,6 +49,22 @@ pub const FUNCTIONS_OF_N: &[Part<'_>] = &[
 /// `fn df() { 11 }`, of a module within others.
 pub const FUNCTIONS_OF_D: &[Part<'_>] = &[Int(11, 11), Value, Block(1, 9, 14), Function("df", &[])];
 
+/// `fn low() { 6 }`, of a module whose functions are found behind its name alone.
+pub const FUNCTIONS_OF_H: &[Part<'_>] = &[
+    Int(6, 12),
+    Value,
+    Block(1, 10, 14),
+    Function("low", &[]),
+];
+
+/// `fn own() { 9 }`, of a module whose function has the name of one of a module of the engine.
+pub const FUNCTIONS_OF_O: &[Part<'_>] = &[
+    Int(9, 12),
+    Value,
+    Block(1, 10, 14),
+    Function("own", &[]),
+];
+
 /// `import "m" as z; glo()`
 pub const IMPORTED: &[Part<'_>] = &[
     Text("m", 8),
@@ -64,5 +81,43 @@ pub const UNMARKED_CALLED: &[Part<'_>] = &[
     Text("m", 8),
     ImportAs("z", 15, 1),
     Call("two", 0, 18),
+    Value,
+];
+
+/// `try { glo(); } catch {} { import "m" as z; glo() }`
+pub const TRIED_BEFORE_A_BLOCK: &[Part<'_>] = &[
+    Call("glo", 0, 7),
+    Value,
+    Block(1, 5, 14),
+    Block(0, 22, 23),
+    Try(1),
+    Text("m", 34),
+    ImportAs("z", 41, 27),
+    Call("glo", 0, 44),
+    Value,
+    Block(2, 25, 50),
+    BlockStatement,
+];
+
+/// `let a = 0; { import "m" as z; a = glo(); } try { glo(); } catch { a += 10; } a`
+pub const TRIED_AFTER_A_BLOCK: &[Part<'_>] = &[
+    Int(0, 9),
+    Let("a", 5, 1),
+    Text("m", 21),
+    ImportAs("z", 28, 14),
+    Variable("a", 1, 31),
+    Call("glo", 0, 35),
+    Assign(33),
+    Block(2, 12, 42),
+    BlockStatement,
+    Call("glo", 0, 50),
+    Value,
+    Block(1, 48, 57),
+    Variable("a", 1, 67),
+    Int(10, 72),
+    AssignBy(Token::Plus, 69),
+    Block(1, 65, 76),
+    Try(44),
+    Variable("a", 1, 78),
     Value,
 ];

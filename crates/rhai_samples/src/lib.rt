@@ -14,6 +14,7 @@ pub mod data;
 pub mod functions;
 pub mod globals;
 pub mod imports;
+pub mod libraries;
 pub mod limits;
 pub mod loops;
 mod making;

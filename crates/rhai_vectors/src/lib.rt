@@ -1,10 +1,11 @@
-//! The worked vectors of the leaves: what the functions of the operators, the places, the values and the tree
-//! answer.
+//! The worked vectors of the leaves: what the functions of the operators, the places, the values, the tree and the
+//! lookups answer.
 #![tactic(auto)]
 
 mod fitting;
 mod host;
 mod indexing;
+mod lookups;
 mod modules;
 mod operators;
 mod reader;
@@ -25,6 +26,7 @@ pub enum Leaf {
     Indexing,
     Values,
     Tree,
+    Lookups,
 }
 
 /// What a call answers, or what is wanted where its line has something else.
@@ -38,6 +40,7 @@ impl Leaf {
             Leaf::Indexing => "indexing",
             Leaf::Values => "values",
             Leaf::Tree => "tree",
+            Leaf::Lookups => "lookups",
         }
     }
 
@@ -66,6 +69,7 @@ impl Leaf {
             Leaf::Indexing => indexing::answer(line, out),
             Leaf::Values => values::answer(line, out),
             Leaf::Tree => tree::answer(line, out),
+            Leaf::Lookups => lookups::answer(line, out),
         }
     }
 }

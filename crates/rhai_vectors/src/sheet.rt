@@ -126,6 +126,18 @@ impl Sheet {
         self.quote(types.wanted.as_str());
     }
 
+    /// Appends the number of a module.
+    pub fn number(&mut self, number: u16) {
+        let wrote = write!(self.text, "{number}");
+        self.remember(wrote);
+    }
+
+    /// Appends how many entries the newest cache has, and how many caches there are.
+    pub fn kept(&mut self, entries: usize, depth: usize) {
+        let wrote = write!(self.text, "{entries} of {depth}");
+        self.remember(wrote);
+    }
+
     /// Appends a fault of the checker, and its position.
     pub fn fault(&mut self, fault: CheckFault) {
         let wrote = write!(self.text, "{fault}");

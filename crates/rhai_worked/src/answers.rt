@@ -1,5 +1,6 @@
 //! What the calls of worked lines answer about scripts.
 
+use crate::keeps::write_kept;
 use crate::lists::{Listed, read};
 use crate::scripts::{count_of, script_named, write_ways};
 use rhai_rows::runner::Runner;
@@ -10,8 +11,8 @@ use std::io::Write;
 /// Writes the answer of a call about a script of a row or of a list:
 ///
 /// - `scripts LIST`: how many scripts a list has
-/// - `ends LIST N`, `charges LIST N`, `leaves LIST N`, `says LIST N`: the line of a script of a list, counted
-///   from 1, its operations, its variables, and what its error says beside its position
+/// - `ends LIST N`, `charges LIST N`, `counts LIST N`, `leaves LIST N`, `says LIST N`: the line of a script of a list,
+///   counted from 1, its operations, what natives counted, its variables, and what its error says beside its position
 /// - `fixes LIST N`, `shares LIST N`, `exports LIST N`, `reads LIST N`: the names of its constants, the
 ///   values of its cells, its variables with their aliases, and its error as a user reads it
 /// - `loads LIST N`, `imports LIST N`: how many modules it loads, and the names of the imports that it leaves
@@ -19,6 +20,7 @@ use std::io::Write;
 ///   behind the others (`rhai_rows::entry`), with its operations, and the variables and the `this` that it leaves
 /// - `above ends LIST N` and so on: what is answered above a scope of 300 other variables
 /// - `wide ends LIST N` and so on: what is answered under the greatest limits where the script sets none
+/// - `keeps LIST N` and so on: what is left in the caches (`crate::keeps`)
 pub fn write_answer<R: Runner>(
     alloc: Global,
     lists: &[Listed<'_>],
@@ -28,6 +30,7 @@ pub fn write_answer<R: Runner>(
     let (form, rest) = call.split_once(' ').unwrap_or((call, ""));
     match form {
         "scripts" => write_number(count_of(lists, rest), out),
+        "keeps" | "behind" | "within" | "by" => write_kept::<R>(alloc, lists, call, out),
         "above" => {
             let (form, rest) = rest.split_once(' ').unwrap_or((rest, ""));
             write_one::<R>(alloc, lists, 300, false, form, rest, out)

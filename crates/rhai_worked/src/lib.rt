@@ -3,6 +3,7 @@
 #![tactic(auto)]
 
 pub mod answers;
+mod keeps;
 pub mod lists;
 pub mod program;
 mod refused;

@@ -22,10 +22,10 @@ use std::io;
 use std::io::Write;
 
 /// The rows whose requests are refused: all but 3, which calls too often, and 25, which has no scripts.
-const ROWS: [&str; 42] = [
+const ROWS: [&str; 43] = [
     "1", "2", "4", "5", "6", "7", "8", "9", "10", "11", "12", "13", "14", "15", "16", "17", "18",
     "19", "20", "21", "22", "23", "24", "26", "27", "28", "29", "30", "31", "32", "33", "34", "35",
-    "36", "37", "38", "39", "41", "42", "43", "44", "45",
+    "36", "37", "38", "39", "40", "41", "42", "43", "44", "45",
 ];
 
 /// How many parts, runs, refusals and faults there were.

@@ -2,6 +2,7 @@
 
 use crate::program::{write_refusals, write_run};
 use rhai_bench::Bench;
+use rhai_bench::roots::write_root;
 use rhai_bench::searches::write_search;
 use rhai_hosted::functions::write_call;
 use rhai_hosted::handles::write_handled;
@@ -21,6 +22,8 @@ use std::io::Write;
 /// - `prints NAME`: a value or a position of that name
 /// - `finds NAME OFFSET`, `searches NAME OFFSET`: where a variable stands in a scope, if its offset
 ///   tells, its value, and what is left where 9 is written there; the second has variables searched for
+/// - `roots NAME INDEX`, `seeks NAME INDEX`: a constant of the import that the root of a path leads to; the second has
+///   imports searched for
 /// - `calls NAME`: what a host's own call of a function answers, and what it leaves
 /// - `handles CHAIN`: what a chain on handles of a cell comes to
 /// - `shows VARIANT [PART] ..`: an error as a user reads it; behind `nowhere`, without its position
@@ -47,6 +50,8 @@ fn write_answer(
         "prints" => write_sample(alloc, rest, out),
         "finds" => write_search(alloc, rest, false, out),
         "searches" => write_search(alloc, rest, true, out),
+        "roots" => write_root(alloc, rest, false, out),
+        "seeks" => write_root(alloc, rest, true, out),
         "calls" => write_call::<Bench>(alloc, rest, out),
         "handles" => write_handled::<Bench>(alloc, rest, out),
         "shows" => write_shown(alloc, rest, out),

@@ -7,13 +7,17 @@
 //! - `rows refused` compares nothing. Where something outside of the program refuses memory, it runs the scripts with
 //!   each request of theirs refused in turn, and sees to what holds after each.
 //! - `rows WORK [NUMBER]` times a work (`work`). The number says how long it is.
+//! - `rows library COUNT NUMBER` times a function with that number in a library of so many, and `rows library-off COUNT
+//!   NUMBER` the same without caches of function lookups.
 #![tactic(auto)]
 
 mod answers;
+mod library;
 mod program;
 mod topic;
 mod work;
 
+use crate::library::Library;
 use crate::topic::Topic;
 use crate::work::Work;
 use rhai_bench::Bench;
@@ -32,6 +36,8 @@ enum Request {
     Refused,
     /// To time a work of a length.
     Timed(Work, u32),
+    /// To time a function in a library.
+    InLibrary(Library),
 }
 
 fn main(rt: HostRuntime) -> io::Result<ExitCode> {
@@ -42,10 +48,15 @@ fn main(rt: HostRuntime) -> io::Result<ExitCode> {
             work.run(&rt, number)?;
             Ok(ExitCode::SUCCESS)
         }
+        Some(Request::InLibrary(library)) => {
+            library.run(&rt)?;
+            Ok(ExitCode::SUCCESS)
+        }
         None => {
             eprintln!(&rt;
                 "usage: rows [refused|loop|array|native|natives|item|increase|increase-twice|fib|range|walk|switch|throw [NUMBER]]"
             )?;
+            eprintln!(&rt; "       rows library|library-off COUNT NUMBER")?;
             Ok(ExitCode::from(WRONG_ARGUMENTS))
         }
     }
@@ -65,7 +76,7 @@ fn read_request<R: Env + AllocGlobal>(rt: &R) -> io::Result<Option<Request>> {
         });
     }
     if env::args(rt)?.nth(3).is_some() {
-        return Ok(None);
+        return Ok(Library::read(rt)?.map(|library| Request::InLibrary(library)));
     }
     let Some(work) = Work::named(word.as_str()) else {
         return Ok(None);

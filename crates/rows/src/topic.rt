@@ -22,13 +22,14 @@ pub enum Topic<'a> {
 
 impl<'a> Topic<'a> {
     /// Returns all of them, in the order of their reports.
-    pub fn all(lists: &'a [Listed<'a>]) -> [Topic<'a>; 6] {
+    pub fn all(lists: &'a [Listed<'a>]) -> [Topic<'a>; 7] {
         [
             Topic::Rows(lists),
             Topic::Vectors(Leaf::Operators),
             Topic::Vectors(Leaf::Indexing),
             Topic::Vectors(Leaf::Values),
             Topic::Vectors(Leaf::Tree),
+            Topic::Vectors(Leaf::Lookups),
             Topic::Lists(lists),
         ]
     }

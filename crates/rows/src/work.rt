@@ -22,6 +22,7 @@ use rhai_rows::sample::MadeTree::Fibonacci;
 use rhai_rows::sample::Tree::{Statements, WithFunctions};
 use rhai_rows::sample::{MadeStatements, Sample, Tree};
 use rhai_rows::settings::Setting::Usual;
+use rhai_rows::settings::Way;
 use std::io;
 
 /// What scripts do that are timed.
@@ -129,5 +130,6 @@ fn time_statements(rt: &HostRuntime, what: &str, made: MadeStatements) -> io::Re
 
 /// Times the script of a tree.
 fn time(rt: &HostRuntime, what: &str, tree: Tree) -> io::Result<()> {
-    time_run(rt, what, Sample(tree, Usual).script(rt.alloc())?)
+    let script = Sample(tree, Usual).script(rt.alloc())?;
+    time_run(rt, what, script, Way::USUAL)
 }

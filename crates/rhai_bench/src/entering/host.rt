@@ -162,8 +162,8 @@ impl Host {
         let Host {
             engine: _,
             global,
-            caches: _,
-            table: _,
+            caches,
+            table,
             scope,
             this,
         } = self;
@@ -176,6 +176,9 @@ impl Host {
             cells: replace(&mut global.cells, CellStore::new(alloc)),
             scope,
             this,
+            counted: table.count(),
+            entries: caches.entries(),
+            depth: caches.len(),
         }
     }
 
