@@ -113,6 +113,15 @@ impl Tally {
         )
     }
 
+    /// Counts a run that came to what it comes to with all memory granted, or ran out of memory.
+    fn count_end(&mut self, is_unharmed: bool) {
+        if is_unharmed {
+            self.unharmed = self.unharmed.saturating_add(1);
+        } else {
+            self.ran_out = self.ran_out.saturating_add(1);
+        }
+    }
+
     /// Counts and prints what is wrong with a run, if anything is. The number is that of the request that was
     /// refused in it, or 0.
     fn tell<W: Write>(

@@ -1,9 +1,9 @@
-//! Lines that make one public call, as `builtin_unary 5 = ok -5`: what it comes to with all memory granted, and behind each
-//! ` | ` what it may come to where one of its requests for memory is refused.
+//! Lines that make one public call, as `builtin_unary 5 = ok -5`: what it comes to with all memory granted, and behind that,
+//! each behind a ` | `, what else it comes to where one of its requests for memory is refused.
 
 use crate::lists::Listed;
+use crate::refused::Tally;
 use crate::refused::below::{tell_minus, tell_parameters};
-use crate::refused::{Tally, wrong_unless};
 use crate::scripts::{Source, script_named};
 use rhai_hosted::caller::Calls;
 use rhai_hosted::functions::tell_attempt;
@@ -22,18 +22,65 @@ use std::io::Write;
 /// The name of the file, in the folder where the program runs.
 pub const FILE: &str = "refused.txt";
 
-/// A call of a line, and a way to run what it runs.
-#[derive(Clone, Copy)]
-struct Line<'a> {
-    /// Its number in the file, counted from 1.
-    number: usize,
-    call: &'a str,
-    /// What it comes to, and what it may come to.
-    ends: &'a str,
-    way: Way,
+/// What stands between two ends of a line.
+const SEPARATOR: &str = " | ";
+
+/// What a call came to: each end once, in the order in which they came.
+#[derive(Drop)]
+struct Ends {
+    text: String,
+    was_any_refused: bool,
+    has_memory: bool,
 }
 
-/// Makes the calls of the lines of a file in each way, with their requests refused in turn.
+impl Ends {
+    fn new(alloc: Global) -> Ends {
+        Ends {
+            text: String::new(alloc),
+            was_any_refused: false,
+            has_memory: true,
+        }
+    }
+
+    /// Adds an end that did not come before.
+    fn add(&mut self, end: &str) {
+        if self.text.as_str().is_empty() {
+            self.write(end);
+        } else if !self.text.as_str().split(SEPARATOR).any(|it| it == end) {
+            self.write(SEPARATOR);
+            self.write(end);
+        }
+    }
+
+    /// Returns the end that came first.
+    fn first(&self) -> &str {
+        first_of(self.text.as_str())
+    }
+
+    fn write(&mut self, text: &str) {
+        if self.text.push_str(text).is_err() {
+            self.has_memory = false;
+        }
+    }
+
+    /// Tells whether these are the ends of a line, or its first where nothing was refused.
+    fn are_told_by(&self, told: &str) -> bool {
+        let wanted = if self.was_any_refused {
+            told
+        } else {
+            first_of(told)
+        };
+        self.has_memory && self.text.as_str() == wanted
+    }
+}
+
+fn first_of(ends: &str) -> &str {
+    let (first, _) = ends.split_once(SEPARATOR).unwrap_or((ends, ""));
+    first
+}
+
+/// Makes the calls of the lines of a file in each way, with their requests refused in turn. Prints those that come to
+/// something else than their line tells.
 pub(super) fn tally_calls<R: Runner + Calls, W: Write>(
     alloc: Global,
     lists: &[Listed<'_>],
@@ -46,130 +93,109 @@ pub(super) fn tally_calls<R: Runner + Calls, W: Write>(
             continue;
         }
         tally.parts = tally.parts.saturating_add(1);
-        let (call, ends) = line.split_once(" = ").unwrap_or((line, ""));
+        let (call, told) = line.split_once(" = ").unwrap_or((line, ""));
+        let mut ends = Ends::new(alloc);
         for way in Way::ALL {
-            let number = at.saturating_add(1);
-            let line = Line {
-                number,
-                call,
-                ends,
-                way,
-            };
-            line.run::<R, _>(alloc, lists, &mut tally, &mut *out)?;
+            run_call::<R>(alloc, lists, call, way, &mut ends, &mut tally);
         }
+        if !ends.are_told_by(told) {
+            tally.wrong = tally.wrong.saturating_add(1);
+            let number = at.saturating_add(1);
+            let text = ends.text.as_str();
+            writeln!(&mut *out, "{FILE}:{number}: {call} came to {text}")?;
+        }
+        drop(ends);
     }
     Ok(tally)
 }
 
-impl Line<'_> {
-    /// Makes the call with all memory granted, and then with its requests refused in turn.
-    fn run<R: Runner + Calls, W: Write>(
-        self,
-        alloc: Global,
-        lists: &[Listed<'_>],
-        tally: &mut Tally,
-        out: &mut W,
-    ) -> io::Result<()> {
-        self.make::<R, _>(alloc, lists, Attempt::GRANTED, tally, out)?;
-        for refusal in Refusal::BOTH {
-            for number in 1..=GREATEST {
-                let attempt = Attempt::refusing(refusal, number);
-                if !self.make::<R, _>(alloc, lists, attempt, tally, out)? {
-                    break;
-                }
-                tally.refused = tally.refused.saturating_add(1);
+/// Makes a call with all memory granted, and then with its requests refused in turn.
+fn run_call<R: Runner + Calls>(
+    alloc: Global,
+    lists: &[Listed<'_>],
+    call: &str,
+    way: Way,
+    ends: &mut Ends,
+    tally: &mut Tally,
+) {
+    make_call::<R>(alloc, lists, call, way, Attempt::GRANTED, ends, tally);
+    for refusal in Refusal::BOTH {
+        for number in 1..=GREATEST {
+            let attempt = Attempt::refusing(refusal, number);
+            if !make_call::<R>(alloc, lists, call, way, attempt, ends, tally) {
+                break;
+            }
+            ends.was_any_refused = true;
+            tally.refused = tally.refused.saturating_add(1);
+        }
+    }
+}
+
+/// Makes a call once, adds what it came to, and tells whether a request was refused.
+fn make_call<R: Runner + Calls>(
+    alloc: Global,
+    lists: &[Listed<'_>],
+    call: &str,
+    way: Way,
+    attempt: Attempt,
+    ends: &mut Ends,
+    tally: &mut Tally,
+) -> bool {
+    let mut attempt = attempt;
+    let end = end_of::<R>(alloc, lists, call, way, &mut attempt);
+    tally.runs = tally.runs.saturating_add(1);
+    match &end {
+        Ok(end) => {
+            ends.add(end.as_str());
+            tally.count_end(ends.first() == end.as_str());
+        }
+        Err(AllocError) => ends.has_memory = false,
+    }
+    drop(end);
+    attempt.was_refused
+}
+
+/// Makes a call, and tells what it came to and what it left.
+fn end_of<R: Runner + Calls>(
+    alloc: Global,
+    lists: &[Listed<'_>],
+    call: &str,
+    way: Way,
+    attempt: &mut Attempt,
+) -> Result<String, AllocError> {
+    let mut sheet = Sheet::new(alloc);
+    let (form, rest) = call.split_once(' ').unwrap_or((call, ""));
+    match form {
+        "builtin_unary" => tell_minus(rest, attempt, &mut sheet),
+        "push_parameters" => tell_parameters(rest, attempt, &mut sheet),
+        _ => tell_evaluated::<R>(lists, form, rest, way, attempt, &mut sheet),
+    }
+    if !attempt.is_restored {
+        sheet.write("; libraries, imports or levels are not what they were");
+    }
+    sheet.finish()
+}
+
+/// Makes a call of the evaluator, with the last statement of a script, or as a host's own.
+fn tell_evaluated<R: Runner + Calls>(
+    lists: &[Listed<'_>],
+    form: &str,
+    rest: &str,
+    way: Way,
+    attempt: &mut Attempt,
+    sheet: &mut Sheet,
+) {
+    let (list, number) = rest.split_once(' ').unwrap_or((rest, ""));
+    match (Entry::named(form), script_named(lists, list, number)) {
+        (Some(entry), Some(source)) => {
+            let alloc = sheet.maker.allocator();
+            let outcome = enter::<R>(alloc, entry, source, list, way, attempt);
+            if let Some(outcome) = sheet.maker.kept(outcome) {
+                sheet.all(&outcome);
+                drop(outcome);
             }
         }
-        Ok(())
-    }
-
-    /// Makes the call once, prints what it comes to where that is nothing that it may come to, and tells whether a request
-    /// was refused.
-    fn make<R: Runner + Calls, W: Write>(
-        self,
-        alloc: Global,
-        lists: &[Listed<'_>],
-        attempt: Attempt,
-        tally: &mut Tally,
-        out: &mut W,
-    ) -> io::Result<bool> {
-        let mut attempt = attempt;
-        let told = self.tell::<R>(alloc, lists, &mut attempt);
-        tally.runs = tally.runs.saturating_add(1);
-        let end = match &told {
-            Ok(end) => end.as_str(),
-            Err(AllocError) => "not reached",
-        };
-        let wrong = self.judge(end, attempt.was_refused, tally);
-        if let Some(what) = wrong {
-            tally.wrong = tally.wrong.saturating_add(1);
-            let number = self.number;
-            let way = self.way;
-            writeln!(out, "{FILE}:{number}: {way:?}, {what}: {end}")?;
-        }
-        drop(told);
-        Ok(attempt.was_refused)
-    }
-
-    /// Tells what is wrong with what the call came to.
-    fn judge(self, end: &str, was_refused: bool, tally: &mut Tally) -> Option<&'static str> {
-        let (own, others) = self.ends.split_once(" | ").unwrap_or((self.ends, ""));
-        if end == own {
-            tally.unharmed = tally.unharmed.saturating_add(1);
-            return None;
-        }
-        if others.split(" | ").any(|other| other == end) {
-            tally.ran_out = tally.ran_out.saturating_add(1);
-            return wrong_unless(was_refused, "though nothing was refused");
-        }
-        Some(if was_refused {
-            "where a request was refused"
-        } else {
-            "with all memory"
-        })
-    }
-
-    /// Makes the call, and tells what it came to and what it left.
-    fn tell<R: Runner + Calls>(
-        self,
-        alloc: Global,
-        lists: &[Listed<'_>],
-        attempt: &mut Attempt,
-    ) -> Result<String, AllocError> {
-        let mut sheet = Sheet::new(alloc);
-        let (form, rest) = self.call.split_once(' ').unwrap_or((self.call, ""));
-        match form {
-            "builtin_unary" => tell_minus(rest, attempt, &mut sheet),
-            "push_parameters" => tell_parameters(rest, attempt, &mut sheet),
-            _ => self.tell_evaluated::<R>(lists, form, rest, attempt, &mut sheet),
-        }
-        if !attempt.is_restored {
-            sheet.write("; libraries, imports or levels are not what they were");
-        }
-        sheet.finish()
-    }
-
-    /// Makes a call of the evaluator, with the last statement of a script or as a host's own.
-    fn tell_evaluated<R: Runner + Calls>(
-        self,
-        lists: &[Listed<'_>],
-        form: &str,
-        rest: &str,
-        attempt: &mut Attempt,
-        sheet: &mut Sheet,
-    ) {
-        let (list, number) = rest.split_once(' ').unwrap_or((rest, ""));
-        match (Entry::named(form), script_named(lists, list, number)) {
-            (Some(entry), Some(source)) => {
-                let alloc = sheet.maker.allocator();
-                let outcome = enter::<R>(alloc, entry, source, list, self.way, attempt);
-                if let Some(outcome) = sheet.maker.kept(outcome) {
-                    sheet.all(&outcome);
-                    drop(outcome);
-                }
-            }
-            _ => tell_attempt::<R>(form, rest, attempt, sheet),
-        }
+        _ => tell_attempt::<R>(form, rest, attempt, sheet),
     }
 }
 
