@@ -5,7 +5,8 @@
 //! line differs or cannot be read, or where something does not hold.
 //!
 //! - `rows refused` compares nothing. Where something outside of the program refuses memory, it runs the scripts with
-//!   each request of theirs refused in turn, and sees to what holds after each.
+//!   each request of theirs refused in turn, and sees to what holds after each; and the public calls of `refused.txt`,
+//!   whose ends it compares with what their lines tell.
 //! - `rows WORK [NUMBER]` times a work (`work`). The number says how long it is.
 #![tactic(auto)]
 
