@@ -38,12 +38,7 @@ fn exec(
 }
 
 impl Calls for Bench {
-    fn call_function(
-        alloc: Global,
-        caller: &mut Caller,
-        def: &CheckedFn,
-        rewinds: bool,
-    ) -> Answer {
+    fn call_function(alloc: Global, caller: &mut Caller, def: &CheckedFn, rewinds: bool) -> Answer {
         caller.caches.clear();
         let result = Engine::new(alloc).call_script_fn(
             alloc,

@@ -150,12 +150,7 @@ impl Manner {
 /// Makes a host's own calls, each with the object and the arguments of a caller.
 pub trait Calls {
     /// Calls a function with the object as its `this` and the arguments. `rewinds` says whether all of its variables go.
-    fn call_function(
-        alloc: Global,
-        caller: &mut Caller,
-        def: &CheckedFn,
-        rewinds: bool,
-    ) -> Answer;
+    fn call_function(alloc: Global, caller: &mut Caller, def: &CheckedFn, rewinds: bool) -> Answer;
 
     /// Calls a function by its name, in a manner.
     fn call_named(alloc: Global, caller: &mut Caller, name: &str, manner: Manner) -> Answer;

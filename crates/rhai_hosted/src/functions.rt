@@ -162,12 +162,7 @@ const CALLS: &[Call] = &[
         Form::OnTarget("add"),
     ),
     Call("a native", Parts(EMPTY_FUNCTION), 0, Form::Native("inc")),
-    Call(
-        "no native",
-        Parts(EMPTY_FUNCTION),
-        1,
-        Form::Native("none"),
-    ),
+    Call("no native", Parts(EMPTY_FUNCTION), 1, Form::Native("none")),
     Call("no indexer", Parts(EMPTY_FUNCTION), 1, Form::Indexer),
     Call("a name", Parts(EMPTY_FUNCTION), 0, Form::Seeks("e")),
     Call("no name", Parts(EMPTY_FUNCTION), 0, Form::Seeks("f")),

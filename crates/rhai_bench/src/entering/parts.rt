@@ -19,12 +19,7 @@ use rhai_tables::host::Pair;
 use std::alloc::Global;
 
 /// Enters a call with what a statement has for it.
-pub(crate) fn enter_part(
-    host: &mut Host,
-    alloc: Global,
-    entry: Entry,
-    stmt: &Stmt,
-) -> Answer
+pub(crate) fn enter_part(host: &mut Host, alloc: Global, entry: Entry, stmt: &Stmt) -> Answer
     requires { AgreesAt host.old.global host.old.scope (passes (resolves_stmt stmt.now)) }
 {
     if entry == Entry::Stmt {
@@ -85,12 +80,7 @@ fn eval_argument(host: &mut Host, alloc: Global, expr: &Expr) -> Answer
 }
 
 /// Enters a call with an expression.
-fn enter_expr(
-    host: &mut Host,
-    alloc: Global,
-    entry: Entry,
-    expr: &Expr,
-) -> Answer
+fn enter_expr(host: &mut Host, alloc: Global, entry: Entry, expr: &Expr) -> Answer
     requires { AgreesAt host.old.global host.old.scope (resolves_expr expr.now) }
 {
     match entry {

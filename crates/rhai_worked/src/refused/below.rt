@@ -46,7 +46,11 @@ pub fn tell_parameters(words: &str, attempt: &mut Attempt, sheet: &mut Sheet) {
     attempt.begin(alloc);
     let pushed = push_parameters(&mut scope, names.as_slice(), args.as_mut_slice());
     attempt.end(alloc);
-    sheet.write(if pushed.is_ok() { "ok; " } else { "no memory; " });
+    sheet.write(if pushed.is_ok() {
+        "ok; "
+    } else {
+        "no memory; "
+    });
     sheet.variables(0, &scope);
     for arg in args.as_slice() {
         sheet.write(" ");

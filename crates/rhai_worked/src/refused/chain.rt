@@ -101,7 +101,11 @@ const IN_CELL: &[Part<'_>] = &[
 pub fn is_assigned<R: Runner>(alloc: Global, root: Root, way: Way) -> Option<bool> {
     let mut attempt = Attempt::GRANTED;
     let is_done = run::<R>(alloc, root, way, &mut attempt);
-    if attempt.is_reached { Some(is_done) } else { None }
+    if attempt.is_reached {
+        Some(is_done)
+    } else {
+        None
+    }
 }
 
 /// Counts the requests of the call, in the way in which they are most.
