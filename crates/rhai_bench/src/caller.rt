@@ -1,15 +1,15 @@
 //! A host's own calls, over the bench's table of natives.
 
 use crate::Bench;
-use rhai_eval::base::{Position, Scope};
+use rhai_eval::base::{EvalAltResult, Position, Scope};
 use rhai_eval::check::CheckedFn;
 use rhai_eval::engine::Engine;
 use rhai_eval::script::FnKey;
 use rhai_eval::target::{Part, Target};
-use rhai_hosted::caller::{Answer, Caller, Calls, Manner, fours};
+use rhai_hosted::caller::{Answer, Caller, Calls, Manner};
 use rhai_tables::host::Pair;
 use rhai_values::base::value::{Dynamic, Union};
-use std::alloc::{AllocError, Global};
+use std::alloc::Global;
 use std::mem::replace;
 
 /// Calls a function by its name, on the variables of a scope if there is one.
@@ -38,15 +38,7 @@ fn exec(
 }
 
 impl Calls for Bench {
-    fn call_function(
-        alloc: Global,
-        caller: &mut Caller,
-        def: &CheckedFn,
-        level: usize,
-        rewinds: bool,
-    ) -> Result<Answer, AllocError> {
-        let mut args = fours(alloc, def.def().params.len())?;
-        caller.global.level = level;
+    fn call_function(alloc: Global, caller: &mut Caller, def: &CheckedFn, rewinds: bool) -> Answer {
         caller.caches.clear();
         let result = Engine::new(alloc).call_script_fn(
             alloc,
@@ -57,15 +49,11 @@ impl Calls for Bench {
             Some(&mut caller.object),
             None,
             def,
-            args.as_mut_slice(),
+            caller.args.as_mut_slice(),
             rewinds,
             Position::new(1, 1),
         );
-        drop(replace(&mut caller.args, args));
-        match result {
-            Ok(value) => Ok(Ok((value, false))),
-            Err(error) => Ok(Err(error)),
-        }
+        result.map(|value| (value, false))
     }
 
     fn call_named(alloc: Global, caller: &mut Caller, name: &str, manner: Manner) -> Answer {
@@ -92,6 +80,22 @@ impl Calls for Bench {
             true,
             Position::new(1, 1),
         )
+    }
+
+    fn call_indexer(alloc: Global, caller: &mut Caller) -> Answer {
+        let [index, ..] = caller.args.as_mut_slice() else {
+            return Err(EvalAltResult::ErrorUnboundThis(Position::NONE));
+        };
+        let item = Engine::new(alloc).call_indexer_get(
+            alloc,
+            &mut caller.global,
+            &mut caller.caches,
+            &mut caller.table,
+            &mut caller.object,
+            index,
+            Position::new(1, 1),
+        );
+        item.map(|value| (value, false))
     }
 
     fn call_method(alloc: Global, caller: &mut Caller, name: &str) -> Answer {

@@ -15,7 +15,8 @@ use crate::entering::host::{Answer, Host, no_part};
 use crate::entering::parts::enter_part;
 use rhai_eval::base::{EvalAltResult, Scope, Stmt};
 use rhai_eval::check::check_tree;
-use rhai_rows::entry::{Entry, Listener};
+use rhai_rows::attempt::Attempt;
+use rhai_rows::entry::Entry;
 use rhai_rows::modules::add_library;
 use rhai_rows::outcome::{Ending, Outcome};
 use rhai_rows::sample::Script;
@@ -25,13 +26,13 @@ use std::alloc::{AllocError, Global};
 
 /// Checks a script, runs its statements but the last in one of the ways, above the variables of a scope and with a
 /// `this` of 1, and enters a public call with the last one.
-pub(crate) fn enter_last<L: Listener>(
+pub(crate) fn enter_last(
     alloc: Global,
     entry: Entry,
     script: Script,
     way: Way,
     scope: Scope<Pair>,
-    listener: &mut L,
+    attempt: &mut Attempt,
 ) -> Result<Outcome, AllocError> {
     let Script {
         statements,
@@ -43,7 +44,7 @@ pub(crate) fn enter_last<L: Listener>(
         Err(fault) => Ending::Refused(fault),
         Ok(tree) => {
             add_library(alloc, &mut host.global, &tree)?;
-            let answer = enter_list(&mut host, alloc, entry, tree.statements(), listener);
+            let answer = enter_list(&mut host, alloc, entry, tree.statements(), attempt);
             drop(tree);
             match answer {
                 Ok(value) => Ending::Value(value),
@@ -56,12 +57,12 @@ pub(crate) fn enter_last<L: Listener>(
 
 /// Runs the statements of a list but the last, and enters a call with that. That of imports is entered once the whole
 /// list was run.
-fn enter_list<L: Listener>(
+fn enter_list(
     host: &mut Host,
     alloc: Global,
     entry: Entry,
     statements: &[Stmt],
-    listener: &mut L,
+    attempt: &mut Attempt,
 ) -> Answer
     requires { AgreesAt host.old.global host.old.scope (passes (all_resolve (map resolves_stmt statements.now))) }
 {
@@ -77,9 +78,25 @@ fn enter_list<L: Listener>(
         }
     }
     match split(rest) {
-        Some((last, _)) => enter_part(host, alloc, entry, last, listener),
+        Some((last, _)) => attempt_part(host, alloc, entry, last, attempt),
         None => no_part(),
     }
+}
+
+/// Enters a call with what a statement has for it, which is the attempt.
+fn attempt_part(
+    host: &mut Host,
+    alloc: Global,
+    entry: Entry,
+    stmt: &Stmt,
+    attempt: &mut Attempt,
+) -> Answer
+    requires { AgreesAt host.old.global host.old.scope (passes (resolves_stmt stmt.now)) }
+{
+    attempt.begin_over(alloc, &host.global);
+    let answer = enter_part(host, alloc, entry, stmt);
+    attempt.end_over(alloc, &host.global);
+    answer
 }
 
 /// Splits the first of some statements from the others.

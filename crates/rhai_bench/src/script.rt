@@ -17,7 +17,8 @@ use rhai_eval::cells::CellStore;
 use rhai_eval::check::{CheckedTree, check_tree};
 use rhai_eval::engine::Engine;
 use rhai_eval::state::{Caches, GlobalRuntimeState, ModuleTable};
-use rhai_rows::entry::{Entry, Listener};
+use rhai_rows::attempt::Attempt;
+use rhai_rows::entry::Entry;
 use rhai_rows::modules::{add_library, global_modules, global_sub_modules, modules_to_import};
 use rhai_rows::outcome::{Ending, Outcome};
 use rhai_rows::runner::Runner;
@@ -74,15 +75,15 @@ fn modules_of(alloc: Global, settings: &Settings) -> Result<ModuleTable<Pair>, A
 }
 
 impl Runner for Bench {
-    fn enter<L: Listener>(
+    fn enter(
         alloc: Global,
         entry: Entry,
         script: Script,
         way: Way,
         scope: Scope<Pair>,
-        listener: &mut L,
+        attempt: &mut Attempt,
     ) -> Result<Outcome, AllocError> {
-        enter_last(alloc, entry, script, way, scope, listener)
+        enter_last(alloc, entry, script, way, scope, attempt)
     }
 
     fn run_above(

@@ -149,21 +149,17 @@ impl Manner {
 
 /// Makes a host's own calls, each with the object and the arguments of a caller.
 pub trait Calls {
-    /// Calls a function at a level, with the object as its `this` and 4 for each parameter. `rewinds` says
-    /// whether all of its variables go.
-    fn call_function(
-        alloc: Global,
-        caller: &mut Caller,
-        def: &CheckedFn,
-        level: usize,
-        rewinds: bool,
-    ) -> Result<Answer, AllocError>;
+    /// Calls a function with the object as its `this` and the arguments. `rewinds` says whether all of its variables go.
+    fn call_function(alloc: Global, caller: &mut Caller, def: &CheckedFn, rewinds: bool) -> Answer;
 
     /// Calls a function by its name, in a manner.
     fn call_named(alloc: Global, caller: &mut Caller, name: &str, manner: Manner) -> Answer;
 
     /// Calls a native by its name, on the object before the arguments.
     fn call_native(alloc: Global, caller: &mut Caller, name: &str) -> Answer;
+
+    /// Asks the indexer that reads for the item of the object at the first argument.
+    fn call_indexer(alloc: Global, caller: &mut Caller) -> Answer;
 
     /// Calls a method on the object.
     fn call_method(alloc: Global, caller: &mut Caller, name: &str) -> Answer;

@@ -1,8 +1,9 @@
 //! What a host's own calls of functions answer, and what they leave.
 
-use crate::caller::{Answer, Caller, Calls, Manner};
+use crate::caller::{Answer, Caller, Calls, Manner, fours};
 use rhai_eval_base::base::CellId;
 use rhai_eval_base::check::{CheckedFn, CheckedTree, check_tree};
+use rhai_rows::attempt::Attempt;
 use rhai_rows::maker::Maker;
 use rhai_rows::modules::add_library;
 use rhai_rows::outcome::Ending;
@@ -14,8 +15,9 @@ use rhai_rows::sheet::Sheet;
 use rhai_samples::functions::{
     EMPTY_FUNCTION, METHOD_THAT_CHANGES_AN_ITEM, PARAMETER_ASSIGNED, THIS_ASKED, VARIABLE_DECLARED,
 };
-use std::alloc::{AllocError, Global};
+use std::alloc::Global;
 use std::io;
+use std::mem::replace;
 
 /// A call by its name: the tree with its function, how many arguments the caller has, and its form.
 #[derive(Clone, Copy)]
@@ -38,10 +40,28 @@ enum Form {
     /// A name, where object and arguments are handles of a cell that is held. What the error says is written, how many
     /// operations are counted, and what the cell has.
     OnHeldHandles(&'static str),
+    /// A name of a native, with the object lent as its first argument.
+    Native(&'static str),
+    /// The indexer that reads, of the object at the first argument.
+    Indexer,
     /// A method on a `Target`.
     OnTarget(&'static str),
     /// Whether a function of a name without arguments is there.
     Seeks(&'static str),
+}
+
+impl Form {
+    /// Returns the name of the public call that is made.
+    fn called(self) -> &'static str {
+        match self {
+            Form::Function(..) => "call_script_fn",
+            Form::Native(_) | Form::NativeOnHandles(_) => "exec_native_fn_call",
+            Form::Indexer => "call_indexer_get",
+            Form::OnTarget(_) => "make_method_call",
+            Form::Seeks(_) => "has_script_fn",
+            _ => "exec_fn_call",
+        }
+    }
 }
 
 const CALLS: &[Call] = &[
@@ -141,6 +161,9 @@ const CALLS: &[Call] = &[
         1,
         Form::OnTarget("add"),
     ),
+    Call("a native", Parts(EMPTY_FUNCTION), 0, Form::Native("inc")),
+    Call("no native", Parts(EMPTY_FUNCTION), 1, Form::Native("none")),
+    Call("no indexer", Parts(EMPTY_FUNCTION), 1, Form::Indexer),
     Call("a name", Parts(EMPTY_FUNCTION), 0, Form::Seeks("e")),
     Call("no name", Parts(EMPTY_FUNCTION), 0, Form::Seeks("f")),
 ];
@@ -149,10 +172,19 @@ const CALLS: &[Call] = &[
 pub fn write_call<C: Calls>(alloc: Global, name: &str, out: &mut Vec<u8>) -> io::Result<()> {
     let mut sheet = Sheet::new(alloc);
     match call_of(name) {
-        Some(call) => tell_call::<C>(call, &mut sheet),
+        Some(call) => tell_call::<C>(call, &mut Attempt::GRANTED, false, &mut sheet),
         None => sheet.write("no call"),
     }
     sheet.hand_to(out)
+}
+
+/// Tells what a call of a name comes to that is an attempt, how many operations are counted then, and what it leaves. The
+/// public call that it makes has to be the one that is named too.
+pub fn tell_attempt<C: Calls>(called: &str, name: &str, attempt: &mut Attempt, sheet: &mut Sheet) {
+    match call_of(name) {
+        Some(call) if call.3.called() == called => tell_call::<C>(call, attempt, true, sheet),
+        _ => sheet.write("no call"),
+    }
 }
 
 /// Finds the call of a name.
@@ -165,15 +197,21 @@ fn call_of(name: &str) -> Option<Call> {
     None
 }
 
-fn tell_call<C: Calls>(call: Call, sheet: &mut Sheet) {
-    let Call(_, tree, count, form) = call;
+fn tell_call<C: Calls>(call: Call, attempt: &mut Attempt, tells_all: bool, sheet: &mut Sheet) {
+    let Call(_, tree, ..) = call;
     let script = Sample(tree, Usual).script(sheet.maker.allocator());
     if let Some(script) = sheet.maker.kept(script) {
-        tell_script::<C>(count, form, script, sheet);
+        tell_script::<C>(call, script, attempt, tells_all, sheet);
     }
 }
 
-fn tell_script<C: Calls>(count: usize, form: Form, script: Script, sheet: &mut Sheet) {
+fn tell_script<C: Calls>(
+    call: Call,
+    script: Script,
+    attempt: &mut Attempt,
+    tells_all: bool,
+    sheet: &mut Sheet,
+) {
     let Script {
         statements,
         functions,
@@ -181,10 +219,7 @@ fn tell_script<C: Calls>(count: usize, form: Form, script: Script, sheet: &mut S
     } = script;
     match check_tree(sheet.maker.allocator(), statements, functions) {
         Ok(tree) => {
-            match tree.functions() {
-                [function] => tell_called::<C>(count, form, &tree, function.get(), sheet),
-                _ => sheet.write("no function"),
-            }
+            tell_called::<C>(call, &tree, attempt, tells_all, sheet);
             drop(tree);
         }
         Err(_) => sheet.write("no tree"),
@@ -192,71 +227,96 @@ fn tell_script<C: Calls>(count: usize, form: Form, script: Script, sheet: &mut S
 }
 
 fn tell_called<C: Calls>(
-    count: usize,
-    form: Form,
+    call: Call,
     tree: &CheckedTree,
-    def: &CheckedFn,
+    attempt: &mut Attempt,
+    tells_all: bool,
     sheet: &mut Sheet,
 ) {
-    let caller = Caller::new(sheet.maker.allocator(), count);
+    let Call(_, _, count, form) = call;
+    let alloc = sheet.maker.allocator();
+    let caller = Caller::new(alloc, count);
     if let Some(mut caller) = sheet.maker.kept(caller) {
-        let added = add_library(sheet.maker.allocator(), &mut caller.global, tree);
+        let added = add_library(alloc, &mut caller.global, tree);
         sheet.maker.remember(added);
-        tell_answer::<C>(form, &mut caller, def, sheet);
+        match tree.functions() {
+            [function] => {
+                let def = function.get();
+                prepare(form, &mut caller, def, &mut sheet.maker);
+                attempt.begin_over(alloc, &caller.global);
+                let answer = answer_of::<C>(alloc, form, &mut caller, def);
+                attempt.end_over(alloc, &caller.global);
+                tell_answer(form, answer, &caller, tells_all, sheet);
+            }
+            _ => sheet.write("no function"),
+        }
         drop(caller);
     }
 }
 
-/// Calls, and tells what the call answered, and what it left or what its error says.
-fn tell_answer<C: Calls>(form: Form, caller: &mut Caller, def: &CheckedFn, sheet: &mut Sheet) {
-    let answer = answer_of::<C>(form, caller, def, &mut sheet.maker);
-    if let Some(answer) = sheet.maker.kept(answer) {
-        match form {
-            Form::MissingOnHandles(_) | Form::NativeOnHandles(_) => {
-                tell_text(answer, sheet);
-                sheet.write("; ");
-                sheet.show(&caller.global.num_operations);
+/// Makes what a form has before its call.
+fn prepare(form: Form, caller: &mut Caller, def: &CheckedFn, maker: &mut Maker) {
+    match form {
+        Form::Function(level, _) => {
+            let args = fours(maker.allocator(), def.def().params.len());
+            if let Some(args) = maker.kept(args) {
+                drop(replace(&mut caller.args, args));
             }
-            Form::OnHeldHandles(_) => {
-                tell_text(answer, sheet);
-                sheet.write("; ");
-                sheet.show(&caller.global.num_operations);
-                sheet.write("; ");
-                sheet.content(&caller.global.cells, 0);
-            }
-            _ => {
-                tell_end(answer, sheet);
-                tell_left(caller, sheet);
-            }
+            caller.global.level = level;
+        }
+        Form::MethodOnHandles(_) | Form::MissingOnHandles(_) | Form::NativeOnHandles(_) => {
+            caller.share(maker);
+        }
+        Form::OnHeldHandles(_) => {
+            caller.share(maker);
+            drop(caller.global.cells.take(CellId { number: 0 }));
+        }
+        _ => {}
+    }
+}
+
+/// Tells what the call answered, and what it left or what its error says; or all of that of an attempt.
+fn tell_answer(form: Form, answer: Answer, caller: &Caller, tells_all: bool, sheet: &mut Sheet) {
+    if tells_all {
+        tell_end(answer, sheet);
+        sheet.write(", ");
+        sheet.show(&caller.global.num_operations);
+        sheet.write(" charges");
+        tell_left(caller, sheet);
+        return;
+    }
+    match form {
+        Form::MissingOnHandles(_) | Form::NativeOnHandles(_) => {
+            tell_text(answer, sheet);
+            sheet.write("; ");
+            sheet.show(&caller.global.num_operations);
+        }
+        Form::OnHeldHandles(_) => {
+            tell_text(answer, sheet);
+            sheet.write("; ");
+            sheet.show(&caller.global.num_operations);
+            sheet.write("; ");
+            sheet.content(&caller.global.cells, 0);
+        }
+        _ => {
+            tell_end(answer, sheet);
+            tell_left(caller, sheet);
         }
     }
 }
 
-fn answer_of<C: Calls>(
-    form: Form,
-    caller: &mut Caller,
-    def: &CheckedFn,
-    maker: &mut Maker,
-) -> Result<Answer, AllocError> {
-    let alloc = maker.allocator();
+fn answer_of<C: Calls>(alloc: Global, form: Form, caller: &mut Caller, def: &CheckedFn) -> Answer {
     match form {
-        Form::Function(level, rewinds) => C::call_function(alloc, caller, def, level, rewinds),
-        Form::Named(name, manner) => Ok(C::call_named(alloc, caller, name, manner)),
+        Form::Function(_, rewinds) => C::call_function(alloc, caller, def, rewinds),
+        Form::Named(name, manner) => C::call_named(alloc, caller, name, manner),
         Form::MethodOnHandles(name) | Form::MissingOnHandles(name) => {
-            caller.share(maker);
-            Ok(C::call_named(alloc, caller, name, Manner::METHOD))
+            C::call_named(alloc, caller, name, Manner::METHOD)
         }
-        Form::NativeOnHandles(name) => {
-            caller.share(maker);
-            Ok(C::call_native(alloc, caller, name))
-        }
-        Form::OnHeldHandles(name) => {
-            caller.share(maker);
-            drop(caller.global.cells.take(CellId { number: 0 }));
-            Ok(C::call_named(alloc, caller, name, Manner::VALUE))
-        }
-        Form::OnTarget(name) => Ok(C::call_method(alloc, caller, name)),
-        Form::Seeks(name) => Ok(C::has_function(alloc, caller, name)),
+        Form::OnHeldHandles(name) => C::call_named(alloc, caller, name, Manner::VALUE),
+        Form::Native(name) | Form::NativeOnHandles(name) => C::call_native(alloc, caller, name),
+        Form::Indexer => C::call_indexer(alloc, caller),
+        Form::OnTarget(name) => C::call_method(alloc, caller, name),
+        Form::Seeks(name) => C::has_function(alloc, caller, name),
     }
 }
 

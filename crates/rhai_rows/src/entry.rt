@@ -1,7 +1,5 @@
 //! The public calls of the evaluator that lines enter by themselves, each with the last statement of a script.
 
-use std::alloc::Global;
-
 /// A public call of the evaluator.
 #[derive(Clone, Copy, Debug, PartialEq, Eq)]
 pub enum Entry {
@@ -55,21 +53,4 @@ impl Entry {
         }
         None
     }
-}
-
-/// Hears when the call of a chain is entered and when it has ended.
-pub trait Listener {
-    fn enters(&mut self, alloc: Global);
-
-    fn leaves(&mut self, alloc: Global);
-}
-
-/// What listens where nothing is to be heard.
-#[derive(Clone, Copy)]
-pub struct Unheard;
-
-impl Listener for Unheard {
-    fn enters(&mut self, _alloc: Global) {}
-
-    fn leaves(&mut self, _alloc: Global) {}
 }

@@ -2,15 +2,18 @@
 //! they come to is written. Nothing here runs them.
 #![tactic(auto)]
 
+pub mod attempt;
 pub mod compare;
 pub mod entry;
 pub mod errors;
+pub mod levels;
 pub mod linked_pointer;
 pub mod maker;
 pub mod modules;
 pub mod outcome;
 pub mod outcomes;
 pub mod print;
+pub mod refuser;
 pub mod rows;
 pub mod runner;
 pub mod sample;

@@ -49,7 +49,7 @@ impl Sheet {
     }
 
     /// Appends how a call ended, its charges, the variables, the cells if there are some, and `this`.
-    fn all(&mut self, outcome: &Outcome) {
+    pub fn all(&mut self, outcome: &Outcome) {
         self.end(&outcome.ending);
         self.raced(&outcome.ending);
         self.write(", ");

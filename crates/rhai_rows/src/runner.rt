@@ -3,7 +3,8 @@
 ghost use Rattle.rhai_lookups.specs.Levels.{CachesFit};
 ghost use Rattle.rhai_lookups.specs.Runs.{lists_of};
 
-use crate::entry::{Entry, Listener};
+use crate::attempt::Attempt;
+use crate::entry::Entry;
 use crate::outcome::Outcome;
 use crate::sample::Script;
 use crate::settings::{Settings, Way};
@@ -25,14 +26,14 @@ pub trait Runner {
     ) -> Result<Outcome, AllocError>;
 
     /// Checks a script, runs its statements but the last in one of the ways, above the variables of a scope and with a
-    /// `this` of 1, and enters a public call with the last one.
-    fn enter<L: Listener>(
+    /// `this` of 1, and enters a public call with the last one, which is the attempt.
+    fn enter(
         alloc: Global,
         entry: Entry,
         script: Script,
         way: Way,
         scope: Scope<Pair>,
-        listener: &mut L,
+        attempt: &mut Attempt,
     ) -> Result<Outcome, AllocError>;
 
     /// Evaluates a tree with an engine of settings. `AllocError` where the engine could not be made.

@@ -1,7 +1,8 @@
 //! The work of a program that compares lines and runs scripts with their requests for memory refused.
 
 use crate::lists::{FILE, Listed, read};
-use crate::refused::are_all_well;
+use crate::refused::{are_all_well, calls};
+use rhai_hosted::caller::Calls;
 use rhai_rows::compare::{Subject, compare_lines};
 use rhai_rows::runner::Runner;
 use std::rt::Files;
@@ -44,11 +45,12 @@ fn compare_file<S: Subject, R: Files + Print + AllocGlobal>(
     compare_lines(rt.alloc(), subject, lines.as_str(), &mut io::writer(rt))
 }
 
-/// Runs the scripts of the rows and of the lists with all memory granted, and, where something outside of the program
+/// Runs the scripts of the rows and of the lists and makes the calls of lines with all memory granted, and, where something outside of the program
 /// refuses memory, with each request of theirs refused in turn. Tells whether what has to hold after each does.
-pub fn do_all_hold<R: Runner, H: Print + AllocGlobal>(
+pub fn do_all_hold<R: Runner + Calls, H: Files + Print + AllocGlobal>(
     rt: &H,
     lists: &[Listed<'_>],
 ) -> io::Result<bool> {
-    are_all_well::<R, _>(rt.alloc(), lists, &mut io::writer(rt))
+    let calls = fs::read_to_string(rt, calls::FILE)?;
+    are_all_well::<R, _>(rt.alloc(), lists, calls.as_str(), &mut io::writer(rt))
 }

@@ -3,17 +3,21 @@
 //! to refuse, and sees to what holds after each run. Refusing needs something outside of the program; without it
 //! all memory is granted in every run.
 
+mod below;
+pub(crate) mod calls;
 mod chain;
 mod leaves;
 mod part;
-mod refuser;
 
 use crate::lists::Listed;
+use crate::refused::calls::tally_calls;
 use crate::refused::chain::Root;
 use crate::refused::leaves::Leaf;
 use crate::refused::part::{Part, Report};
-use crate::refused::refuser::Refusal;
 use crate::scripts::Source;
+use rhai_hosted::caller::Calls;
+use rhai_rows::refuser;
+use rhai_rows::refuser::Refusal;
 use rhai_rows::rows::scripts_of;
 use rhai_rows::runner::Runner;
 use rhai_rows::settings::Way;
@@ -43,18 +47,21 @@ struct Tally {
     wrong: u64,
 }
 
-/// Prints what does not hold after a run, and how many runs there were, of the rows and of the lists. Tells whether
-/// all holds.
-pub fn are_all_well<R: Runner, W: Write>(
+/// Prints what does not hold after a run, and how many runs there were, of the rows, of the lists and of the calls of
+/// lines. Tells whether all holds.
+pub fn are_all_well<R: Runner + Calls, W: Write>(
     alloc: Global,
     lists: &[Listed<'_>],
+    calls: &str,
     out: &mut W,
 ) -> io::Result<bool> {
     let rows = tally_rows::<R, _>(alloc, &mut *out)?;
     rows.write("rows", &mut *out)?;
-    let lists = tally_lists::<R, _>(alloc, lists, &mut *out)?;
-    lists.write("lists", &mut *out)?;
-    Ok(rows.wrong == 0 && lists.wrong == 0)
+    let listed = tally_lists::<R, _>(alloc, lists, &mut *out)?;
+    listed.write("lists", &mut *out)?;
+    let calls = tally_calls::<R, _>(alloc, lists, calls, &mut *out)?;
+    calls.write("calls", &mut *out)?;
+    Ok(rows.wrong == 0 && listed.wrong == 0 && calls.wrong == 0)
 }
 
 /// Runs the scripts of the rows, the assignment through a chain, and the calls that leave what they are handed.
@@ -104,6 +111,15 @@ impl Tally {
             "{name}: {} not reached, {} out of memory, {} unharmed, {} wrong",
             self.not_made, self.ran_out, self.unharmed, self.wrong
         )
+    }
+
+    /// Counts a run that came to what it comes to with all memory granted, or ran out of memory.
+    fn count_end(&mut self, is_unharmed: bool) {
+        if is_unharmed {
+            self.unharmed = self.unharmed.saturating_add(1);
+        } else {
+            self.ran_out = self.ran_out.saturating_add(1);
+        }
     }
 
     /// Counts and prints what is wrong with a run, if anything is. The number is that of the request that was

@@ -2,7 +2,8 @@
 
 use crate::lists::{Listed, find};
 use rhai_eval_base::base::{AccessMode, Dynamic, Scope, Union};
-use rhai_rows::entry::{Entry, Unheard};
+use rhai_rows::attempt::Attempt;
+use rhai_rows::entry::Entry;
 use rhai_rows::linked_pointer::scope_for;
 use rhai_rows::outcomes::write_outcome;
 use rhai_rows::rows::scripts_of;
@@ -136,7 +137,7 @@ fn write_way<R: Runner>(
     let scope = scope_of(alloc, others, list)?;
     let (outcome, form) = match Entry::named(form) {
         Some(entry) => (
-            R::enter(alloc, entry, script, way, scope, &mut Unheard)?,
+            R::enter(alloc, entry, script, way, scope, &mut Attempt::GRANTED)?,
             "all",
         ),
         None => (R::run_above(alloc, script, way, scope)?, form),

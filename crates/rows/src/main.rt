@@ -4,8 +4,9 @@
 //! files stand in the folder where the program runs; one of them has scripts that no row has. The status is 1 where a
 //! line differs or cannot be read, or where something does not hold.
 //!
-//! - `rows refused` compares nothing. Where something outside of the program refuses memory, it runs the scripts with
-//!   each request of theirs refused in turn, and sees to what holds after each.
+//! - `rows refused` compares no other lines. Where something outside of the program refuses memory, it runs the
+//!   scripts with each request of theirs refused in turn, and sees to what holds after each; and makes the public calls of
+//!   `refused.txt` so, whose ends it compares with what their lines tell.
 //! - `rows WORK [NUMBER]` times a work (`work`). The number says how long it is.
 //! - `rows library COUNT NUMBER` times a function with that number in a library of so many, and `rows library-off COUNT
 //!   NUMBER` the same without caches of function lookups.

@@ -13,19 +13,13 @@ use crate::entering::host::{Answer, Host, no_part, value_of};
 use rhai_call_forms::arguments::split_first;
 use rhai_eval::base::{Dynamic, Expr, FnCallExpr, OpAssignment, Position, Stmt, Union};
 use rhai_eval::eval::chaining::ChainType;
-use rhai_rows::entry::{Entry, Listener};
+use rhai_rows::entry::Entry;
 use rhai_steps::variables::is_plain;
 use rhai_tables::host::Pair;
 use std::alloc::Global;
 
 /// Enters a call with what a statement has for it.
-pub(crate) fn enter_part<L: Listener>(
-    host: &mut Host,
-    alloc: Global,
-    entry: Entry,
-    stmt: &Stmt,
-    listener: &mut L,
-) -> Answer
+pub(crate) fn enter_part(host: &mut Host, alloc: Global, entry: Entry, stmt: &Stmt) -> Answer
     requires { AgreesAt host.old.global host.old.scope (passes (resolves_stmt stmt.now)) }
 {
     if entry == Entry::Stmt {
@@ -33,10 +27,10 @@ pub(crate) fn enter_part<L: Listener>(
     }
     match stmt {
         Stmt::Block(block) => host.run_list(alloc, block.statements.as_slice(), true),
-        Stmt::Expr(expr) => enter_expr(host, alloc, entry, expr, listener),
+        Stmt::Expr(expr) => enter_expr(host, alloc, entry, expr),
         Stmt::FnCall(call, pos) => enter_call(host, alloc, entry, call, *pos),
         Stmt::Assignment(op, lhs, rhs) => {
-            enter_assignment(host, alloc, entry, op, lhs, literal(rhs), listener)
+            enter_assignment(host, alloc, entry, op, lhs, literal(rhs))
         }
         _ => no_part(),
     }
@@ -86,19 +80,13 @@ fn eval_argument(host: &mut Host, alloc: Global, expr: &Expr) -> Answer
 }
 
 /// Enters a call with an expression.
-fn enter_expr<L: Listener>(
-    host: &mut Host,
-    alloc: Global,
-    entry: Entry,
-    expr: &Expr,
-    listener: &mut L,
-) -> Answer
+fn enter_expr(host: &mut Host, alloc: Global, entry: Entry, expr: &Expr) -> Answer
     requires { AgreesAt host.old.global host.old.scope (resolves_expr expr.now) }
 {
     match entry {
         Entry::Expr => eval(host, alloc, expr),
         Entry::Argument => eval_argument(host, alloc, expr),
-        Entry::Chain => enter_chain(host, alloc, expr, None, listener),
+        Entry::Chain => enter_chain(host, alloc, expr, None),
         Entry::Namespace => host.search(alloc, expr, None),
         Entry::Operation => host.charge(expr.start_position()),
         Entry::ChainType => Ok(Dynamic::new(Union::Bool(
@@ -184,20 +172,19 @@ fn enter_call(
 }
 
 /// Enters a call with the left side of an assignment and a value.
-fn enter_assignment<L: Listener>(
+fn enter_assignment(
     host: &mut Host,
     alloc: Global,
     entry: Entry,
     op: &OpAssignment,
     lhs: &Expr,
     value: Dynamic<Pair>,
-    listener: &mut L,
 ) -> Answer
     requires resolves { AgreesAt host.old.global host.old.scope (target_resolves (tests_of lhs.now)) }
     requires value { IsNoHandle value.value }
 {
     match entry {
-        Entry::Chain => enter_chain(host, alloc, lhs, Some((value, op)), listener),
+        Entry::Chain => enter_chain(host, alloc, lhs, Some((value, op))),
         Entry::OpAssignment => host.assign(alloc, op, lhs, value),
         Entry::VariableMut => host.write(lhs, value),
         _ => host.search(alloc, lhs, Some(value)),
@@ -205,12 +192,11 @@ fn enter_assignment<L: Listener>(
 }
 
 /// Evaluates a chain, or assigns to what it leads to.
-fn enter_chain<L: Listener>(
+fn enter_chain(
     host: &mut Host,
     alloc: Global,
     expr: &Expr,
     new: Option<(Dynamic<Pair>, &OpAssignment)>,
-    listener: &mut L,
 ) -> Answer
     requires resolves { AgreesAt host.old.global host.old.scope (chain_resolves (is_some new) expr.now) }
     requires value { AssignsNoHandle new }
@@ -220,8 +206,7 @@ fn enter_chain<L: Listener>(
         return no_part();
     }
     host.caches.clear();
-    listener.enters(alloc);
-    let answer = host.engine.eval_dot_index_chain(
+    host.engine.eval_dot_index_chain(
         alloc,
         &mut host.global,
         &mut host.caches,
@@ -230,9 +215,7 @@ fn enter_chain<L: Listener>(
         Some(&mut host.this),
         expr,
         new,
-    );
-    listener.leaves(alloc);
-    answer
+    )
 }
 
 fn is_chain(expr: &Expr) -> bool

@@ -1,12 +1,13 @@
 //! `a[0][1] = 5` over `[[1, 2], [3, 4]]`, by the public call of a chain: a chain copies nothing that it goes through, so
 //! the call asks for no memory, and wherever it is reached it assigns.
 
-use crate::refused::refuser;
-use crate::refused::refuser::Refusal;
 use rhai_build::functions::TreeParts;
 use rhai_eval_base::base::{CellId, Dynamic, Scope, Union};
-use rhai_rows::entry::{Entry, Listener};
+use rhai_rows::attempt::Attempt;
+use rhai_rows::entry::Entry;
 use rhai_rows::outcome::{Ending, Outcome};
+use rhai_rows::refuser;
+use rhai_rows::refuser::Refusal;
 use rhai_rows::runner::Runner;
 use rhai_rows::sample::Script;
 use rhai_rows::settings::{Settings, Way};
@@ -95,43 +96,16 @@ const IN_CELL: &[Part<'_>] = &[
     Assign(35),
 ];
 
-/// Hears whether the call is reached. Where it has a number, the request of that number within the call is refused.
-#[derive(Clone, Copy)]
-struct Ear {
-    number: Option<usize>,
-    is_reached: bool,
-    was_refused: bool,
-}
-
-impl Listener for Ear {
-    fn enters(&mut self, alloc: Global) {
-        self.is_reached = true;
-        if let Some(number) = self.number {
-            refuser::begin(alloc, Refusal::Alone, number);
-        }
-    }
-
-    fn leaves(&mut self, alloc: Global) {
-        self.was_refused = refuser::end(alloc);
-    }
-}
-
-impl Ear {
-    fn new(number: Option<usize>) -> Ear {
-        Ear {
-            number,
-            is_reached: false,
-            was_refused: false,
-        }
-    }
-}
-
 /// Tells whether the assignment is done, and None where its call is not reached. What the call does not ask for is
 /// granted from its end on.
 pub fn is_assigned<R: Runner>(alloc: Global, root: Root, way: Way) -> Option<bool> {
-    let mut ear = Ear::new(None);
-    let is_done = run::<R>(alloc, root, way, &mut ear);
-    if ear.is_reached { Some(is_done) } else { None }
+    let mut attempt = Attempt::GRANTED;
+    let is_done = run::<R>(alloc, root, way, &mut attempt);
+    if attempt.is_reached {
+        Some(is_done)
+    } else {
+        None
+    }
 }
 
 /// Counts the requests of the call, in the way in which they are most.
@@ -149,9 +123,9 @@ pub fn requests<R: Runner>(alloc: Global, root: Root) -> usize {
 /// Counts the requests of the call in a way.
 fn requests_in<R: Runner>(alloc: Global, root: Root, way: Way) -> usize {
     for number in 1..=refuser::GREATEST {
-        let mut ear = Ear::new(Some(number));
-        run::<R>(alloc, root, way, &mut ear);
-        if !ear.was_refused {
+        let mut attempt = Attempt::refusing(Refusal::Alone, number);
+        run::<R>(alloc, root, way, &mut attempt);
+        if !attempt.was_refused {
             return number.saturating_sub(1);
         }
     }
@@ -159,11 +133,11 @@ fn requests_in<R: Runner>(alloc: Global, root: Root, way: Way) -> usize {
 }
 
 /// Runs the script, its last statement by the call, and tells whether that gave `()` and the array is what it is to be.
-fn run<R: Runner>(alloc: Global, root: Root, way: Way, ear: &mut Ear) -> bool {
+fn run<R: Runner>(alloc: Global, root: Root, way: Way, attempt: &mut Attempt) -> bool {
     let Ok(script) = script(alloc, root) else {
         return false;
     };
-    match R::enter(alloc, Entry::Chain, script, way, Scope::new(alloc), ear) {
+    match R::enter(alloc, Entry::Chain, script, way, Scope::new(alloc), attempt) {
         Ok(outcome) => {
             let is_done = is_unit(&outcome.ending) && is_left(&outcome, root);
             drop(outcome);

@@ -1,11 +1,11 @@
 //! The calls that leave what they are handed where a request is refused: three read it, and `CellStore::add` hands it
 //! back.
 
-use crate::refused::refuser;
-use crate::refused::refuser::Refusal;
 use rhai_eval_base::base::{Dynamic, Union};
 use rhai_eval_base::cells::CellStore;
 use rhai_eval_base::script::{ScriptFuncDef, environ_of, metadata_of};
+use rhai_rows::refuser;
+use rhai_rows::refuser::Refusal;
 use rhai_rows::signatures::state_with_surroundings;
 use rhai_samples::built::private_function;
 use rhai_tables::host::Pair;

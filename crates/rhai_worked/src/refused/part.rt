@@ -1,16 +1,17 @@
 //! A script of a row or a list, made, checked and run in a way, and what holds after its run.
 
-use crate::refused::refuser;
 use crate::scripts::Source;
 use rhai_eval_base::base::{CellId, Dynamic, EvalAltResult, Items, Scope, Union};
 use rhai_eval_base::cells::CellStore;
 use rhai_eval_base::check::{CheckFault, CheckedTree, check_tree};
 use rhai_eval_base::state::{Caches, GlobalRuntimeState};
 use rhai_eval_base::table::NativeTable;
+use rhai_rows::levels::Levels;
 use rhai_rows::linked_pointer::scope_for;
 use rhai_rows::modules::add_library;
 use rhai_rows::outcome::Ending;
 use rhai_rows::print::write_ending;
+use rhai_rows::refuser;
 use rhai_rows::runner::Runner;
 use rhai_rows::sample::Script;
 use rhai_rows::settings::{Settings, Way};
@@ -185,7 +186,7 @@ impl Run {
         ) else {
             return None;
         };
-        let is_restored = before == Levels::of(&self.global);
+        let is_restored = before.are_but_for_imports(&self.global);
         match outcome {
             Ok(value) => Some((Ending::Value(value), is_restored)),
             Err(error) => Some((Ending::Error(error), is_restored)),
@@ -291,26 +292,6 @@ fn imports_of(alloc: Global, global: &GlobalRuntimeState<Pair>) -> io::Result<Ve
         writeln!(&mut names, "{}", import.name.get().as_str())?;
     }
     Ok(names)
-}
-
-/// What a run takes back on every way out.
-#[derive(Clone, Copy, Debug, PartialEq, Eq)]
-struct Levels {
-    libraries: usize,
-    level: usize,
-    scope_level: usize,
-    constants: usize,
-}
-
-impl Levels {
-    fn of(global: &GlobalRuntimeState<Pair>) -> Levels {
-        Levels {
-            libraries: global.lib.len(),
-            level: global.level,
-            scope_level: global.scope_level,
-            constants: global.constants,
-        }
-    }
 }
 
 fn found_no_memory(ending: &Ending) -> bool {
