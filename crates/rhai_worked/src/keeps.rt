@@ -10,7 +10,8 @@ use crate::scripts::{Source, script_named};
 use rhai_eval_base::base::Scope;
 use rhai_eval_base::check::{CheckedTree, check_tree};
 use rhai_eval_base::state::{Caches, GlobalRuntimeState};
-use rhai_rows::entry::{Entry, Unheard};
+use rhai_rows::attempt::Attempt;
+use rhai_rows::entry::Entry;
 use rhai_rows::linked_pointer::scope_for;
 use rhai_rows::maker::Maker;
 use rhai_rows::modules::add_library;
@@ -151,7 +152,8 @@ fn tell_entered<R: Runner>(
     sheet: &mut Sheet,
 ) {
     let alloc = sheet.maker.allocator();
-    let outcome = R::enter(alloc, entry, script, way, scope, &mut Unheard);
+    let mut attempt = Attempt::GRANTED;
+    let outcome = R::enter(alloc, entry, script, way, scope, &mut attempt);
     if let Some(outcome) = sheet.maker.kept(outcome) {
         sheet.kept(outcome.entries, outcome.depth);
         drop(outcome);
