@@ -30,7 +30,9 @@ pub fn write_answer<R: Runner>(
     let (form, rest) = call.split_once(' ').unwrap_or((call, ""));
     match form {
         "scripts" => write_number(count_of(lists, rest), out),
-        "keeps" | "behind" | "within" | "by" => write_kept::<R>(alloc, lists, call, out),
+        "keeps" | "behind" | "within" | "stacked" | "by" => write_kept::<R>(
+            alloc, lists, call, out,
+        ),
         "above" => {
             let (form, rest) = rest.split_once(' ').unwrap_or((rest, ""));
             write_one::<R>(alloc, lists, 300, false, form, rest, out)

@@ -36,6 +36,8 @@ enum Manner<'a> {
     Behind(Source<'a>),
     /// With caches that keep so many entries each at most.
     Within(usize),
+    /// With two caches that the host has added.
+    Stacked,
     /// Its last statement by a public call, with caches of which there are none yet.
     By(Entry),
 }
@@ -54,6 +56,7 @@ struct Asked<'a> {
 /// - `keeps LIST N`: what is kept after a script has run
 /// - `behind M keeps LIST N`: the same where another script of the list has run before, with the same state and caches
 /// - `within COUNT keeps LIST N`: the same where no cache keeps more than so many entries
+/// - `stacked keeps LIST N`: the same where the host has added two caches
 /// - `by eval_expr keeps LIST N` and so on: what is kept after that public call, entered with the script's last
 ///   statement behind the others
 ///
@@ -90,6 +93,9 @@ fn asked<'a>(lists: &[Listed<'a>], call: &'a str) -> Option<Asked<'a>> {
 fn manner_of<'a>(lists: &[Listed<'a>], list: &str, text: &str) -> Option<Manner<'a>> {
     if text.is_empty() {
         return Some(Manner::Alone);
+    }
+    if text == "stacked" {
+        return Some(Manner::Stacked);
     }
     let (word, what) = text.split_once(' ')?;
     match word {
@@ -134,11 +140,14 @@ fn tell_way<R: Runner>(asked: Asked<'_>, way: Way, sheet: &mut Sheet) {
     let script = sheet.maker.kept(script);
     let scope = sheet.maker.kept(scope);
     if let (Some(script), Some(scope)) = (script, scope) {
+        let caches = caches_of(&mut sheet.maker, asked.manner, way);
         match asked.manner {
-            Manner::Alone => tell_run::<R>(None, None, script, way, scope, sheet),
-            Manner::Behind(first) => tell_run::<R>(Some(first), None, script, way, scope, sheet),
-            Manner::Within(most) => tell_run::<R>(None, Some(most), script, way, scope, sheet),
-            Manner::By(entry) => tell_entered::<R>(entry, script, way, scope, sheet),
+            Manner::By(entry) => {
+                drop(caches);
+                tell_entered::<R>(entry, script, way, scope, sheet);
+            }
+            Manner::Behind(first) => tell_run::<R>(Some(first), caches, script, way, scope, sheet),
+            _ => tell_run::<R>(None, caches, script, way, scope, sheet),
         }
     }
 }
@@ -160,18 +169,24 @@ fn tell_entered<R: Runner>(
     }
 }
 
-/// Tells what is kept after a script has run, behind another if there is one, where caches keep so many entries each
-/// at most if that is limited.
+/// Tells what is kept after a script has run, behind another if there is one.
 fn tell_run<R: Runner>(
     first: Option<Source<'_>>,
-    most_entries: Option<usize>,
+    caches: Caches<Pair>,
     script: Script,
     way: Way,
     scope: Scope<Pair>,
     sheet: &mut Sheet,
-) {
-    let alloc = sheet.maker.allocator();
-    let run = Run::new(alloc, &script.settings, most_entries, way, scope);
+)
+    requires { (lists : _) → CachesFit lists caches }
+{
+    let run = Run::new(
+        sheet.maker.allocator(),
+        &script.settings,
+        caches,
+        way,
+        scope,
+    );
     if let Some(mut run) = sheet.maker.kept(run) {
         if let Some(first) = first {
             run.run_source::<R>(first, &mut sheet.maker);
@@ -202,16 +217,29 @@ impl Drop for Run {
     }
 }
 
-/// Makes the caches of a way, each of so many entries at most if that is limited.
-fn caches_of(alloc: Global, most_entries: Option<usize>, way: Way) -> Caches<Pair>
+/// Makes the caches of a way, as a script is to be run.
+fn caches_of(maker: &mut Maker, manner: Manner<'_>, way: Way) -> Caches<Pair>
     ensures { (lists : _) → CachesFit lists result }
 {
-    match most_entries {
-        Some(most_entries) if way.keeps_functions => {
-            Caches::with_most_entries(alloc, most_entries)
+    match manner {
+        Manner::Within(most) if way.keeps_functions => {
+            Caches::with_most_entries(maker.allocator(), most)
         }
-        _ => way.caches(alloc),
+        Manner::Stacked => stacked(maker, way),
+        _ => way.caches(maker.allocator()),
     }
+}
+
+/// Makes the caches of a way, and adds two.
+fn stacked(maker: &mut Maker, way: Way) -> Caches<Pair>
+    ensures { (lists : _) → CachesFit lists result }
+{
+    let mut caches = way.caches(maker.allocator());
+    let pushed = caches.push();
+    maker.remember(pushed);
+    let pushed = caches.push();
+    maker.remember(pushed);
+    caches
 }
 
 impl Run {
@@ -219,10 +247,11 @@ impl Run {
     fn new(
         alloc: Global,
         settings: &Settings,
-        most_entries: Option<usize>,
+        caches: Caches<Pair>,
         way: Way,
         scope: Scope<Pair>,
     ) -> Result<Run, AllocError>
+        requires { (lists : _) → CachesFit lists caches }
         ensures { IfOk result (λ run. CachesFit (lists_of run.global) run.caches) }
     {
         let mut global = GlobalRuntimeState::new(alloc)?;
@@ -230,7 +259,7 @@ impl Run {
         settings.start.set(&mut global)?;
         Ok(Run {
             global,
-            caches: caches_of(alloc, most_entries, way),
+            caches,
             table: BenchTable::new(alloc, settings.has_odd_natives),
             scope,
         })
