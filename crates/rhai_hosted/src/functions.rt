@@ -13,7 +13,8 @@ use rhai_rows::sample::{Sample, Script, Tree};
 use rhai_rows::settings::Setting::Usual;
 use rhai_rows::sheet::Sheet;
 use rhai_samples::functions::{
-    EMPTY_FUNCTION, METHOD_THAT_CHANGES_AN_ITEM, PARAMETER_ASSIGNED, THIS_ASKED, VARIABLE_DECLARED,
+    CALLS_WITHOUT_END, EMPTY_FUNCTION, METHOD_THAT_CHANGES_AN_ITEM, PARAMETER_ASSIGNED, THIS_ASKED,
+    VARIABLE_DECLARED,
 };
 use std::alloc::Global;
 use std::io;
@@ -88,6 +89,12 @@ const CALLS: &[Call] = &[
         Parts(VARIABLE_DECLARED),
         0,
         Form::Function(0, false),
+    ),
+    Call(
+        "a call too deep",
+        Parts(CALLS_WITHOUT_END),
+        0,
+        Form::Function(64, true),
     ),
     Call(
         "too deep",
