@@ -204,6 +204,7 @@ fn call_of(name: &str) -> Option<Call> {
     None
 }
 
+/// Tells what a call comes to: all of it of an attempt, and else what its form asks for.
 fn tell_call<C: Calls>(call: Call, attempt: &mut Attempt, tells_all: bool, sheet: &mut Sheet) {
     let Call(_, tree, ..) = call;
     let script = Sample(tree, Usual).script(sheet.maker.allocator());
@@ -212,6 +213,7 @@ fn tell_call<C: Calls>(call: Call, attempt: &mut Attempt, tells_all: bool, sheet
     }
 }
 
+/// Checks the script of a call, and tells what the call comes to.
 fn tell_script<C: Calls>(
     call: Call,
     script: Script,
@@ -233,6 +235,7 @@ fn tell_script<C: Calls>(
     }
 }
 
+/// Makes a caller for the one function of a tree, and tells what the call comes to.
 fn tell_called<C: Calls>(
     call: Call,
     tree: &CheckedTree,
@@ -312,6 +315,7 @@ fn tell_answer(form: Form, answer: Answer, caller: &Caller, tells_all: bool, she
     }
 }
 
+/// Makes the call of a form.
 fn answer_of<C: Calls>(alloc: Global, form: Form, caller: &mut Caller, def: &CheckedFn) -> Answer {
     match form {
         Form::Function(_, rewinds) => C::call_function(alloc, caller, def, rewinds),
