@@ -13,7 +13,8 @@ use rhai_rows::sample::{Sample, Script, Tree};
 use rhai_rows::settings::Setting::Usual;
 use rhai_rows::sheet::Sheet;
 use rhai_samples::functions::{
-    EMPTY_FUNCTION, METHOD_THAT_CHANGES_AN_ITEM, PARAMETER_ASSIGNED, THIS_ASKED, VARIABLE_DECLARED,
+    CALLS_WITHOUT_END, EMPTY_FUNCTION, METHOD_THAT_CHANGES_AN_ITEM, PARAMETER_ASSIGNED, THIS_ASKED,
+    VARIABLE_DECLARED,
 };
 use std::alloc::Global;
 use std::io;
@@ -88,6 +89,12 @@ const CALLS: &[Call] = &[
         Parts(VARIABLE_DECLARED),
         0,
         Form::Function(0, false),
+    ),
+    Call(
+        "a call too deep",
+        Parts(CALLS_WITHOUT_END),
+        0,
+        Form::Function(64, true),
     ),
     Call(
         "too deep",
@@ -197,6 +204,7 @@ fn call_of(name: &str) -> Option<Call> {
     None
 }
 
+/// Tells what a call comes to: all of it of an attempt, and else what its form asks for.
 fn tell_call<C: Calls>(call: Call, attempt: &mut Attempt, tells_all: bool, sheet: &mut Sheet) {
     let Call(_, tree, ..) = call;
     let script = Sample(tree, Usual).script(sheet.maker.allocator());
@@ -205,6 +213,7 @@ fn tell_call<C: Calls>(call: Call, attempt: &mut Attempt, tells_all: bool, sheet
     }
 }
 
+/// Checks the script of a call, and tells what the call comes to.
 fn tell_script<C: Calls>(
     call: Call,
     script: Script,
@@ -226,6 +235,7 @@ fn tell_script<C: Calls>(
     }
 }
 
+/// Makes a caller for the one function of a tree, and tells what the call comes to.
 fn tell_called<C: Calls>(
     call: Call,
     tree: &CheckedTree,
@@ -305,6 +315,7 @@ fn tell_answer(form: Form, answer: Answer, caller: &Caller, tells_all: bool, she
     }
 }
 
+/// Makes the call of a form.
 fn answer_of<C: Calls>(alloc: Global, form: Form, caller: &mut Caller, def: &CheckedFn) -> Answer {
     match form {
         Form::Function(_, rewinds) => C::call_function(alloc, caller, def, rewinds),

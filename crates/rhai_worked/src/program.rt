@@ -45,8 +45,9 @@ fn compare_file<S: Subject, R: Files + Print + AllocGlobal>(
     compare_lines(rt.alloc(), subject, lines.as_str(), &mut io::writer(rt))
 }
 
-/// Runs the scripts of the rows and of the lists and makes the calls of lines with all memory granted, and, where something outside of the program
-/// refuses memory, with each request of theirs refused in turn. Tells whether what has to hold after each does.
+/// Runs the scripts of the rows and of the lists, and makes the calls of `refused.txt`, with all memory granted, and, where
+/// something outside of the program refuses memory, with each request of theirs refused in turn. Tells whether what has to
+/// hold after each does.
 pub fn do_all_hold<R: Runner + Calls, H: Files + Print + AllocGlobal>(
     rt: &H,
     lists: &[Listed<'_>],

@@ -61,10 +61,12 @@ pub fn tell_parameters(words: &str, attempt: &mut Attempt, sheet: &mut Sheet) {
     drop(args);
 }
 
+/// Makes an integer.
 fn int(number: i64) -> Dynamic<Pair> {
     Dynamic::new(Union::Int(number))
 }
 
+/// Adds a name to those of the parameters.
 fn push_name(word: &str, names: &mut Items<Shared<Text>>, sheet: &mut Sheet) {
     if let Some(name) = sheet.maker.name(word) {
         sheet.maker.push(names, name);

@@ -34,6 +34,7 @@ struct Ends {
 }
 
 impl Ends {
+    /// Begins with none.
     fn new(alloc: Global) -> Ends {
         Ends {
             text: String::new(alloc),
@@ -57,6 +58,7 @@ impl Ends {
         first_of(self.text.as_str())
     }
 
+    /// Appends a text, and remembers if memory ran out.
     fn write(&mut self, text: &str) {
         if self.text.push_str(text).is_err() {
             self.has_memory = false;
@@ -74,6 +76,7 @@ impl Ends {
     }
 }
 
+/// Returns the first of the ends of a line.
 fn first_of(ends: &str) -> &str {
     let (first, _) = ends.split_once(SEPARATOR).unwrap_or((ends, ""));
     first
