@@ -1,4 +1,4 @@
-use Rattle.std.proofs.Common.{Some, false, true}
+use Rattle.std.proofs.Common.{Some, arith, false, true}
 use Rattle.rhai_machine.specs.language.Calls.{dispatch_core}
 use Rattle.rhai_machine.specs.language.Frames.{Operation}
 use Rattle.rhai_machine.specs.language.Setting.{Rules}
@@ -96,7 +96,7 @@ returns-in-OnTarget-clause-taken g c none =
     (c.call_first-call.ensures.by_itself (none_lends c.args.manner.is_ref_mut c.args.manner.is_method_call none).1))
 
 pub enter_method_fresh-requires : goal.enter_method_fresh-requires
-enter_method_fresh-requires g c = record { fit = c.call_first-call.ensures.caches.fit }
+enter_method_fresh-requires g c = (omega arith, c.call_first-call.ensures.caches.fit)
 
 pub returns-in-OnTarget-clause-caches : goal.returns-in-OnTarget-clause-caches
 returns-in-OnTarget-clause-caches g c = left_twice _ _ _ _ _ c.call_first-call.ensures.caches c.enter_method_fresh.ensures.caches

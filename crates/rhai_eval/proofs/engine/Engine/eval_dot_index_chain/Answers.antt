@@ -291,8 +291,8 @@ pub returns-in-None-clause-assigns : goal.returns-in-None-clause-assigns
 returns-in-None-clause-assigns g c = chain_assigns (under g.H.Host.name_of c.args.self.now g.T.NativeTable.natives) c.args.expr.now
     (assigned_in c.args.new_val) _ _ c.finish-result-in-None.result (runs_free g c) (asks_free g c)
 
-pub returns-in-Some-clause-caches : goal.returns-in-Some-clause-caches
-returns-in-Some-clause-caches g c =
+pub returns-in-Some-this-clause-caches : goal.returns-in-Some-this-clause-caches
+returns-in-Some-this-clause-caches g c =
     rw c.give_back_with_this.ensures.global
     (returned _ _ _ _ c.take_with_this-run.ensures.caches c.give_back_with_this.ensures.caches)
 

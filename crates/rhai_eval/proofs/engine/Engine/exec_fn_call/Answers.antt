@@ -1,4 +1,4 @@
-use Rattle.std.proofs.Common.{◌≡◌, ◌||◌, [], Option, Some, None, MutBor, ap, false, refl, subst, sym, true, ◌∙◌}
+use Rattle.std.proofs.Common.{◌≡◌, ◌||◌, [], Option, Some, None, MutBor, ap, arith, false, refl, subst, sym, true, ◌∙◌}
 use Rattle.std.specs.Option.{option_copied, option_map}
 use Rattle.rhai_values.specs.declared.base.value.Dynamic.{Dynamic}
 use Rattle.rhai_state.specs.declared.scope.Scope.{Scope}
@@ -82,7 +82,7 @@ scope_left_1 g c place =
                     c.args.op_token,
                     (
                       Some (record c.in-Some.first { now = c.call_on-outcome.new.first }),
-                      (c.args.rest, five (five (five (five (five (five (five (five (five (five (five (tt, (tt, tt))))))))))))),
+                      (c.args.rest, five (five (five (five (five (five (five (five (five (five (five (tt, (tt, (tt, (tt, tt))))))))))))))),
                     ),
                   ),
                 ),
@@ -145,7 +145,7 @@ first_left_1 g c place =
                     c.args.op_token,
                     (
                       Some (record c.in-Some.first { now = c.call_on-outcome.new.first }),
-                      (c.args.rest, five (five (five (five (five (five (five (five (five (five (five (tt, (tt, tt))))))))))))),
+                      (c.args.rest, five (five (five (five (five (five (five (five (five (five (five (tt, (tt, (tt, (tt, tt))))))))))))))),
                     ),
                   ),
                 ),
@@ -349,7 +349,7 @@ scope_left_2 g c place =
                     c.args.op_token,
                     (
                       Some (record c.in-Some.first { now = c.call_with-outcome.new.first }),
-                      (c.args.rest, five (five (five (five (five (five (five (five (five (five (five (tt, (tt, tt))))))))))))),
+                      (c.args.rest, five (five (five (five (five (five (five (five (five (five (five (tt, (tt, (tt, (tt, tt))))))))))))))),
                     ),
                   ),
                 ),
@@ -412,7 +412,7 @@ first_left_2 g c place =
                     c.args.op_token,
                     (
                       Some (record c.in-Some.first { now = c.call_with-outcome.new.first }),
-                      (c.args.rest, five (five (five (five (five (five (five (five (five (five (five (tt, (tt, tt))))))))))))),
+                      (c.args.rest, five (five (five (five (five (five (five (five (five (five (five (tt, (tt, (tt, (tt, tt))))))))))))))),
                     ),
                   ),
                 ),
@@ -580,7 +580,7 @@ scope_left_3 g c place =
                       c.args.first,
                       (
                         c.args.rest,
-                        five (five (five (five (five (five (five (five (five (five (five (tt, (tt, tt)))))))))))),
+                        five (five (five (five (five (five (five (five (five (five (five (tt, (tt, (tt, (tt, tt)))))))))))))),
                       ),
                     ),
                   ),
@@ -729,7 +729,7 @@ scope_left_4 g c place =
                       c.args.first,
                       (
                         c.args.rest,
-                        five (five (five (five (five (five (five (five (five (five (five (tt, (tt, tt)))))))))))),
+                        five (five (five (five (five (five (five (five (five (five (five (tt, (tt, (tt, (tt, tt)))))))))))))),
                       ),
                     ),
                   ),
@@ -857,7 +857,7 @@ first_left_3 g c place =
                       place,
                       (
                         c.args.rest,
-                        five (five (five (five (five (five (five (five (five (five (five (tt, (tt, tt)))))))))))),
+                        five (five (five (five (five (five (five (five (five (five (five (tt, (tt, (tt, (tt, tt)))))))))))))),
                       ),
                     ),
                   ),
@@ -927,7 +927,7 @@ first_left_4 g c place =
                       place,
                       (
                         c.args.rest,
-                        five (five (five (five (five (five (five (five (five (five (five (tt, (tt, tt)))))))))))),
+                        five (five (five (five (five (five (five (five (five (five (five (tt, (tt, (tt, (tt, tt)))))))))))))),
                       ),
                     ),
                   ),
@@ -958,20 +958,20 @@ pub returns-in-None-scope-2-clause-rest : goal.returns-in-None-scope-2-clause-re
 returns-in-None-scope-2-clause-rest g c = rw c.in-None.is refl
 
 pub finish_on_scope-requires : goal.finish_on_scope-requires
-finish_on_scope-requires g c = record { fit = c.call_on-outcome.ensures.caches.fit; right = c.call_on-outcome.ensures.caches.right }
+finish_on_scope-requires g c = (omega arith, (c.call_on-outcome.ensures.caches.fit, c.call_on-outcome.ensures.caches.right))
 
 pub returns-in-Some-scope-clause-caches : goal.returns-in-Some-scope-clause-caches
 returns-in-Some-scope-clause-caches g c = left_twice _ _ _ _ _ c.call_on-outcome.ensures.caches c.finish_on_scope.ensures.caches
 
 pub finish_fresh-requires : goal.finish_fresh-requires
-finish_fresh-requires g c = record { fit = c.call_with-outcome.ensures.caches.fit; right = c.call_with-outcome.ensures.caches.right }
+finish_fresh-requires g c = (omega arith, (c.call_with-outcome.ensures.caches.fit, c.call_with-outcome.ensures.caches.right))
 
 pub returns-in-None-scope-clause-caches : goal.returns-in-None-scope-clause-caches
 returns-in-None-scope-clause-caches g c = left_twice _ _ _ _ _ c.call_with-outcome.ensures.caches c.finish_fresh.ensures.caches
 
 pub finish_on_scope-requires-in-Some-scope-2 : goal.finish_on_scope-requires-in-Some-scope-2
 finish_on_scope-requires-in-Some-scope-2 g c =
-    record { fit = c.begin_bare_call-outcome.ensures.caches.fit; right = c.begin_bare_call-outcome.ensures.caches.right }
+    (omega arith, (c.begin_bare_call-outcome.ensures.caches.fit, c.begin_bare_call-outcome.ensures.caches.right))
 
 pub returns-in-Some-scope-2-clause-caches : goal.returns-in-Some-scope-2-clause-caches
 returns-in-Some-scope-2-clause-caches g c =
@@ -979,7 +979,7 @@ returns-in-Some-scope-2-clause-caches g c =
 
 pub finish_fresh-requires-in-None-scope-2 : goal.finish_fresh-requires-in-None-scope-2
 finish_fresh-requires-in-None-scope-2 g c =
-    record { fit = c.begin_bare_call-outcome.ensures.caches.fit; right = c.begin_bare_call-outcome.ensures.caches.right }
+    (omega arith, (c.begin_bare_call-outcome.ensures.caches.fit, c.begin_bare_call-outcome.ensures.caches.right))
 
 pub returns-in-None-scope-2-clause-caches : goal.returns-in-None-scope-2-clause-caches
 returns-in-None-scope-2-clause-caches g c =
