@@ -68,7 +68,7 @@ pub(crate) fn write_kept<R: Runner>(
     out: &mut Vec<u8>,
 ) -> io::Result<()> {
     let mut sheet = Sheet::new(alloc);
-    match asked(lists, call) {
+    match read_call(lists, call) {
         Some(asked) => tell_ways::<R>(asked, &mut sheet),
         None => sheet.write("no script"),
     }
@@ -76,7 +76,7 @@ pub(crate) fn write_kept<R: Runner>(
 }
 
 /// Reads a call, None where there is no such script, or no such way to run it.
-fn asked<'a>(lists: &[Listed<'a>], call: &'a str) -> Option<Asked<'a>> {
+fn read_call<'a>(lists: &[Listed<'a>], call: &'a str) -> Option<Asked<'a>> {
     let (manner, name) = match call.strip_prefix("keeps ") {
         Some(name) => ("", name),
         None => call.split_once(" keeps ")?,
