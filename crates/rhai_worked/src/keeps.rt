@@ -187,13 +187,19 @@ fn tell_run<R: Runner>(
         way,
         scope,
     );
-    if let Some(mut run) = sheet.maker.kept(run) {
-        if let Some(first) = first {
-            run.run_source::<R>(first, &mut sheet.maker);
+    match run {
+        Ok(mut run) => {
+            if let Some(first) = first {
+                run.run_source::<R>(first, &mut sheet.maker);
+            }
+            run.run_script::<R>(script, &mut sheet.maker);
+            sheet.kept(run.caches.entries(), run.caches.len());
+            drop(run);
         }
-        run.run_script::<R>(script, &mut sheet.maker);
-        sheet.kept(run.caches.entries(), run.caches.len());
-        drop(run);
+        Err(AllocError) => {
+            drop(script);
+            sheet.maker.lack_memory();
+        }
     }
 }
 
@@ -230,7 +236,8 @@ fn caches_of(maker: &mut Maker, manner: Manner<'_>, way: Way) -> Caches<Pair>
     }
 }
 
-/// Makes the caches of a way, and adds two.
+/// Makes the caches of a way, and adds two. What is cleared fits all libraries and imports, also where there was no
+/// memory for one.
 fn stacked(maker: &mut Maker, way: Way) -> Caches<Pair>
     ensures { (lists : _) → CachesFit lists result }
 {
@@ -239,6 +246,7 @@ fn stacked(maker: &mut Maker, way: Way) -> Caches<Pair>
     maker.remember(pushed);
     let pushed = caches.push();
     maker.remember(pushed);
+    caches.clear();
     caches
 }
 
