@@ -236,18 +236,21 @@ fn caches_of(maker: &mut Maker, manner: Manner<'_>, way: Way) -> Caches<Pair>
     }
 }
 
-/// Makes the caches of a way, and adds two. What is cleared fits all libraries and imports, also where there was no
-/// memory for one.
+/// Makes the caches of a way, and adds two. What is cleared fits all libraries and imports.
 fn stacked(maker: &mut Maker, way: Way) -> Caches<Pair>
     ensures { (lists : _) → CachesFit lists result }
 {
     let mut caches = way.caches(maker.allocator());
     let pushed = caches.push();
     maker.remember(pushed);
-    let pushed = caches.push();
-    maker.remember(pushed);
-    caches.clear();
-    caches
+    match caches.push() {
+        Ok(()) => caches,
+        Err(AllocError) => {
+            maker.lack_memory();
+            caches.clear();
+            caches
+        }
+    }
 }
 
 impl Run {
