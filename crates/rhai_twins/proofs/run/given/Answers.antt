@@ -1,6 +1,6 @@
 use Rattle.std.proofs.Common.{ap, sym, ◌∙◌}
 use Rattle.rhai_lookups.specs.Levels.{below_of, is_on}
-use Rattle.rhai_twins_lookups.proofs.run.given.Goals as goal
+use Rattle.rhai_twins.proofs.run.given.Goals as goal
 
 pub returns-clause-below : goal.returns-clause-below
 returns-clause-below g c =
