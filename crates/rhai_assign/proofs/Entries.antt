@@ -18,7 +18,7 @@ use Rattle.rhai_machine.specs.language.Names.{entered, entry_named, looked_up, o
 use Rattle.rhai_machine.specs.language.Places.{Target, target_at, target_in_cell, target_meant, target_of}
 use Rattle.rhai_machine.proofs.MeantLaws.{meant_at}
 use Rattle.rhai_steps.specs.Offers.{Offers, globals_in}
-use Rattle.rhai_steps.proofs.Offering.{globals_same}
+use Rattle.rhai_names.proofs.Offering.{globals_same}
 use Rattle.rhai_assign.specs.Targets.{if_found, named_target, target_there}
 
 module _ {H : Type 0} where

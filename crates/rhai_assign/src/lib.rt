@@ -20,18 +20,18 @@ ghost use Rattle.rhai_machine.specs.language.Runs.{Runs};
 ghost use Rattle.rhai_steps.specs.Agreement.{AgreesAt, KeepsSight};
 ghost use Rattle.rhai_steps.specs.Sessions.{under};
 ghost use Rattle.rhai_steps.specs.States.{state_of};
-ghost use Rattle.rhai_steps.specs.Variables.{offset_is_good, variable_told};
+ghost use Rattle.rhai_names.specs.Variables.{offset_is_good, variable_told};
 
 use crate::place::find_target;
 use crate::update::store;
 use rhai_errors::error::EvalAltResult;
 use rhai_errors::table::NativeTable;
 use rhai_lookups::run::RunState;
+use rhai_names::variables::Variable;
 use rhai_state::scope::Scope;
 use rhai_state::session::Session;
 use rhai_steps::charges::track_operation;
 use rhai_steps::values::let_go;
-use rhai_steps::variables::Variable;
 use rhai_tree::expr::OpAssignment;
 use rhai_values::base::value::{Dynamic, Host};
 

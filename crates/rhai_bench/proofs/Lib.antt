@@ -1,2 +1,1 @@
-mod ArgumentLemmas
 mod EnteringLemmas

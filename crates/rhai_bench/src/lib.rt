@@ -1,9 +1,7 @@
-//! Runs of trees built by hand, which show what the evaluator does, and the work of the program that runs
-//! them.
+//! Runs of trees built by hand, which show what the evaluator does.
 #![tactic(auto)]
 
 pub mod caller;
-pub mod command;
 mod entering;
 pub mod roots;
 pub mod script;

@@ -45,17 +45,17 @@ use Rattle.rhai_machine.specs.language.Language.{machine, move}
 use Rattle.rhai_machine.specs.language.Runs.{at, with_core, Goes}
 use Rattle.rhai_steps.specs.Offers.{Offers, globals_in}
 use Rattle.rhai_steps.specs.States.{local_of, state_of}
-use Rattle.rhai_steps.proofs.Offering.{globals_same}
+use Rattle.rhai_names.proofs.Offering.{globals_same}
 use Rattle.rhai_steps.proofs.Pieces.{step_by}
 use Rattle.rhai_calls.specs.Called.{Outcome, came_out}
-use Rattle.rhai_calls.specs.Lending.{lent_call}
+use Rattle.rhai_steps.specs.Lending.{lent_call}
 use Rattle.rhai_call_forms.specs.Forms.{is_operator_form}
 use Rattle.rhai_call_forms.proofs.FormLemmas.{function_goes}
 use Rattle.rhai_callees.specs.Behind.{before_last, behind_call, enters, is_read_last, last_of, led_by, public_call}
 use Rattle.rhai_callees.specs.Behind.{public_at, purpose_of, purpose_on, value_at, behind_is_good, form_is_good, last_is_good}
 use Rattle.rhai_callees.specs.Behind.{IsCharged, IsSpent}
 use Rattle.rhai_callees.specs.Linked.{Comes}
-use Rattle.rhai_callees.specs.Variables.{meaning_passed}
+use Rattle.rhai_names.specs.Passed.{meaning_passed}
 use Rattle.rhai_callees.proofs.Going.{came_told}
 use Rattle.rhai_steps.specs.Agreement.{call_leads, root_is_good, variable_leads}
 

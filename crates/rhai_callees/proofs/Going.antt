@@ -19,10 +19,11 @@ use Rattle.rhai_machine.specs.language.Arguments.{arguments_there, call_on, numb
 use Rattle.rhai_machine.specs.language.Language.{without_memory, machine}
 use Rattle.rhai_machine.specs.language.Runs.{at, with_core, Runs, Goes}
 use Rattle.rhai_steps.proofs.Pieces.{faulted}
+use Rattle.rhai_calls.proofs.OnVariable.{asked}
 use Rattle.rhai_calls.specs.declared.dispatch.Called.TheVariants.{Ended, Enters}
 use Rattle.rhai_calls.specs.Called.{came_out, Outcome}
 use Rattle.rhai_calls.specs.Dispatch.{came_to}
-use Rattle.rhai_calls.specs.Lending.{lent_call}
+use Rattle.rhai_steps.specs.Lending.{lent_call}
 use Rattle.rhai_callees.specs.Linked.{linked_call, Comes}
 use Rattle.rhai_call_forms.proofs.Levels.{there_level, call_runs_out_at}
 
@@ -143,25 +144,9 @@ module _ {S H : Type 0} (rules : Rules S H) where
   -- ---- a variable that comes first
 
   module _ (operation : Operation) (variable : Variable) (how : Dispatch) (args : List (Dynamic H)) (old : State S H) where
-    -- what the call is
-    abbrev asked : Result (Call H) (EvalAltResult H)
-    asked = call_on (globals_of rules.setting.offer) old.local.around old.local.scope operation variable args
-
-    pub on_called : (call : Call H) → asked ≡ Ok call →
-        (called : Outcome H) (new : State S H) →
-        Goes rules (dispatch_core rules.setting how call) old (came_out (not how.on_scope) call.operation.at called) new →
-        Goes rules (arguments_there rules.setting (ToCallOn operation variable how) args) old
-        (came_out (not how.on_scope) call.operation.at called) new
-    unfolding Goes
-    on_called call is called new runs k =
-        subst (λ (x : Result (Call H) (EvalAltResult H)).
-        Leads (machine rules) (cut rules)
-        (with_core (on_value x (λ (c : Call H). dispatch_core rules.setting how c k old.local) k old.local) old)
-        (with_core (came_out (not how.on_scope) call.operation.at called k new.local) new))
-        (sym is) (runs k)
-
     -- or why there is none
-    pub on_refused : (x e : EvalAltResult H) → asked ≡ Err x → (is_out_of_memory e ≡ false → e ≡ x) → (is_fresh : Bool) (pos : Position) →
+    pub on_refused : (x e : EvalAltResult H) → asked rules operation variable how args old ≡ Err x →
+        (is_out_of_memory e ≡ false → e ≡ x) → (is_fresh : Bool) (pos : Position) →
         Goes rules (arguments_there rules.setting (ToCallOn operation variable how) args) old (came_out is_fresh pos (Ended (Err e))) old
     unfolding Goes
     on_refused x e is told is_fresh pos k =
@@ -172,7 +157,8 @@ module _ {S H : Type 0} (rules : Rules S H) where
         (sym is) (faulted rules e x told k old)
 
     -- or memory runs out there
-    pub on_failed : (e : EvalAltResult H) → (is_out_of_memory e ≡ false → asked ≡ Err e) → (is_fresh : Bool) (pos : Position) →
+    pub on_failed : (e : EvalAltResult H) → (is_out_of_memory e ≡ false → asked rules operation variable how args old ≡ Err e) →
+        (is_fresh : Bool) (pos : Position) →
         Goes rules (arguments_there rules.setting (ToCallOn operation variable how) args) old (came_out is_fresh pos (Ended (Err e))) old
     on_failed (error.ErrorOutOfMemory there) is is_fresh pos =
         there_runs_out_fresh (ToCallOn operation variable how) args is_fresh pos old (error.ErrorOutOfMemory there) refl

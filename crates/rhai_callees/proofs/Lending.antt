@@ -15,7 +15,7 @@ use Rattle.rhai_machine.specs.language.State.{Held, State}
 use Rattle.rhai_machine.specs.language.Frames.{FromEntry, Dispatch, Call}
 use Rattle.rhai_machine.specs.language.Runs.{Goes}
 use Rattle.rhai_machine.specs.language.Calls.{dispatch_core}
-use Rattle.rhai_calls.specs.Lending.{back_in}
+use Rattle.rhai_steps.specs.Lending.{back_in}
 use Rattle.rhai_calls.specs.Called.{Outcome, came_out}
 
 get_set : {A : Type 0} (xs : List A) (i : ℕ) (x y : A) → slice_get xs i ≡ Some x → slice_get (slice_set xs i y) i ≡ Some y

@@ -2,5 +2,4 @@ pub mod Behind
 pub mod Going
 pub mod Lending
 pub mod Lists
-pub mod Passing
 pub mod PublicRoots

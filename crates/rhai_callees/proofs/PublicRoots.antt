@@ -7,13 +7,13 @@ use Rattle.rhai_tree.specs.Names.{is_good_root}
 use Rattle.rhai_values.specs.declared.base.value.Module.{Module}
 use Rattle.rhai_errors.specs.declared.error.EvalAltResult.TheVariants as error
 use Rattle.rhai_functions.specs.Functions.{FunctionKey}
-use Rattle.rhai_functions.specs.Qualified.{path_text}
+use Rattle.rhai_machine.specs.Qualified.{path_text}
 use Rattle.rhai_machine.specs.language.Calls.{public_from}
 use Rattle.rhai_machine.specs.language.Setting.{Globals}
 use Rattle.rhai_machine.specs.language.State.{Surroundings}
 use Rattle.rhai_steps.specs.Agreement.{imports_in}
-use Rattle.rhai_steps.specs.Roots.{root_searched}
-use Rattle.rhai_steps.proofs.Rooted.{root_is_newest}
+use Rattle.rhai_names.specs.Roots.{root_searched}
+use Rattle.rhai_names.proofs.Rooted.{root_is_newest}
 use Rattle.rhai_callees.specs.Behind.{public_at, public_from_root}
 
 module _ {H : Type 0} (globals : Globals H) (around : Surroundings H) (path_at : Position) (key : FunctionKey) (types : List (List ℕ))

@@ -27,7 +27,7 @@ use Rattle.rhai_machine.specs.language.Arguments.{this_in}
 use Rattle.rhai_steps.specs.Agreement.{Test, root_is_good, variable_leads}
 use Rattle.rhai_calls.specs.declared.dispatch.Called.TheVariants.{Ended, Enters}
 use Rattle.rhai_calls.specs.Called.{Outcome}
-use Rattle.rhai_callees.specs.Variables.{meaning_passed}
+use Rattle.rhai_names.specs.Passed.{meaning_passed}
 
 -- the offset of a variable leads to the newest of its name, and the index of its path to the newest import of its root's
 abbrev pub form_is_good : ExprLayer → Test

@@ -2,4 +2,3 @@ pub mod Behind
 pub mod Kept
 pub mod Linked
 pub mod Pointers
-pub mod Variables

@@ -17,12 +17,12 @@ ghost use Rattle.rhai_steps.specs.Agreement.{AgreesAt, KeepsSight, RootStands};
 ghost use Rattle.rhai_steps.specs.Offers.{globals_in};
 ghost use Rattle.rhai_steps.specs.Sessions.{under};
 ghost use Rattle.rhai_steps.specs.States.{local_of, state_of, surroundings_of};
-ghost use Rattle.rhai_steps.specs.Variables.{offset_is_good, variable_told};
+ghost use Rattle.rhai_names.specs.Variables.{offset_is_good, variable_told};
 ghost use Rattle.rhai_calls.specs.Called.{with_args, came_out};
 ghost use Rattle.rhai_calls.specs.declared.dispatch.Called.TheVariants.{Enters};
-ghost use Rattle.rhai_calls.specs.Lending.{back_in, lent_call, Stands};
+ghost use Rattle.rhai_steps.specs.Lending.{back_in, lent_call, Stands};
 ghost use Rattle.rhai_callees.specs.Linked.{Comes};
-ghost use Rattle.rhai_callees.specs.Variables.{copy_passed, is_lendable as lendable};
+ghost use Rattle.rhai_names.specs.Passed.{copy_passed};
 
 use rhai_calls::dispatch::{Called, Seeks, is_held, pass_call};
 use rhai_calls::native::{Passing, drop_changed};
@@ -32,28 +32,17 @@ use rhai_errors::table::NativeTable;
 use rhai_few::Few;
 use rhai_functions::function::Function;
 use rhai_lookups::run::RunState;
+use rhai_names::variables::{Variable, entry_of_variable, is_lendable, read_beside};
 use rhai_state::scope::Scope;
 use rhai_state::session::Session;
 use rhai_steps::operation::Operation;
-use rhai_steps::values::{copy, flatten, is_bare_handle, let_go, unit_value};
-use rhai_steps::variables::{Variable, entry_of_variable, read_beside};
+use rhai_steps::values::{copy, flatten, let_go, unit_value};
 use rhai_tree::expr::Namespace;
 use rhai_tree::position::Position;
 use rhai_tree::{Shared, Text};
-use rhai_values::base::value::{AccessMode, Dynamic, Host};
+use rhai_values::base::value::{Dynamic, Host};
 use rhai_values::cells::CellStore;
 use std::alloc::Global;
-
-/// Tells whether a variable's value may be lent: it is no handle and no constant.
-#[inline(always)]
-pub fn is_lendable<H: Host>(value: &Dynamic<H>) -> bool
-    ensures { result ≡ lendable value.now }
-{
-    match value.access_mode() {
-        AccessMode::ReadWrite => !is_bare_handle(value),
-        AccessMode::ReadOnly => false,
-    }
-}
 
 /// Copies a variable's value as it is passed by itself: of a handle the cell's value.
 pub(crate) fn pass_value<H: Host>(
@@ -353,7 +342,7 @@ fn call_beside<H: Host, T: NativeTable<H>>(
 ///
 /// # Errors
 /// At the variable: `ErrorDataRace` where it is the handle of a cell that is held, and those of
-/// `rhai_steps::variables::read_beside`. All others are those of `rhai_calls::dispatch::pass_call`.
+/// `rhai_names::variables::read_beside`. All others are those of `rhai_calls::dispatch::pass_call`.
 pub fn call_on_variable<H: Host, T: NativeTable<H>>(
     session: &Session<'_, H>,
     global: &mut RunState<H>,

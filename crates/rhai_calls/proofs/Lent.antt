@@ -21,7 +21,7 @@ use Rattle.rhai_machine.specs.language.Values.{Cells, is_handle}
 use Rattle.rhai_machine.specs.language.Places.{Place, InEntry, InCell, InThis, InFocus, rebound}
 use Rattle.rhai_machine.specs.language.Frames.{Operation, Lender, FromEntry, FromThis, FromFocus}
 use Rattle.rhai_machine.specs.language.Calls.{first_in, in_cell, lendable, place_of, put_left, while_from}
-use Rattle.rhai_calls.specs.Lending.{back_in, Stands}
+use Rattle.rhai_steps.specs.Lending.{back_in, Stands}
 use Rattle.rhai_calls.specs.Natives.{cell_in, lends_from, native_number, StandsAt}
 
 -- ---- what is written over itself stays

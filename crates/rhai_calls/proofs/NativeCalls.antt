@@ -34,7 +34,7 @@ use Rattle.rhai_machine.specs.language.Runs.{at, with_core, Runs, Steps, Goes}
 use Rattle.rhai_machine.specs.language.Language.{machine}
 use Rattle.rhai_steps.specs.States.{local_of, state_of}
 use Rattle.rhai_steps.proofs.Pieces.{step_by, charged, faulted, or_runs_out, passed, refused}
-use Rattle.rhai_calls.specs.Lending.{back_in, Stands}
+use Rattle.rhai_steps.specs.Lending.{back_in, Stands}
 use Rattle.rhai_calls.specs.ToldChanges.{gives, with_changed, without_changed}
 use Rattle.rhai_calls.specs.Natives.{is_barred_from, is_pure_on, lends_from, native_call, native_key, native_number, Bars, CallsOn}
 use Rattle.rhai_calls.specs.Natives.{CallsInCell}

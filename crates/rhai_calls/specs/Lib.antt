@@ -1,6 +1,5 @@
 pub mod Called
 pub mod Dispatch
-pub mod Lending
 pub mod ToldChanges
 pub mod Natives
 pub mod Operates

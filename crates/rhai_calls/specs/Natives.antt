@@ -21,7 +21,7 @@ use Rattle.rhai_machine.specs.language.Places.{Place, InEntry, InCell, InThis, I
 use Rattle.rhai_machine.specs.language.Frames.{Operation, Lender, Call, Question, ended_or_changed}
 use Rattle.rhai_machine.specs.language.Calls.{first_of, key_by, put_left, while_from}
 use Rattle.rhai_machine.specs.language.Runs.{Steps}
-use Rattle.rhai_calls.specs.Lending.{passed_call}
+use Rattle.rhai_steps.specs.Lending.{passed_call}
 use Rattle.rhai_calls.specs.ToldChanges.{gives}
 
 -- a local state over these cells

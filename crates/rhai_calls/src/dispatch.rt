@@ -24,7 +24,7 @@ ghost use Rattle.rhai_calls.specs.Dispatch.{script_function, seen_number, seen_t
 ghost use Rattle.rhai_calls.specs.Dispatch.{IfEnded, IfEnters};
 ghost use Rattle.rhai_calls.specs.Dispatch.{found_among, knows_among, method_among};
 ghost use Rattle.rhai_calls.specs.Dispatch.{Means, ResolvesCall};
-ghost use Rattle.rhai_calls.specs.Lending.{back_in, passed_call, Stands};
+ghost use Rattle.rhai_steps.specs.Lending.{back_in, passed_call, Stands};
 
 use crate::native::{Passing, drop_changed, pass_native, pass_native_alone, tell_changed};
 use rhai_errors::error::EvalAltResult;

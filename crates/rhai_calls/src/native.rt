@@ -11,7 +11,7 @@ ghost use Rattle.rhai_steps.specs.Operations.{operation_of};
 ghost use Rattle.rhai_steps.specs.Agreement.{KeepsSight};
 ghost use Rattle.rhai_steps.specs.Sessions.{under};
 ghost use Rattle.rhai_steps.specs.States.{local_of, state_of};
-ghost use Rattle.rhai_calls.specs.Lending.{back_in, lent_call, passed_call, Stands};
+ghost use Rattle.rhai_steps.specs.Lending.{back_in, lent_call, passed_call, Stands};
 ghost use Rattle.rhai_calls.specs.ToldChanges.{gives, with_changed, without_changed};
 ghost use Rattle.rhai_calls.specs.Natives.{Bars, CallsInCell, CallsOn, cell_in, Gives, is_barred_from};
 ghost use Rattle.rhai_calls.specs.Natives.{is_pure_on};

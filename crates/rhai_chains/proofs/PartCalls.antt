@@ -12,7 +12,7 @@ use Rattle.rhai_machine.specs.language.Methods.{Method, method_core}
 use Rattle.rhai_machine.specs.language.Runs.{Goes}
 use Rattle.rhai_calls.specs.Targets.{ComesBack}
 use Rattle.rhai_calls.proofs.TargetLemmas.{part_goes}
-use Rattle.rhai_chains.proofs.OnTemporaries.{working}
+use Rattle.rhai_links.proofs.OnTemporaries.{working}
 
 module _ {S H : Type 0} (rules : Rules S H) where
   -- a method on a part, over what takes the part back

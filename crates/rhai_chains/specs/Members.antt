@@ -1,24 +1,11 @@
--- Members of a value as the code has them, and what comes of the indexer that is tried for a property.
+-- What comes of the indexer that is tried for a property.
 use Rattle.std.specs.Prelude.{Bool, true, false, Result, Ok, Err}
 use Rattle.rhai_values.specs.declared.base.value.Dynamic.{Dynamic}
 use Rattle.rhai_errors.specs.declared.error.EvalAltResult.{EvalAltResult}
-use Rattle.rhai_machine.specs.language.Frames as machine
 use Rattle.rhai_machine.specs.language.Members.{lacks_indexer}
 use Rattle.rhai_calls.specs.ToldChanges.{with_changed}
-use Rattle.rhai_chains.specs.declared.members.Member.{Member as CodeMember}
-use Rattle.rhai_chains.specs.declared.members.Member.TheVariants as member
-use Rattle.rhai_chains.specs.declared.members.MemberAccess.{MemberAccess as CodeAccess}
 
 module _ {H : Type 0} where
-  -- a member of the code as the machine has it
-  abbrev pub member_of : CodeMember H → machine.Member H
-  member_of (member.Property name pos) = machine.Property name.now pos
-  member_of (member.Item index) = machine.Item index
-
-  -- how the code gets and sets a member, as the machine has it
-  abbrev pub access_of : CodeAccess H → machine.MemberAccess H
-  access_of access = record { member = member_of access.member; at = access.at; guarded = access.guarded }
-
   -- what comes of an indexer that failed: where it is missing something stands for it, and else its error does
   abbrev pub tried_by : (lacks : Bool) → EvalAltResult H → (otherwise : Result (Dynamic H) (EvalAltResult H)) →
       Result (Dynamic H × Bool) (EvalAltResult H)

@@ -27,17 +27,18 @@ ghost use Rattle.rhai_steps.specs.Follows.{Follows};
 ghost use Rattle.rhai_chains.specs.Assigned.{item_assigned, measured_as, none_got, property_assigned};
 ghost use Rattle.rhai_chains.specs.Assigned.{set_last, value_got, value_operated};
 ghost use Rattle.rhai_chains.specs.Assigned.{FollowsUnless, GoesIn, IsKept};
-ghost use Rattle.rhai_chains.specs.Chains.{chain_at, link_seen, new_value};
-ghost use Rattle.rhai_chains.specs.Members.{access_of};
+ghost use Rattle.rhai_links.specs.Chains.{chain_at, link_seen, new_value};
+ghost use Rattle.rhai_links.specs.Access.{access_of};
 
-use crate::chain::NewValue;
-use crate::links::{Link, LinkForm};
-use crate::members::{Member, MemberAccess, get_member, lacks_indexer, set_member};
-use crate::spots::{access_for, find_spot};
+use crate::members::{get_member, lacks_indexer, set_member};
 use rhai_assign::focus::{assign_focus, assign_inserted};
 use rhai_errors::error::EvalAltResult;
 use rhai_errors::errors::{constant_of, data_too_large};
 use rhai_errors::table::NativeTable;
+use rhai_links::access::{Member, MemberAccess};
+use rhai_links::chain::NewValue;
+use rhai_links::links::{Link, LinkForm};
+use rhai_links::spots::{access_for, find_spot};
 use rhai_lookups::run::RunState;
 use rhai_places::part::read_part;
 use rhai_places::place::place_mut;
@@ -346,7 +347,7 @@ fn assign_spot<H: Host, T: NativeTable<H>>(
 /// changed gets none. The answer is `()`, and tells of a change.
 ///
 /// # Errors
-/// Those of `crate::spots::find_spot`; at the root's start `ErrorAssignmentToConstant` for a missing key of a
+/// Those of `rhai_links::spots::find_spot`; at the root's start `ErrorAssignmentToConstant` for a missing key of a
 /// map that may not be changed, and those of `rhai_assign::focus::assign_focus`; at the operator
 /// `ErrorMismatchDataType` for a part that has become of another type, and `ErrorDataTooLarge`.
 pub fn assign_at<H: Host, T: NativeTable<H>>(

@@ -16,12 +16,14 @@ ghost use Rattle.rhai_steps.specs.Agreement.{KeepsSight};
 ghost use Rattle.rhai_steps.specs.Sessions.{under};
 ghost use Rattle.rhai_steps.specs.States.{state_of};
 ghost use Rattle.rhai_steps.specs.OnFocus.{lending};
-ghost use Rattle.rhai_chains.specs.Members.{access_of, tried};
+ghost use Rattle.rhai_chains.specs.Members.{tried};
+ghost use Rattle.rhai_links.specs.Access.{access_of};
 
 use rhai_calls::native::{Passing, pass_native, tell_changed};
 use rhai_errors::error::EvalAltResult;
 use rhai_errors::table::NativeTable;
 use rhai_few::Few;
+use rhai_links::access::{Member, MemberAccess};
 use rhai_lookups::run::RunState;
 use rhai_state::session::Session;
 use rhai_steps::operation::Operation;
@@ -32,15 +34,6 @@ use rhai_values::base::value::{Dynamic, Host};
 use std::alloc::{AllocError, Global};
 use std::mem::replace;
 
-/// What natives get and set in a value.
-#[derive(Drop)]
-pub enum Member<'a, H> {
-    /// A property, by its name.
-    Property(&'a Shared<Text>, Position),
-    /// An item, by an index of any type.
-    Item(Dynamic<H>),
-}
-
 /// A property that natives get and set: its name, and where that and its operator stand.
 #[derive(Clone, Copy)]
 struct NamedProperty<'a> {
@@ -49,16 +42,6 @@ struct NamedProperty<'a> {
     at: Position,
     /// A constant is kept from a native that is not pure.
     guarded: bool,
-}
-
-/// How a member is got and set.
-#[derive(Drop)]
-pub struct MemberAccess<'a, H> {
-    pub member: Member<'a, H>,
-    /// The operator.
-    pub at: Position,
-    /// A constant is kept from a native that is not pure.
-    pub guarded: bool,
 }
 
 /// Tells whether an error says that there is no such property.

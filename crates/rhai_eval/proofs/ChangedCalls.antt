@@ -20,7 +20,7 @@ use Rattle.rhai_laws.proofs.KeptLaws.{kept, kept_from, names_stay_from}
 use Rattle.rhai_laws.proofs.MemoryLaws.{straight}
 use Rattle.rhai_laws.proofs.ScriptMemory.{runs_up_to_memory, memory_unwinds}
 use Rattle.rhai_steps.specs.Callers.{state_of}
-use Rattle.rhai_calls.specs.Lending.{back_in, passed_call}
+use Rattle.rhai_steps.specs.Lending.{back_in, passed_call}
 use Rattle.rhai_eval.specs.Ends.{EndsChanged}
 use Rattle.rhai_eval.specs.Places.{on_place, with_place}
 

@@ -23,7 +23,7 @@ use Rattle.rhai_machine.specs.language.Language.{machine}
 use Rattle.rhai_calls.specs.declared.dispatch.Called.{Called}
 use Rattle.rhai_calls.specs.declared.dispatch.Called.TheVariants.{Ended, Enters}
 use Rattle.rhai_calls.specs.Dispatch.{came_to as dispatched_to}
-use Rattle.rhai_calls.specs.Lending.{passed_call}
+use Rattle.rhai_steps.specs.Lending.{passed_call}
 use Rattle.rhai_calls.specs.ToldChanges.{with_changed}
 use Rattle.rhai_methods.specs.Methods.{IsEntered, MethodCall}
 use Rattle.rhai_methods.specs.declared.calls.MethodEntry.TheVariants as entry

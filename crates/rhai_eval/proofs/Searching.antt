@@ -22,7 +22,7 @@ use Rattle.rhai_machine.specs.language.Values.{unit_value}
 use Rattle.rhai_machine.specs.language.Variables.{Variable, variable_named}
 use Rattle.rhai_machine.specs.language.Names.{there_or_unknown, value_behind, variable_of, without_entry}
 use Rattle.rhai_steps.specs.Offsets.{index_in}
-use Rattle.rhai_steps.specs.Roots.{path_searched}
+use Rattle.rhai_names.specs.Roots.{path_searched}
 use Rattle.rhai_eval.specs.Search.{beside, found_behind, in_place, is_variable, named, searched, value_there, variable_searched}
 use Rattle.rhai_eval.specs.Search.{found_by_path, IsBehind, IsBeside}
 

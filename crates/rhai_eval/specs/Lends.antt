@@ -5,7 +5,7 @@ use Rattle.rhai_tree.specs.Layers.{ExprLayer}
 use Rattle.rhai_values.specs.declared.base.value.Dynamic.{Dynamic}
 use Rattle.rhai_state.specs.declared.scope.Scope.{Scope}
 use Rattle.rhai_state.specs.Scope.{in_use}
-use Rattle.rhai_steps.specs.Lends.{with_value}
+use Rattle.rhai_names.specs.Lends.{with_value}
 
 -- the variable that an expression is has another value
 abbrev pub with_variable : {H : Type 0} → Scope H → Bool → ExprLayer → Dynamic H → Scope H

@@ -6,7 +6,7 @@ use Rattle.rhai_values.specs.declared.base.value.Dynamic.{Dynamic}
 use Rattle.rhai_machine.specs.language.State.{Held}
 use Rattle.rhai_machine.specs.language.Variables.{no_path}
 use Rattle.rhai_machine.specs.language.Frames.{Operation, FromFocus, Call, Dispatch}
-use Rattle.rhai_calls.specs.Lending.{passed_call}
+use Rattle.rhai_steps.specs.Lending.{passed_call}
 
 -- what an optional place of the caller has as it is lent
 abbrev pub loan_start : {A : Type 0} → Option (MutBor A) → Option A

@@ -16,7 +16,7 @@ use Rattle.rhai_machine.specs.language.State.{Answers, Surroundings}
 use Rattle.rhai_machine.specs.language.Values.{Cells, unit_value}
 use Rattle.rhai_machine.specs.language.Variables.{Variable, variable_named}
 use Rattle.rhai_machine.specs.language.Names.{value_beside, variable_of}
-use Rattle.rhai_steps.specs.Roots.{path_searched}
+use Rattle.rhai_names.specs.Roots.{path_searched}
 
 -- a variable, behind a path or not
 abbrev pub names_variable : ExprLayer → Bool

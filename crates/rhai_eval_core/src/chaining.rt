@@ -9,7 +9,7 @@ ghost use Rattle.rhai_tree.specs.Frame.{resolves_expr, target_resolves, tests_of
 ghost use Rattle.rhai_machine.specs.language.Frames.{ChainRoot, OpenChain, OpenStmt, chain_on, ChainArguments};
 ghost use Rattle.rhai_machine.specs.language.Links.{first_in};
 ghost use Rattle.rhai_machine.specs.language.Runs.{Runs, Steps};
-ghost use Rattle.rhai_chains.specs.Chains.{Walks, chain_at, new_of};
+ghost use Rattle.rhai_links.specs.Chains.{Walks, chain_at, new_of};
 ghost use Rattle.rhai_context.specs.Ends.{came};
 ghost use Rattle.rhai_eval_steps.specs.Agreement.{KeepsNames, SuitsNames};
 ghost use Rattle.rhai_eval_steps.specs.Chains.{gathered, HasAsked, MayWalk, StartsFrom, AsksFirst};
@@ -21,17 +21,17 @@ mod roots;
 mod walk;
 
 use crate::evaluator::Evaluator;
-use rhai_chains::arguments::asked;
-use rhai_chains::chain::NewValue;
-use rhai_chains::given::take_ready_args;
-use rhai_chains::links::{first_of, link_of};
 use rhai_chains::roots::take_flat;
 use rhai_context::Context;
 use rhai_context::ends::put_unit;
 use rhai_context::outcomes::charge;
 use rhai_errors::table::NativeTable;
 use rhai_few::Few;
-use rhai_steps::variables::Variable;
+use rhai_links::arguments::asked;
+use rhai_links::chain::NewValue;
+use rhai_links::given::take_ready_args;
+use rhai_links::links::{first_of, link_of};
+use rhai_names::variables::Variable;
 use rhai_tree::expr::{Expr, OpAssignment};
 use rhai_values::base::value::{Dynamic, Host};
 

@@ -38,10 +38,10 @@ use Rattle.rhai_tree.specs.declared.expr.Ident.{Ident}
 use Rattle.rhai_tree.specs.declared.flags.ASTFlags.{ASTFlags}
 use Rattle.rhai_state.specs.Scope.{entries_of}
 use Rattle.rhai_steps.specs.States.{local_of, state_of}
-use Rattle.rhai_steps.specs.Declaring.{declarable, is_full, is_taken}
+use Rattle.rhai_names.specs.Declaring.{declarable, is_full, is_taken}
 use Rattle.rhai_steps.proofs.Pieces.{or_runs_out, step_by}
-use Rattle.rhai_steps.specs.Saves.{saved_in, left_global}
-use Rattle.rhai_steps.specs.declared.variables.Saved as code
+use Rattle.rhai_names.specs.Saves.{saved_in, left_global}
+use Rattle.rhai_names.specs.declared.variables.Saved as code
 
 -- the item at an index, and what is left
 pub drop_item : {A : Type 0} (xs : List A) (i : ℕ) (x : A) → i < length xs → x ≡ get_or xs i x → drop i xs ≡ x ∷ drop (i + 1) xs

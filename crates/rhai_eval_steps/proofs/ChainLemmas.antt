@@ -24,9 +24,9 @@ use Rattle.rhai_tree.proofs.Walk.{expr_tests, resolves-expr}
 use Rattle.rhai_operands.proofs.Names.{both, holds_then}
 use Rattle.rhai_machine.specs.language.Links.{Link, LinkForm, asked_by, breaks, dot_form, dot_link}
 use Rattle.rhai_machine.specs.language.Links.{dot_link_with, first_in, index_link, link_of}
-use Rattle.rhai_chains.specs.Chains.{at_end, goes_on, MayEnd}
+use Rattle.rhai_links.specs.Chains.{at_end, goes_on, MayEnd}
 use Rattle.rhai_tree.specs.Links.{left_by, links}
-use Rattle.rhai_chains.proofs.LinkLemmas.{fewer_behind}
+use Rattle.rhai_links.proofs.LinkLemmas.{fewer_behind}
 use Rattle.rhai_eval_steps.specs.Chains.{MayWalk, StartsFrom, behind_resolves}
 
 -- what is seen of one level

@@ -35,9 +35,9 @@ use Rattle.rhai_machine.specs.language.Expressions.{literal_of}
 use Rattle.rhai_machine.specs.language.Language.{move, machine}
 use Rattle.rhai_machine.specs.language.Runs.{at, with_core}
 use Rattle.rhai_steps.proofs.Pieces.{or_runs_out, step_by}
-use Rattle.rhai_chains.specs.Chains.{BehindWalks, Walks}
-use Rattle.rhai_chains.specs.Ready.{alone, at_once}
-use Rattle.rhai_chains.proofs.LinkLemmas.{walks_behind}
+use Rattle.rhai_links.specs.Chains.{BehindWalks, Walks}
+use Rattle.rhai_links.specs.Ready.{alone, at_once}
+use Rattle.rhai_links.proofs.LinkLemmas.{walks_behind}
 use Rattle.rhai_eval_steps.specs.Chains.{HasAsked, MayWalk, StartsFrom}
 use Rattle.rhai_eval_steps.proofs.ChainLemmas.{IsNoName}
 

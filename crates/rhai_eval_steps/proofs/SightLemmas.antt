@@ -11,8 +11,8 @@ use Rattle.rhai_machine.specs.language.Runs.{Steps}
 use Rattle.rhai_machine.specs.language.Setting.{Rules}
 use Rattle.rhai_machine.specs.language.State.{State}
 use Rattle.rhai_steps.specs.Agreement.{Sight, imports_in, sight_of}
-use Rattle.rhai_steps.specs.Saves.{left_global}
-use Rattle.rhai_steps.specs.declared.variables.Saved.{Saved}
+use Rattle.rhai_names.specs.Saves.{left_global}
+use Rattle.rhai_names.specs.declared.variables.Saved.{Saved}
 use Rattle.rhai_bodies.specs.Closing.{taken_back}
 use Rattle.rhai_bodies.specs.Opening.{entered_global}
 use Rattle.rhai_bodies.specs.declared.opening.CallExit.{CallExit}

@@ -14,7 +14,7 @@ use Rattle.rhai_machine.specs.language.State.{State}
 use Rattle.rhai_machine.specs.language.Frames.{Chain, ChainRoot, Control, Fail, OpenChain}
 use Rattle.rhai_machine.specs.language.Language.{machine}
 use Rattle.rhai_machine.specs.language.Runs.{at}
-use Rattle.rhai_chains.specs.Chains.{Walks}
+use Rattle.rhai_links.specs.Chains.{Walks}
 
 -- ---- what is asked
 

@@ -26,6 +26,7 @@ ghost use Rattle.rhai_fast_assign.specs.Items.{charges_of, parts_in, place_in_ar
 use rhai_context::ends::put_number;
 use rhai_errors::table::NativeTable;
 use rhai_lookups::run::RunState;
+use rhai_names::variables::index_by_offset;
 use rhai_operands::operands::{integer_at, integer_in_place};
 use rhai_operands::operators::compute_known;
 use rhai_places::place::place_mut;
@@ -33,7 +34,6 @@ use rhai_spots::spot::Spot;
 use rhai_state::scope::Scope;
 use rhai_state::session::Session;
 use rhai_steps::charges::charge_all;
-use rhai_steps::variables::index_by_offset;
 use rhai_tree::expr::{Expr, OpAssignment};
 use rhai_values::base::value::{AccessMode, Dynamic, Host, Union};
 

@@ -9,16 +9,16 @@ ghost use Rattle.rhai_machine.specs.language.Runs.{Runs};
 ghost use Rattle.rhai_machine.specs.language.Statements.{deeper};
 ghost use Rattle.rhai_machine.specs.language.Values.{unit_value as unit};
 ghost use Rattle.rhai_steps.specs.Agreement.{AgreesAt, KeepsSight, passes};
-ghost use Rattle.rhai_steps.specs.Saves.{left_global, saved_in, saved_now};
+ghost use Rattle.rhai_names.specs.Saves.{left_global, saved_in, saved_now};
 ghost use Rattle.rhai_steps.specs.Sessions.{under};
 ghost use Rattle.rhai_steps.specs.States.{state_of};
 
 use crate::in_place::{Assignment, assign_integer};
 use rhai_errors::table::NativeTable;
 use rhai_lookups::run::RunState;
+use rhai_names::variables::{Saved, enter_list};
 use rhai_state::scope::Scope;
 use rhai_state::session::Session;
-use rhai_steps::variables::{Saved, enter_list};
 use rhai_tree::expr::Stmt;
 use rhai_values::base::value::Host;
 

@@ -47,7 +47,7 @@ use Rattle.rhai_calls.specs.declared.dispatch.Called.TheVariants.{Ended}
 use Rattle.rhai_calls.specs.declared.dispatch.Seeks.{Seeks}
 use Rattle.rhai_calls.specs.Called.{came_out}
 use Rattle.rhai_calls.specs.Dispatch.{IfEnded, ended_early, meant, plain_found, came_to}
-use Rattle.rhai_calls.specs.Lending.{back_in, lent_call, passed_call}
+use Rattle.rhai_steps.specs.Lending.{back_in, lent_call, passed_call}
 use Rattle.rhai_calls.specs.ToldChanges.{with_changed, without_changed}
 use Rattle.rhai_calls.proofs.Dispatching.{calls_ended, resolved_asks}
 use Rattle.rhai_calls.specs.Natives.{is_pure_on}
@@ -57,9 +57,9 @@ use Rattle.rhai_call_forms.specs.Leading.{Leading, takes_by_value, lent_first}
 use Rattle.rhai_call_forms.proofs.FormLemmas.{function_goes}
 use Rattle.rhai_call_forms.proofs.LeadingLemmas.{variable_goes}
 use Rattle.rhai_fast_calls.proofs.PlainSteps.{Means as MeansNothing, means_nothing, plain_named}
-use Rattle.rhai_callees.specs.Variables.{is_lendable}
-use Rattle.rhai_callees.proofs.Going.{on_called}
-use Rattle.rhai_callees.proofs.Passing.{on_lent}
+use Rattle.rhai_names.specs.Passed.{is_lendable}
+use Rattle.rhai_calls.proofs.OnVariable.{on_called}
+use Rattle.rhai_names.proofs.Passing.{on_lent}
 use Rattle.rhai_fast_calls.specs.AtOnce.{IsLone}
 use Rattle.rhai_tree.specs.Names.{Frame as NamesFrame}
 

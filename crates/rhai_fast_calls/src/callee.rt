@@ -6,7 +6,7 @@ ghost use Rattle.rhai_fast_calls.specs.Callees.{IsPlain, starts_by_value as by_v
 
 use rhai_functions::key::FnKey;
 use rhai_lookups::run::RunState;
-use rhai_steps::variables::is_plain;
+use rhai_names::variables::is_plain;
 use rhai_tree::Shared;
 use rhai_tree::checked::CheckedFn;
 use rhai_tree::expr::{Expr, FnCallExpr};

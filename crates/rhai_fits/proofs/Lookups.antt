@@ -16,7 +16,7 @@ use Rattle.rhai_functions.specs.Functions.{FunctionKey, def_of, first_given, fou
 use Rattle.rhai_functions.specs.Functions.{in_module, in_modules, in_named, is_public, is_shown, last_given, last_of, later_of, shown_in}
 use Rattle.rhai_functions.specs.Namespaces.{constant_among, constant_in, down, if_public, imported, module_in, module_if_named, public_in}
 use Rattle.rhai_functions.specs.Namespaces.{root_in}
-use Rattle.rhai_functions.specs.Qualified.{text_behind, found_or_missing, from_root, is_global, path_text, qualified, without_root}
+use Rattle.rhai_machine.specs.Qualified.{text_behind, found_or_missing, from_root, is_global, path_text, qualified, without_root}
 use Rattle.rhai_machine.specs.Types.{Dynamic, FnPtr, Import, out-Import, Module, out-Module, ModuleFn, out-ModuleFn, Position}
 use Rattle.rhai_machine.specs.language.Arguments.{KindLayer, linked, linked_to, own_function}
 use Rattle.rhai_machine.specs.language.Functions.{Function, found_function, in_libraries, key_by}

@@ -3,5 +3,4 @@ pub mod Entering
 pub mod Functions
 pub mod Keys
 pub mod Namespaces
-pub mod Qualified
 pub mod Words

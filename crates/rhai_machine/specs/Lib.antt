@@ -1,3 +1,4 @@
+pub mod Qualified
 pub mod Types
 pub mod language
 pub mod machine

@@ -17,7 +17,7 @@ use Rattle.rhai_machine.specs.language.Frames.{OpenExpr}
 use Rattle.rhai_machine.specs.language.Runs.{Runs, Goes}
 use Rattle.rhai_steps.specs.Offers.{Offers, globals_in}
 use Rattle.rhai_steps.specs.States.{local_of, state_of}
-use Rattle.rhai_steps.proofs.Offering.{globals_same}
+use Rattle.rhai_names.proofs.Offering.{globals_same}
 use Rattle.rhai_steps.proofs.Pieces.{told}
 use Rattle.rhai_operands.specs.Reading.{read_as}
 

@@ -10,9 +10,9 @@ ghost use Rattle.rhai_steps.specs.Agreement.{AgreesAt};
 ghost use Rattle.rhai_operands.specs.Standing.{integer_of, standing, operand_pair, value_of};
 
 use rhai_lookups::run::RunState;
+use rhai_names::variables::{entry_of_variable, index_by_offset};
 use rhai_state::scope::Scope;
 use rhai_steps::values::{bool_value, char_value, int_value, is_bare_handle, unit_value};
-use rhai_steps::variables::{entry_of_variable, index_by_offset};
 use rhai_tree::expr::{Expr, FnCallExpr};
 use rhai_values::base::value::{Dynamic, Host, Union};
 

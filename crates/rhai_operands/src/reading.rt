@@ -17,10 +17,10 @@ use crate::operands::integer_in_place;
 use rhai_context::ends::{put, put_number, put_truth, put_unit, settle, stop};
 use rhai_errors::error::EvalAltResult;
 use rhai_lookups::run::RunState;
+use rhai_names::variables::{Variable, read_this, read_variable};
 use rhai_state::scope::Scope;
 use rhai_state::session::Session;
 use rhai_steps::values::{char_value, constant_value, int_value, text_value};
-use rhai_steps::variables::{Variable, read_this, read_variable};
 use rhai_tree::expr::Expr;
 use rhai_values::base::value::{Dynamic, Host};
 

@@ -1,2 +1,3 @@
-pub mod Settings
+pub mod Arguments
 pub mod Outcome
+pub mod Settings

@@ -1,8 +1,9 @@
 //! Scripts as data, in rows, with what is set for their runs and what they run above and among, and how what
-//! they come to is written. Nothing here runs them.
+//! they come to is written. What runs them is a `Runner`, and the program `tree_run` asks one.
 #![tactic(auto)]
 
 pub mod attempt;
+pub mod command;
 pub mod compare;
 pub mod entry;
 pub mod errors;

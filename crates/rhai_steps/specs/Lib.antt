@@ -1,16 +1,12 @@
 pub mod Agreement
 pub mod Callers
-pub mod Declaring
 pub mod Follows
-pub mod Lends
+pub mod Lending
 pub mod Loops
 pub mod Offers
 pub mod Offsets
 pub mod OnFocus
 pub mod Operations
-pub mod Roots
-pub mod Saves
 pub mod Sessions
 pub mod States
 pub mod Values
-pub mod Variables

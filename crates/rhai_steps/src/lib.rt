@@ -1,15 +1,11 @@
 //! The single steps of the evaluator, which lead to no part of a tree: charges, errors, values,
-//! variables, what a native's answer comes to, and what loops and scripts make of an outcome. Each
+//! what a native's answer comes to, and what loops and scripts make of an outcome. Each
 //! says exactly what it answers, unless memory runs out.
 #![tactic(auto)]
 
 pub mod charges;
-pub mod constants;
 pub mod loops;
 pub mod operation;
 pub mod outcome;
-pub mod qualified;
 pub mod replies;
-pub mod roots;
 pub mod values;
-pub mod variables;

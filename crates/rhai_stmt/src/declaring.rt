@@ -12,7 +12,7 @@ ghost use Rattle.rhai_machine.specs.language.State.{Answers};
 ghost use Rattle.rhai_machine.specs.language.Statements.{constant_core, enters};
 ghost use Rattle.rhai_machine.specs.language.Values.{unit_value as unit};
 ghost use Rattle.rhai_steps.specs.Agreement.{AgreesAt, KeepsSight, variable_is_good};
-ghost use Rattle.rhai_steps.specs.Declaring.{declarable, is_full, is_taken};
+ghost use Rattle.rhai_names.specs.Declaring.{declarable, is_full, is_taken};
 ghost use Rattle.rhai_steps.specs.States.{local_of};
 ghost use Rattle.rhai_context.specs.Ends.{came, error_in};
 ghost use Rattle.rhai_stmt.specs.Declares.{own_alias, Declares, Misses};
@@ -20,12 +20,12 @@ ghost use Rattle.rhai_stmt.specs.Declares.{own_alias, Declares, Misses};
 use rhai_context::ends::{stop, take_value};
 use rhai_errors::error::EvalAltResult;
 use rhai_lookups::run::RunState;
-use rhai_state::limits::Limits;
-use rhai_state::scope::Scope;
-use rhai_steps::constants::enter_constant;
-use rhai_steps::variables::{
+use rhai_names::constants::enter_constant;
+use rhai_names::variables::{
     define_variable, index_of_variable, is_exported, may_declare, mode_of,
 };
+use rhai_state::limits::Limits;
+use rhai_state::scope::Scope;
 use rhai_tree::expr::Ident;
 use rhai_tree::flags::ASTFlags;
 use rhai_tree::position::Position;

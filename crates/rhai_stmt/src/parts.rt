@@ -16,10 +16,10 @@ ghost use Rattle.rhai_stmt.specs.Loops.{loop_in};
 use crate::turns::{Turns, turns_of};
 use rhai_context::ends::{stop, take_value};
 use rhai_errors::error::EvalAltResult;
+use rhai_names::variables::define_variable;
 use rhai_state::limits::Limits;
 use rhai_state::scope::Scope;
 use rhai_steps::values::unit_value;
-use rhai_steps::variables::define_variable;
 use rhai_tree::expr::{Expr, Ident, StmtBlock};
 use rhai_values::base::value::{AccessMode, Dynamic, Host, Union};
 

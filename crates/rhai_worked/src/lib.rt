@@ -3,6 +3,7 @@
 #![tactic(auto)]
 
 pub mod answers;
+pub mod commands;
 mod keeps;
 pub mod lists;
 pub mod program;

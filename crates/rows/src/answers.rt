@@ -1,6 +1,5 @@
 //! What the calls of lines answer.
 
-use crate::program::{write_refusals, write_run};
 use rhai_bench::Bench;
 use rhai_bench::roots::write_root;
 use rhai_bench::searches::write_search;
@@ -10,6 +9,7 @@ use rhai_rows::errors::write_shown;
 use rhai_rows::signatures::write_told;
 use rhai_rows::values::write_sample;
 use rhai_worked::answers;
+use rhai_worked::commands::{write_refusals, write_run};
 use rhai_worked::lists::Listed;
 use std::alloc::Global;
 use std::io;
@@ -45,8 +45,8 @@ fn write_answer(
 ) -> io::Result<()> {
     let (form, rest) = call.split_once(' ').unwrap_or((call, ""));
     match form {
-        "run" => write_run(alloc, rest, out),
-        "refuses" => write_refusals(alloc, rest, out),
+        "run" => write_run::<Bench>(alloc, rest, out),
+        "refuses" => write_refusals::<Bench>(alloc, rest, out),
         "prints" => write_sample(alloc, rest, out),
         "finds" => write_search(alloc, rest, false, out),
         "searches" => write_search(alloc, rest, true, out),

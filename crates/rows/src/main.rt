@@ -14,7 +14,6 @@
 
 mod answers;
 mod library;
-mod program;
 mod topic;
 mod work;
 
@@ -22,7 +21,7 @@ use crate::library::Library;
 use crate::topic::Topic;
 use crate::work::Work;
 use rhai_bench::Bench;
-use rhai_bench::command::WRONG_ARGUMENTS;
+use rhai_rows::command::WRONG_ARGUMENTS;
 use rhai_worked::program::{do_all_agree, do_all_hold, read_lists, text_of_lists};
 use std::process::ExitCode;
 use std::rt::Env;

@@ -2,7 +2,8 @@
 //! what each came to.
 #![tactic(auto)]
 
-use rhai_bench::command::{NOT_WRITTEN, print_usage, run};
+use rhai_bench::Bench;
+use rhai_rows::command::{NOT_WRITTEN, print_usage, run};
 use std::process::ExitCode;
 use std::rt::Env;
 use std::{env, io};
@@ -10,7 +11,7 @@ use std::{env, io};
 fn main(rt: HostRuntime) -> ExitCode {
     let mut out = io::writer(&rt);
     let status = match arguments(&rt) {
-        Ok(args) => run(rt.alloc(), args.as_slice(), &mut out),
+        Ok(args) => run::<Bench, _>(rt.alloc(), args.as_slice(), &mut out),
         Err(error) => {
             if error.kind() == io::ErrorKind::OutOfMemory {
                 NOT_WRITTEN

@@ -6,7 +6,7 @@ use Rattle.rhai_machine.specs.language.Places.{target}
 use Rattle.rhai_machine.specs.language.Variables.{path_of}
 use Rattle.rhai_steps.specs.Sessions.{offer_of, under}
 use Rattle.rhai_steps.specs.States.{state_of, surroundings_of}
-use Rattle.rhai_steps.specs.Variables.{variable_told}
+use Rattle.rhai_names.specs.Variables.{variable_told}
 use Rattle.rhai_assign.specs.Targets.{place_in, standing_at}
 use Rattle.rhai_assign.proofs.Entries.{target_seen}
 use Rattle.rhai_assign.proofs.Updates.{assigns, misses, refuses_assignment}

@@ -13,8 +13,8 @@ use crate::entering::host::{Answer, Host, no_part, value_of};
 use rhai_call_forms::arguments::split_first;
 use rhai_eval::base::{Dynamic, Expr, FnCallExpr, OpAssignment, Position, Stmt, Union};
 use rhai_eval::eval::chaining::ChainType;
+use rhai_names::variables::is_plain;
 use rhai_rows::entry::Entry;
-use rhai_steps::variables::is_plain;
 use rhai_tables::host::Pair;
 use std::alloc::Global;
 

@@ -7,7 +7,7 @@ ghost use Rattle.rhai_tree.specs.declared.expr.Expr.{out-Expr};
 ghost use Rattle.rhai_values.specs.Cells.{cells_of};
 ghost use Rattle.rhai_errors.specs.Errors.{is_out_of_memory};
 ghost use Rattle.rhai_state.specs.Scope.{entries_of, Fits};
-ghost use Rattle.rhai_steps.specs.Lends.{lends_variable};
+ghost use Rattle.rhai_names.specs.Lends.{lends_variable};
 ghost use Rattle.rhai_steps.specs.Offers.{globals_in};
 ghost use Rattle.rhai_steps.specs.Offsets.{index_in, offset_in};
 ghost use Rattle.rhai_steps.specs.Callers.{surroundings_of};
@@ -19,11 +19,11 @@ ghost use Rattle.rhai_eval.specs.Search.{IsBehind, IsBeside};
 use rhai_context::{lend_state, return_state};
 use rhai_errors::error::EvalAltResult;
 use rhai_lookups::run::RunState;
+use rhai_names::qualified::search_path;
+use rhai_names::variables::{find_variable, is_plain, read_global};
 use rhai_state::scope::Scope;
 use rhai_state::session::Session;
 use rhai_state::state::GlobalRuntimeState;
-use rhai_steps::qualified::search_path;
-use rhai_steps::variables::{find_variable, is_plain, read_global};
 use rhai_tree::expr::Expr;
 use rhai_values::base::value::{Dynamic, Host};
 
@@ -105,7 +105,7 @@ pub(crate) fn is_behind_path(expr: &Expr) -> bool
 }
 
 /// Reads what a name without a path means that no variable of the scope has, as
-/// `rhai_steps::variables::read_beside` reads it.
+/// `rhai_names::variables::read_beside` reads it.
 ///
 /// # Errors
 /// `ErrorVariableNotFound` at the variable where there is no such thing.
@@ -125,7 +125,7 @@ pub(crate) fn value_alone<H: Host>(
     }
 }
 
-/// Reads what a name behind a path means in a run, as `rhai_steps::qualified::search_path` reads it, which asks
+/// Reads what a name behind a path means in a run, as `rhai_names::qualified::search_path` reads it, which asks
 /// the same of the path's index.
 ///
 /// # Errors

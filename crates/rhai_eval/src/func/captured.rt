@@ -11,7 +11,6 @@ ghost use Rattle.rhai_steps.specs.States.{local_of, state_of};
 ghost use Rattle.rhai_eval_core.specs.States.{under as under_what_is_read};
 
 use rhai_bodies::callers::{environ_in, level_below};
-use rhai_chains::focus::put_this;
 use rhai_context::Context;
 use rhai_context::ends::finish;
 use rhai_errors::error::EvalAltResult;
@@ -19,6 +18,7 @@ use rhai_errors::table::NativeTable;
 use rhai_eval_core::evaluator::Evaluator;
 use rhai_few::Few;
 use rhai_functions::function::Function;
+use rhai_links::focus::put_this;
 use rhai_steps::values::unit_value;
 use rhai_tree::position::Position;
 use rhai_values::base::value::{Dynamic, Host};

@@ -8,20 +8,20 @@ ghost use Rattle.rhai_machine.specs.language.Frames.{Back, ReadRoot, RootValue, 
 ghost use Rattle.rhai_machine.specs.language.Runs.{Runs, Goes};
 ghost use Rattle.rhai_steps.specs.Agreement.{KeepsSight};
 ghost use Rattle.rhai_steps.specs.States.{state_of};
-ghost use Rattle.rhai_steps.specs.Variables.{offset_is_good, variable_told};
-ghost use Rattle.rhai_chains.specs.Chains.{chain_at, Walks};
+ghost use Rattle.rhai_names.specs.Variables.{offset_is_good, variable_told};
+ghost use Rattle.rhai_links.specs.Chains.{chain_at, Walks};
 ghost use Rattle.rhai_eval_steps.specs.Agreement.{KeepsNames, SuitsNames};
 ghost use Rattle.rhai_context.specs.Ends.{came};
 ghost use Rattle.rhai_eval_core.specs.States.{under};
 
 use crate::evaluator::Evaluator;
-use rhai_chains::chain::NewValue;
 use rhai_chains::roots::{
     give_this, give_variable, leave_temporary, lend_this, lend_variable, take_flat,
 };
 use rhai_context::Context;
 use rhai_errors::table::NativeTable;
-use rhai_steps::variables::Variable;
+use rhai_links::chain::NewValue;
+use rhai_names::variables::Variable;
 use rhai_tree::expr::Expr;
 use rhai_tree::position::Position;
 use rhai_values::base::value::{Dynamic, Host};

@@ -9,7 +9,7 @@ ghost use Rattle.rhai_machine.specs.language.Frames.{ended_or_changed, Walk};
 ghost use Rattle.rhai_steps.specs.Agreement.{KeepsSight};
 ghost use Rattle.rhai_steps.specs.States.{state_of};
 ghost use Rattle.rhai_steps.specs.OnFocus.{lending};
-ghost use Rattle.rhai_chains.specs.Chains.{chain_at, Walks};
+ghost use Rattle.rhai_links.specs.Chains.{chain_at, Walks};
 ghost use Rattle.rhai_context.specs.Ends.{came_changed};
 ghost use Rattle.rhai_eval_core.specs.States.{under};
 
@@ -19,12 +19,12 @@ mod methods;
 mod spots;
 
 use crate::evaluator::Evaluator;
-use rhai_chains::chain::NewValue;
-use rhai_chains::links::link_of;
-use rhai_chains::ways::{Begun, begin_link};
 use rhai_context::Context;
 use rhai_context::ends::settle_changed;
 use rhai_errors::table::NativeTable;
+use rhai_links::chain::NewValue;
+use rhai_links::links::link_of;
+use rhai_links::ways::{Begun, begin_link};
 use rhai_tree::expr::Expr;
 use rhai_values::base::value::{Dynamic, Host};
 

@@ -18,7 +18,7 @@ use Rattle.rhai_operators.specs.Answers.{unary_of, binary_of}
 use Rattle.rhai_functions.specs.Called.{function_of as function_in}
 use Rattle.rhai_functions.specs.Functions.{FunctionKey}
 use Rattle.rhai_functions.specs.Namespaces.{down, public_in, root_in}
-use Rattle.rhai_functions.specs.Qualified.{text_behind, path_text}
+use Rattle.rhai_machine.specs.Qualified.{text_behind, path_text}
 use Rattle.rhai_machine.specs.machine.Machine.{Move, Go, Native, AskPure}
 use Rattle.rhai_machine.specs.language.Setting.{Setting}
 use Rattle.rhai_machine.specs.language.State.{Local, Surroundings, deeper}

@@ -8,7 +8,7 @@ use Rattle.rhai_values.specs.Cells.{value_of_cell}
 use Rattle.rhai_values.specs.Copy.{copy_of}
 use Rattle.rhai_state.specs.Scope.{found, index_of}
 use Rattle.rhai_functions.specs.Namespaces.{constant_among}
-use Rattle.rhai_functions.specs.Qualified.{qualified}
+use Rattle.rhai_machine.specs.Qualified.{qualified}
 use Rattle.rhai_machine.specs.language.Setting.{Globals}
 use Rattle.rhai_machine.specs.language.State.{Surroundings}
 use Rattle.rhai_machine.specs.language.Values.{Cells}

@@ -7,7 +7,7 @@ use Rattle.rhai_machine.proofs.MeantLaws.{meant_beside}
 use Rattle.rhai_steps.specs.Agreement.{sight_of}
 use Rattle.rhai_steps.specs.Offers.{globals_in}
 use Rattle.rhai_steps.specs.States.{surroundings_of}
-use Rattle.rhai_steps.specs.Variables.{variable_told}
+use Rattle.rhai_names.specs.Variables.{variable_told}
 use Rattle.rhai_steps.proofs.Agreeing.{offset_agrees, path_agrees}
 use Rattle.rhai_assign.proofs.Entries.{entry_meant, none_temporary}
 use Rattle.rhai_assign.proofs.place.find_target.Goals as goal

@@ -1,7 +1,7 @@
 use Rattle.std.proofs.Common.{Err, ap, sym, ◌∙◌}
 use Rattle.rhai_values.specs.Cells.{cells_of}
-use Rattle.rhai_callees.specs.Variables.{copy_passed}
-use Rattle.rhai_callees.proofs.Passing.{looked_free, looked_held}
+use Rattle.rhai_names.specs.Passed.{copy_passed}
+use Rattle.rhai_names.proofs.Passing.{looked_free, looked_held}
 use Rattle.rhai_callees.proofs.path.pass_entry.Goals as goal
 
 pub returns-then-is_held : goal.returns-then-is_held

@@ -1,11 +1,11 @@
-use Rattle.rhai_steps.specs.Variables.{variable_told}
+use Rattle.rhai_names.specs.Variables.{variable_told}
 use Rattle.std.proofs.Common.{sym, ◌∙◌}
 use Rattle.rhai_state.specs.Scope.{entries_of, names_in}
 use Rattle.rhai_steps.specs.Agreement.{sight_of}
 use Rattle.rhai_steps.proofs.Agreeing.{offset_agrees, path_agrees}
 use Rattle.rhai_steps.specs.Offers.{globals_in}
 use Rattle.rhai_steps.specs.States.{surroundings_of}
-use Rattle.rhai_callees.proofs.Passing.{beside_copied, entry_looked}
+use Rattle.rhai_names.proofs.Passing.{beside_copied, entry_looked}
 use Rattle.rhai_callees.proofs.path.pass_variable.Goals as goal
 
 pub returns-in-Some : goal.returns-in-Some

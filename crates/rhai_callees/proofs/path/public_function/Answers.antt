@@ -5,7 +5,7 @@ use Rattle.rhai_machine.specs.language.Calls.{types_of}
 use Rattle.rhai_machine.specs.language.Functions.{key_by}
 use Rattle.rhai_steps.specs.Offers.{globals_in}
 use Rattle.rhai_steps.specs.States.{surroundings_of}
-use Rattle.rhai_steps.proofs.Rooted.{root_fits}
+use Rattle.rhai_names.proofs.Rooted.{root_fits}
 use Rattle.rhai_callees.proofs.PublicRoots.{public_named, public_none}
 use Rattle.rhai_callees.proofs.path.public_function.Goals as goal
 

@@ -1,4 +1,4 @@
-use Rattle.rhai_steps.specs.Variables.{variable_told}
+use Rattle.rhai_names.specs.Variables.{variable_told}
 use Rattle.std.proofs.Common.{refl, false, not, ◌∷◌, None, Ok, Err}
 use Rattle.rhai_state.specs.Scope.{entries_of}
 use Rattle.rhai_machine.specs.language.Calls.{plainly}
@@ -10,9 +10,10 @@ use Rattle.rhai_steps.specs.Operations.{operation_of}
 use Rattle.rhai_steps.specs.Sessions.{offer_of, under}
 use Rattle.rhai_steps.specs.States.{state_of, surroundings_of}
 use Rattle.rhai_calls.specs.Called.{with_args}
-use Rattle.rhai_calls.specs.Lending.{lent_call}
-use Rattle.rhai_callees.proofs.Going.{on_called, on_failed}
-use Rattle.rhai_callees.proofs.Passing.{beside_offered, on_beside}
+use Rattle.rhai_steps.specs.Lending.{lent_call}
+use Rattle.rhai_calls.proofs.OnVariable.{on_called}
+use Rattle.rhai_callees.proofs.Going.{on_failed}
+use Rattle.rhai_names.proofs.Passing.{beside_offered, on_beside}
 use Rattle.rhai_callees.proofs.variable.call_beside.Goals as goal
 
 pub returns-in-Ok-clause-runs : goal.returns-in-Ok-clause-runs

@@ -7,7 +7,7 @@ use Rattle.rhai_steps.specs.Operations.{operation_of}
 use Rattle.rhai_steps.specs.Sessions.{under}
 use Rattle.rhai_steps.specs.States.{state_of}
 use Rattle.rhai_calls.specs.Called.{with_args}
-use Rattle.rhai_calls.specs.Lending.{back_in, lent_call}
+use Rattle.rhai_steps.specs.Lending.{back_in, lent_call}
 use Rattle.rhai_calls.proofs.Dispatching.{calls_ended}
 use Rattle.rhai_callees.proofs.Going.{calls_given}
 use Rattle.rhai_callees.proofs.variable.call_first.Goals as goal

@@ -10,9 +10,10 @@ use Rattle.rhai_steps.specs.Operations.{operation_of}
 use Rattle.rhai_steps.specs.Sessions.{offer_of, under}
 use Rattle.rhai_steps.specs.States.{state_of, surroundings_of}
 use Rattle.rhai_calls.specs.Called.{with_args}
-use Rattle.rhai_calls.specs.Lending.{lent_call}
-use Rattle.rhai_callees.proofs.Going.{on_called, on_failed, on_refused}
-use Rattle.rhai_callees.proofs.Passing.{on_held, on_lent, on_passed}
+use Rattle.rhai_steps.specs.Lending.{lent_call}
+use Rattle.rhai_calls.proofs.OnVariable.{on_called}
+use Rattle.rhai_callees.proofs.Going.{on_failed, on_refused}
+use Rattle.rhai_names.proofs.Passing.{on_held, on_lent, on_passed}
 use Rattle.rhai_callees.proofs.variable.call_found.Goals as goal
 
 pub returns-then-is_held-clause-runs : goal.returns-then-is_held-clause-runs

@@ -6,7 +6,7 @@ use Rattle.rhai_steps.specs.Operations.{operation_of}
 use Rattle.rhai_steps.specs.Sessions.{under}
 use Rattle.rhai_steps.specs.States.{state_of}
 use Rattle.rhai_calls.specs.Called.{with_args}
-use Rattle.rhai_calls.specs.Lending.{lent_call}
+use Rattle.rhai_steps.specs.Lending.{lent_call}
 use Rattle.rhai_callees.proofs.Lending.{lent_names, lent_runs}
 use Rattle.rhai_callees.proofs.variable.call_lent.Goals as goal
 

@@ -6,7 +6,7 @@ use Rattle.rhai_steps.specs.States.{state_of}
 use Rattle.rhai_values.specs.declared.base.value.Dynamic.{Dynamic}
 use Rattle.rhai_steps.specs.Operations.{operation_of}
 use Rattle.rhai_steps.specs.Sessions.{under}
-use Rattle.rhai_calls.specs.Lending.{passed_call}
+use Rattle.rhai_steps.specs.Lending.{passed_call}
 use Rattle.rhai_calls.proofs.Taking.{first_and_others, none_below}
 use Rattle.rhai_calls.proofs.dispatch.call_native_all.Goals as goal
 

@@ -5,7 +5,7 @@ use Rattle.rhai_machine.specs.language.State.{State}
 use Rattle.rhai_steps.specs.Operations.{operation_of}
 use Rattle.rhai_steps.specs.Sessions.{under}
 use Rattle.rhai_steps.specs.States.{state_of}
-use Rattle.rhai_calls.specs.Lending.{passed_call}
+use Rattle.rhai_steps.specs.Lending.{passed_call}
 use Rattle.rhai_calls.specs.declared.dispatch.Seeks.{Seeks}
 use Rattle.rhai_calls.proofs.Dispatching.{ended_untold, resolved_asks, resolved_found, resolved_ends, untold_meant}
 use Rattle.rhai_calls.proofs.dispatch.pass_all.Goals as goal

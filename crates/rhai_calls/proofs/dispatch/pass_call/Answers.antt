@@ -5,7 +5,7 @@ use Rattle.rhai_machine.specs.language.State.{State}
 use Rattle.rhai_steps.specs.Operations.{operation_of}
 use Rattle.rhai_steps.specs.Sessions.{under}
 use Rattle.rhai_steps.specs.States.{state_of}
-use Rattle.rhai_calls.specs.Lending.{back_in, passed_call}
+use Rattle.rhai_steps.specs.Lending.{back_in, passed_call}
 use Rattle.rhai_calls.proofs.Dispatching.{ended_untold, resolved_asks, resolved_found, resolved_ends, untold_meant}
 use Rattle.rhai_calls.proofs.Lent.{back_same}
 use Rattle.rhai_calls.proofs.dispatch.pass_call.Goals as goal

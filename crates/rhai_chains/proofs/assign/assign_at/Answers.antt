@@ -5,7 +5,7 @@ use Rattle.rhai_spots.specs.Found.{found}
 use Rattle.rhai_machine.specs.language.Setting.{Rules}
 use Rattle.rhai_steps.specs.Sessions.{under}
 use Rattle.rhai_steps.specs.States.{state_of}
-use Rattle.rhai_chains.specs.Chains.{chain_at, link_seen, new_value}
+use Rattle.rhai_links.specs.Chains.{chain_at, link_seen, new_value}
 use Rattle.rhai_chains.proofs.AssignLemmas.{key_barred, none_found, spot_follows}
 use Rattle.rhai_chains.proofs.SpotLemmas.{found_stands}
 use Rattle.rhai_chains.proofs.assign.assign_at.Goals as goal

@@ -7,8 +7,8 @@ use Rattle.rhai_steps.specs.Sessions.{under}
 use Rattle.rhai_steps.specs.States.{state_of}
 use Rattle.rhai_steps.specs.OnFocus.{lending}
 use Rattle.rhai_chains.specs.Assigned.{none_got, value_got}
-use Rattle.rhai_chains.specs.Chains.{new_value}
-use Rattle.rhai_chains.specs.Members.{access_of}
+use Rattle.rhai_links.specs.Chains.{new_value}
+use Rattle.rhai_links.specs.Access.{access_of}
 use Rattle.rhai_chains.proofs.SettingLemmas.{gets_none, operates, sets_plainly}
 use Rattle.rhai_chains.proofs.assign.assign_member.Goals as goal
 

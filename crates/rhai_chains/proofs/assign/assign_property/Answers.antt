@@ -1,7 +1,7 @@
 use Rattle.rhai_machine.specs.language.Setting.{Rules}
 use Rattle.rhai_steps.specs.Sessions.{under}
 use Rattle.rhai_steps.specs.States.{state_of}
-use Rattle.rhai_chains.specs.Chains.{new_value}
+use Rattle.rhai_links.specs.Chains.{new_value}
 use Rattle.rhai_chains.proofs.AssignLemmas.{property_follows}
 use Rattle.rhai_chains.proofs.assign.assign_property.Goals as goal
 

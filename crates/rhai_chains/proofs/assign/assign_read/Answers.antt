@@ -2,7 +2,7 @@ use Rattle.std.proofs.Common.{refl}
 use Rattle.rhai_machine.specs.language.Setting.{Rules}
 use Rattle.rhai_steps.specs.Sessions.{under}
 use Rattle.rhai_steps.specs.States.{state_of}
-use Rattle.rhai_chains.specs.Chains.{new_value}
+use Rattle.rhai_links.specs.Chains.{new_value}
 use Rattle.rhai_chains.proofs.AssignLemmas.{part_follows, part_is_not}
 use Rattle.rhai_chains.proofs.assign.assign_read.Goals as goal
 

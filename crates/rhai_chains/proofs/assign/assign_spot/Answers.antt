@@ -4,7 +4,7 @@ use Rattle.rhai_machine.specs.language.Setting.{Rules}
 use Rattle.rhai_steps.specs.Sessions.{under}
 use Rattle.rhai_steps.specs.States.{state_of}
 use Rattle.rhai_steps.specs.OnFocus.{lending}
-use Rattle.rhai_chains.specs.Chains.{link_seen, new_value}
+use Rattle.rhai_links.specs.Chains.{link_seen, new_value}
 use Rattle.rhai_chains.proofs.AssignLemmas.{at_part, at_place}
 use Rattle.rhai_chains.proofs.SpotLemmas.{is_a_part, is_a_place}
 use Rattle.rhai_chains.proofs.assign.assign_spot.Goals as goal

@@ -4,7 +4,7 @@ use Rattle.rhai_machine.specs.language.Setting.{Rules}
 use Rattle.rhai_steps.specs.Sessions.{under}
 use Rattle.rhai_steps.specs.States.{state_of}
 use Rattle.rhai_steps.specs.OnFocus.{lending}
-use Rattle.rhai_chains.specs.Chains.{new_value}
+use Rattle.rhai_links.specs.Chains.{new_value}
 use Rattle.rhai_chains.proofs.AssignLemmas.{assigns, assigns_at_once}
 use Rattle.rhai_chains.proofs.assign.assign_to.Goals as goal
 

@@ -2,8 +2,8 @@ use Rattle.rhai_machine.specs.language.Setting.{Rules}
 use Rattle.rhai_steps.specs.Sessions.{under}
 use Rattle.rhai_steps.specs.States.{state_of}
 use Rattle.rhai_steps.specs.OnFocus.{lending}
-use Rattle.rhai_chains.specs.Chains.{new_value}
-use Rattle.rhai_chains.specs.Members.{access_of}
+use Rattle.rhai_links.specs.Chains.{new_value}
+use Rattle.rhai_links.specs.Access.{access_of}
 use Rattle.rhai_chains.proofs.SettingLemmas.{got_fails, got_follows}
 use Rattle.rhai_chains.proofs.assign.operate.Goals as goal
 

@@ -3,7 +3,7 @@ use Rattle.rhai_machine.specs.language.Setting.{Rules}
 use Rattle.rhai_steps.specs.Sessions.{under}
 use Rattle.rhai_steps.specs.States.{state_of}
 use Rattle.rhai_steps.specs.OnFocus.{lending}
-use Rattle.rhai_chains.specs.Members.{access_of}
+use Rattle.rhai_links.specs.Access.{access_of}
 use Rattle.rhai_chains.proofs.SettingLemmas.{item_operated, item_refused, property_operated}
 use Rattle.rhai_chains.proofs.assign.set_operated.Goals as goal
 

@@ -3,8 +3,8 @@ use Rattle.rhai_machine.specs.language.Setting.{Rules}
 use Rattle.rhai_steps.specs.Sessions.{under}
 use Rattle.rhai_steps.specs.States.{state_of}
 use Rattle.rhai_steps.specs.OnFocus.{lending}
-use Rattle.rhai_chains.specs.Chains.{chain_at, link_seen}
-use Rattle.rhai_chains.proofs.Descending.{taken_none, taken_there}
+use Rattle.rhai_links.specs.Chains.{chain_at, link_seen}
+use Rattle.rhai_links.proofs.Descending.{taken_none, taken_there}
 use Rattle.rhai_chains.proofs.ends.end_at.Goals as goal
 
 pub returns-in-Some-clause-runs : goal.returns-in-Some-clause-runs

@@ -4,9 +4,9 @@ use Rattle.rhai_machine.specs.language.Setting.{Rules}
 use Rattle.rhai_steps.specs.Sessions.{under}
 use Rattle.rhai_steps.specs.States.{state_of}
 use Rattle.rhai_steps.specs.OnFocus.{lending}
-use Rattle.rhai_chains.specs.Members.{access_of}
+use Rattle.rhai_links.specs.Access.{access_of}
 use Rattle.rhai_context.specs.Ends.{came_changed, error_in}
-use Rattle.rhai_chains.proofs.OnTemporaries.{comes_failed, comes_unchanged, no_way_back, set_there}
+use Rattle.rhai_links.proofs.OnTemporaries.{comes_failed, comes_unchanged, no_way_back, set_there}
 use Rattle.rhai_chains.proofs.temporaries.come_back.Goals as goal
 
 pub returns-in_default-clause-runs : goal.returns-in_default-clause-runs

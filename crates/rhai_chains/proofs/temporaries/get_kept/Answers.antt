@@ -3,8 +3,8 @@ use Rattle.rhai_machine.specs.language.Setting.{Rules}
 use Rattle.rhai_steps.specs.Sessions.{under}
 use Rattle.rhai_steps.specs.States.{state_of}
 use Rattle.rhai_steps.specs.OnFocus.{lending}
-use Rattle.rhai_chains.specs.Members.{access_of}
-use Rattle.rhai_chains.proofs.Inside.{fails_for_memory_alone}
+use Rattle.rhai_links.specs.Access.{access_of}
+use Rattle.rhai_links.proofs.Inside.{fails_for_memory_alone}
 use Rattle.rhai_chains.proofs.temporaries.get_kept.Goals as goal
 
 pub returns-in-Err-clause-fails : goal.returns-in-Err-clause-fails

@@ -2,8 +2,8 @@ use Rattle.rhai_machine.specs.language.Setting.{Rules}
 use Rattle.rhai_steps.specs.Sessions.{under}
 use Rattle.rhai_steps.specs.States.{state_of}
 use Rattle.rhai_steps.specs.OnFocus.{lending}
-use Rattle.rhai_chains.specs.Members.{access_of}
-use Rattle.rhai_chains.proofs.OnTemporaries.{set_ends, set_fails}
+use Rattle.rhai_links.specs.Access.{access_of}
+use Rattle.rhai_links.proofs.OnTemporaries.{set_ends, set_fails}
 use Rattle.rhai_chains.proofs.temporaries.set_back.Goals as goal
 
 pub returns-in-Ok-clause-runs : goal.returns-in-Ok-clause-runs

@@ -9,19 +9,19 @@ ghost use Rattle.rhai_steps.specs.Agreement.{KeepsSight};
 ghost use Rattle.rhai_steps.specs.States.{state_of};
 ghost use Rattle.rhai_steps.specs.OnFocus.{lending};
 ghost use Rattle.rhai_steps.specs.Follows.{Follows};
-ghost use Rattle.rhai_chains.specs.Chains.{chain_at};
-ghost use Rattle.rhai_chains.specs.Chains.{link_seen};
-ghost use Rattle.rhai_chains.specs.Walking.{entered_core, IsFree};
-ghost use Rattle.rhai_chains.specs.Walking.{LinkWalks};
+ghost use Rattle.rhai_links.specs.Chains.{chain_at};
+ghost use Rattle.rhai_links.specs.Chains.{link_seen};
+ghost use Rattle.rhai_links.specs.Walking.{entered_core, IsFree};
+ghost use Rattle.rhai_links.specs.Walking.{LinkWalks};
 
 use crate::evaluator::Evaluator;
 use rhai_chains::calls::asked_by;
-use rhai_chains::chain::NewValue;
-use rhai_chains::links::{Link, LinkForm};
-use rhai_chains::members::{Member, MemberAccess};
-use rhai_chains::ways::{is_indexed, is_map, item_access, key_for, step_in, step_out, was_handle};
 use rhai_context::Context;
 use rhai_errors::table::NativeTable;
+use rhai_links::access::{Member, MemberAccess};
+use rhai_links::chain::NewValue;
+use rhai_links::links::{Link, LinkForm};
+use rhai_links::ways::{is_indexed, is_map, item_access, key_for, step_in, step_out, was_handle};
 use rhai_tree::expr::Expr;
 use rhai_values::base::value::{Dynamic, Host};
 

@@ -12,19 +12,19 @@ ghost use Rattle.rhai_steps.specs.Agreement.{KeepsSight};
 ghost use Rattle.rhai_steps.specs.States.{state_of};
 ghost use Rattle.rhai_steps.specs.OnFocus.{lending};
 ghost use Rattle.rhai_steps.specs.Follows.{Follows};
-ghost use Rattle.rhai_chains.specs.Chains.{BehindWalks, chain_at, form_seen};
-ghost use Rattle.rhai_chains.specs.Chains.{link_seen, new_of};
-ghost use Rattle.rhai_chains.specs.Members.{access_of};
+ghost use Rattle.rhai_links.specs.Chains.{BehindWalks, chain_at, form_seen};
+ghost use Rattle.rhai_links.specs.Chains.{link_seen, new_of};
+ghost use Rattle.rhai_links.specs.Access.{access_of};
 
 use crate::evaluator::Evaluator;
-use rhai_chains::chain::NewValue;
 use rhai_chains::ends::end_member;
-use rhai_chains::links::Link;
-use rhai_chains::members::MemberAccess;
 use rhai_chains::temporaries::{come_back, get_kept, is_property};
-use rhai_chains::walker::Walker;
 use rhai_context::Context;
 use rhai_errors::table::NativeTable;
+use rhai_links::access::MemberAccess;
+use rhai_links::chain::NewValue;
+use rhai_links::links::Link;
+use rhai_links::walker::Walker;
 use rhai_tree::expr::Expr;
 use rhai_values::base::value::{Dynamic, Host};
 

@@ -9,15 +9,15 @@ ghost use Rattle.rhai_context.specs.Ends.{came_changed};
 ghost use Rattle.rhai_eval_core.specs.States.{under};
 ghost use Rattle.rhai_steps.specs.Agreement.{KeepsSight};
 ghost use Rattle.rhai_steps.specs.States.{state_of};
-ghost use Rattle.rhai_chains.specs.Chains.{BehindWalks, chain_at, form_seen};
-ghost use Rattle.rhai_chains.specs.Walking.{behind_value};
+ghost use Rattle.rhai_links.specs.Chains.{BehindWalks, chain_at, form_seen};
+ghost use Rattle.rhai_links.specs.Walking.{behind_value};
 
 use crate::evaluator::Evaluator;
-use rhai_chains::chain::NewValue;
-use rhai_chains::links::Link;
 use rhai_context::Context;
 use rhai_context::ends::take_value;
 use rhai_errors::table::NativeTable;
+use rhai_links::chain::NewValue;
+use rhai_links::links::Link;
 use rhai_tree::expr::Expr;
 use rhai_values::base::value::{Dynamic, Host};
 

@@ -4,7 +4,7 @@ use Rattle.rhai_machine.specs.language.Runs.{Goes}
 use Rattle.rhai_machine.specs.language.Setting.{Rules}
 use Rattle.rhai_steps.specs.Operations.{operation_of}
 use Rattle.rhai_steps.specs.Sessions.{under}
-use Rattle.rhai_calls.specs.Lending.{lent_call}
+use Rattle.rhai_steps.specs.Lending.{lent_call}
 use Rattle.rhai_calls.proofs.NativeCalls.{refuses_call}
 use Rattle.rhai_fast_calls.proofs.Steps.{asks_native, names_kept}
 use Rattle.rhai_fast_calls.proofs.at_once.call_entry.Goals as goal

@@ -9,7 +9,7 @@ use Rattle.rhai_eval.specs.States.{under}
 use Rattle.std.specs.Option.{option_copied}
 use Rattle.rhai_tree.specs.declared.expr.Expr.{out-Expr}
 use Rattle.rhai_machine.specs.language.Links.{first_in}
-use Rattle.rhai_chains.specs.Chains.{new_of}
+use Rattle.rhai_links.specs.Chains.{new_of}
 use Rattle.rhai_eval_steps.proofs.Chain.{on_done}
 use Rattle.rhai_eval_steps.specs.Chains.{AsksFirst, MayWalk, StartsFrom}
 use Rattle.std.specs.Prelude.{OnOk}

@@ -4,7 +4,7 @@ use Rattle.std.specs.String.{string_bytes}
 use Rattle.rhai_tree.specs.Frame.{all_resolve, resolves_stmt, turn_names}
 use Rattle.rhai_tree.specs.Keys.{key_of}
 use Rattle.rhai_tree.specs.Links.{left_by}
-use Rattle.rhai_chains.specs.declared.links.Link.{Link}
+use Rattle.rhai_links.specs.declared.links.Link.{Link}
 use Rattle.rhai_tree.specs.Layers.{ExprLayer}
 use Rattle.rhai_tree.specs.declared.expr.Expr.{out-Expr}
 use Rattle.rhai_values.specs.declared.base.value.Dynamic.{Dynamic}

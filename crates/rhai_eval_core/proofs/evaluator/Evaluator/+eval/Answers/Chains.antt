@@ -19,7 +19,7 @@ use Rattle.rhai_machine.specs.language.Runs.{Goes}
 use Rattle.rhai_steps.proofs.Agreeing.{brings, leads_then, same, stays, still}
 use Rattle.rhai_steps.proofs.Pieces.{charged, refused}
 use Rattle.rhai_operands.proofs.Names.{good_name}
-use Rattle.rhai_chains.specs.Chains.{chain_at, link_seen, new_of}
+use Rattle.rhai_links.specs.Chains.{chain_at, link_seen, new_of}
 use Rattle.rhai_context.specs.Ends.{error_in}
 use Rattle.rhai_eval_steps.specs.Agreement.{ChangesNames, KeepsNames, RestoresNames, SuitsNames}
 use Rattle.rhai_eval_steps.specs.Calls.{Collects}

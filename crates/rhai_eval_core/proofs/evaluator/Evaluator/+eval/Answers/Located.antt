@@ -6,14 +6,14 @@ use Rattle.rhai_eval_steps.specs.Agreement.{ChangesNames, KeepsNames, RestoresNa
 use Rattle.rhai_eval_core.specs.States.{under}
 use Rattle.rhai_steps.specs.States.{state_of}
 use Rattle.rhai_steps.specs.OnFocus.{lending}
-use Rattle.rhai_chains.specs.Chains.{chain_at, form_seen, link_seen}
-use Rattle.rhai_chains.proofs.Entering.{entered_handle, enters}
-use Rattle.rhai_chains.proofs.Inside.{entry_there, given_is, item_by_natives, item_inside}
-use Rattle.rhai_chains.proofs.Inside.{item_there, method_inside, named_inside, property_by_natives, first_runs_out}
-use Rattle.rhai_chains.proofs.Walked.{first_and_others, index_left, index_there, index_walks, named_behind, named_walks, others}
-use Rattle.rhai_chains.proofs.Walked.{method_behind, method_there, method_walks}
-use Rattle.rhai_chains.proofs.OnTemporaries.{focus_called, method_goes}
-use Rattle.rhai_chains.specs.Walking.{inside_core}
+use Rattle.rhai_links.specs.Chains.{chain_at, form_seen, link_seen}
+use Rattle.rhai_links.proofs.Entering.{entered_handle, enters}
+use Rattle.rhai_links.proofs.Inside.{entry_there, given_is, item_by_natives, item_inside}
+use Rattle.rhai_links.proofs.Inside.{item_there, method_inside, named_inside, property_by_natives, first_runs_out}
+use Rattle.rhai_links.proofs.Walked.{first_and_others, index_left, index_there, index_walks, named_behind, named_walks, others}
+use Rattle.rhai_links.proofs.Walked.{method_behind, method_there, method_walks}
+use Rattle.rhai_links.proofs.OnTemporaries.{focus_called, method_goes}
+use Rattle.rhai_links.specs.Walking.{inside_core}
 use Rattle.rhai_context.specs.Ends.{came_changed, error_in}
 use Rattle.rhai_eval_core.proofs.evaluator.Evaluator.+eval.Goals as goal
 

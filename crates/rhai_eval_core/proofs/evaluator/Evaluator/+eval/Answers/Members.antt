@@ -7,11 +7,11 @@ use Rattle.rhai_eval_core.specs.States.{under}
 use Rattle.rhai_steps.specs.States.{state_of}
 use Rattle.rhai_steps.specs.OnFocus.{lending}
 use Rattle.rhai_steps.specs.Follows.{Does}
-use Rattle.rhai_chains.specs.Chains.{chain_at, link_seen, new_of}
-use Rattle.rhai_chains.specs.Members.{access_of}
-use Rattle.rhai_chains.proofs.Inside.{member_ends, member_goes}
+use Rattle.rhai_links.specs.Chains.{chain_at, link_seen, new_of}
+use Rattle.rhai_links.specs.Access.{access_of}
+use Rattle.rhai_links.proofs.Inside.{member_ends, member_goes}
 use Rattle.rhai_tree.specs.Links.{left_by}
-use Rattle.rhai_chains.proofs.OnTemporaries.{got_fails, got_goes, goes_back}
+use Rattle.rhai_links.proofs.OnTemporaries.{got_fails, got_goes, goes_back}
 use Rattle.rhai_context.specs.Ends.{came_changed, error_in}
 use Rattle.rhai_eval_core.proofs.evaluator.Evaluator.+eval.Goals as goal
 

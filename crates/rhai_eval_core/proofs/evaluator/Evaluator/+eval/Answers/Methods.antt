@@ -4,10 +4,10 @@ use Rattle.rhai_tree.specs.declared.expr.Expr.{out-Expr}
 use Rattle.rhai_eval_steps.specs.Agreement.{ChangesNames, KeepsNames, RestoresNames, SuitsNames}
 use Rattle.rhai_eval_core.specs.States.{under}
 use Rattle.rhai_steps.specs.States.{state_of}
-use Rattle.rhai_chains.specs.Chains.{chain_at, link_seen}
+use Rattle.rhai_links.specs.Chains.{chain_at, link_seen}
 use Rattle.rhai_tree.specs.Links.{left_by}
-use Rattle.rhai_chains.proofs.OnTemporaries.{fails_behind, goes_behind, nothing_behind}
-use Rattle.rhai_chains.proofs.OnTemporaries.{on_temporary}
+use Rattle.rhai_links.proofs.OnTemporaries.{fails_behind, goes_behind, nothing_behind}
+use Rattle.rhai_links.proofs.OnTemporaries.{on_temporary}
 use Rattle.rhai_context.specs.Ends.{came_changed, error_in}
 use Rattle.rhai_eval_core.proofs.evaluator.Evaluator.+eval.Goals as goal
 

@@ -1,4 +1,4 @@
-use Rattle.rhai_steps.specs.Variables.{variable_told}
+use Rattle.rhai_names.specs.Variables.{variable_told}
 use Rattle.std.proofs.Common.{false, None, Some, refl, ap}
 use Rattle.rhai_tree.specs.declared.expr.Expr.{out-Expr}
 use Rattle.rhai_machine.specs.language.Runs.{at, Goes}
@@ -7,7 +7,7 @@ use Rattle.rhai_steps.specs.Offers.{globals_in}
 use Rattle.rhai_steps.specs.States.{state_of}
 use Rattle.rhai_state.specs.Scope.{names_in}
 use Rattle.rhai_steps.proofs.Agreeing.{stays}
-use Rattle.rhai_chains.specs.Chains.{chain_at}
+use Rattle.rhai_links.specs.Chains.{chain_at}
 use Rattle.rhai_steps.specs.OnFocus.{lending}
 use Rattle.rhai_context.specs.Ends.{came, came_changed, error_in}
 use Rattle.rhai_eval_steps.specs.Agreement.{ChangesNames, KeepsNames, RestoresNames, SuitsNames}

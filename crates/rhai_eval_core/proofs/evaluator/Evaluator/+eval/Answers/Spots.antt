@@ -13,15 +13,15 @@ use Rattle.rhai_eval_core.specs.States.{under}
 use Rattle.rhai_machine.specs.language.Values.{unit_value}
 use Rattle.rhai_steps.specs.States.{state_of}
 use Rattle.rhai_steps.specs.OnFocus.{lending}
-use Rattle.rhai_chains.specs.Chains.{chain_at, form_seen, link_seen, new_of}
-use Rattle.rhai_chains.specs.Spots.{way_through}
-use Rattle.rhai_chains.proofs.Inside.{spot_by, fails_for_memory_alone}
-use Rattle.rhai_chains.proofs.Descending.{found_missing, found_none, found_part, found_place, goes_down, part_goes, part_method}
-use Rattle.rhai_chains.proofs.LinkLemmas.{fewer_behind}
+use Rattle.rhai_links.specs.Chains.{chain_at, form_seen, link_seen, new_of}
+use Rattle.rhai_links.specs.Spots.{way_through}
+use Rattle.rhai_links.proofs.Inside.{spot_by, fails_for_memory_alone}
+use Rattle.rhai_links.proofs.Descending.{found_missing, found_none, found_part, found_place, goes_down, part_goes, part_method}
+use Rattle.rhai_links.proofs.LinkLemmas.{fewer_behind}
 use Rattle.rhai_tree.specs.Links.{left_by}
-use Rattle.rhai_chains.proofs.OnTemporaries.{called_on_part, goes_back, method_goes, on_temporary, back_runs_out, working}
+use Rattle.rhai_links.proofs.OnTemporaries.{called_on_part, goes_back, method_goes, on_temporary, back_runs_out, working}
 use Rattle.rhai_chains.proofs.PartCalls.{part_called}
-use Rattle.rhai_chains.proofs.Walked.{link_walks, method_behind, method_there, method_walks}
+use Rattle.rhai_links.proofs.Walked.{link_walks, method_behind, method_there, method_walks}
 use Rattle.rhai_context.specs.Ends.{came_changed, error_in}
 use Rattle.rhai_eval_core.proofs.evaluator.Evaluator.+eval.Goals as goal
 

@@ -5,10 +5,10 @@ use Rattle.rhai_eval_steps.specs.Agreement.{ChangesNames, KeepsNames, RestoresNa
 use Rattle.rhai_eval_core.specs.States.{under}
 use Rattle.rhai_steps.specs.States.{state_of}
 use Rattle.rhai_steps.specs.OnFocus.{lending}
-use Rattle.rhai_chains.specs.Chains.{chain_at, link_seen}
-use Rattle.rhai_chains.proofs.Beginning.{comes_on}
-use Rattle.rhai_chains.proofs.LinkLemmas.{fewer_behind, has_link}
-use Rattle.rhai_chains.proofs.Walked.{link_walks, may_end}
+use Rattle.rhai_links.specs.Chains.{chain_at, link_seen}
+use Rattle.rhai_links.proofs.Beginning.{comes_on}
+use Rattle.rhai_links.proofs.LinkLemmas.{fewer_behind, has_link}
+use Rattle.rhai_links.proofs.Walked.{link_walks, may_end}
 use Rattle.rhai_context.specs.Ends.{came_changed}
 use Rattle.rhai_eval_core.proofs.evaluator.Evaluator.+eval.Goals as goal
 

@@ -1,0 +1,4 @@
+pub mod Offering
+pub mod Rooted
+mod Tables
+pub mod Passing

@@ -1,0 +1,2 @@
+use Rattle.std.proofs.Common.{rules}
+use Rattle.rhai_names.proofs.variables.read_global.Goals as goal

@@ -1,4 +1,0 @@
-use Rattle.rhai_steps.proofs.variables.leave_list.Goals as goal
-
-pub returns-clause-scope : goal.returns-clause-scope
-returns-clause-scope g c = c.rewind.ensures

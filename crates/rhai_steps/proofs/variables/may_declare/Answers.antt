@@ -1,5 +1,0 @@
-use Rattle.std.proofs.Common.{rules}
-use Rattle.rhai_steps.proofs.variables.may_declare.Goals as goal
-
-pub returns : goal.returns
-returns g c = search rules
